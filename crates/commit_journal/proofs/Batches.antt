@@ -55,7 +55,7 @@ top_some : (durable below : ℕ) (es : List (law.Element TimedOp)) → 0 < lengt
 top_some durable below [] some = absurd (omega (arith, some))
 top_some durable below (e ∷ es) some = refl
 
--- what stands with a batch more has these numbers
+-- the content with one more batch has these numbers
 pub longer_kept : (gate last used : ℕ) (s : Content TimedOp) (first size : ℕ) (es : List Element) → ExtentMatches gate last used s → 0 < length es → 1 ≤ first
     → top (first - 1) s ≡ first - 1 → size ≡ 16 + sum_by element_encoded_len es
     → ExtentMatches (gate + 1 + size) (first - 1 + length es) (used + 17 * length es + (size - 16)) (with_elements s (first - 1) (timed_elements es))
@@ -69,7 +69,7 @@ longer_kept gate last used s first size es kept some number ends is =
       within = omega (arith, kept.within, is, some);
     }
 
--- the place below what stands, by its last number
+-- the number before the durable content, by its last number
 pub floor_here : (durable last gate used : ℕ) (s : Content TimedOp) → ExtentMatches gate last used s → 0 < last → floor durable s ≡ s.below
 floor_here durable last gate used s kept some = by_elements s.below s.elements (omega (arith, kept.last_is, some))
   where
@@ -84,7 +84,7 @@ floor_none durable last gate used s kept none = by_elements s.below s.elements (
     by_elements below [] more = refl
     by_elements below (e ∷ es) more = absurd (omega (arith, more))
 
--- changes that fit where their hives are, on hives that are there
+-- changes that fit stores with their hives, on hives of the store
 pub all_fit : (hives : ℕ) (es : List Element) → AllByRecursion FitsIfThere es → AllByRecursion (OnHives hives) es → AllByRecursion (Fits hives) es
 all_fit hives [] fit there = tt
 all_fit hives (e ∷ es) fit there = (fit.0.fits hives there.0, all_fit hives es fit.1 there.1)
@@ -121,7 +121,7 @@ module _ (hives : ℕ) (le : hives ≤ 256) where
   abbrev MadeOf : Store → ℕ → ℕ → List ℕ → List (law.Element TimedOp) → Type 0
   MadeOf store first count encoding elements = IsBody (encodings store) (body_bytes first count encoding) (record { first = first; elements = elements })
 
-  -- the text of a body of changes that fit is that body's
+  -- the bytes of a body of changes that fit are that body's
   pub body_is : (store : Store) → store.hives ≡ hives → (first : ℕ) (es : List Element) → AllByRecursion (Fits hives) es → first < 256 ^ 8 → 16 + sum_by element_encoded_len es ≤ 8388608
       → MadeOf store first (length es) (flat_map element_bytes es) (timed_elements es)
   body_is store same first es fit small short =

@@ -30,7 +30,7 @@ module _ (t : Encodings TimedOp) (now : Extent) (first : ℕ) (handed : List Ele
   count_is : length (timed_elements chosen) ≡ ready.count
   count_is = omega (arith, length-map chosen timed_element, length-take ready.count handed, ready.prefix.there)
 
-  -- what the law says of it
+  -- what the crash model says of it
   pub begins : (p : Phase) → p ≡ phase.AtRest → BeginsBatch first (timed_elements handed) (view_in_phase now p).choice (under_way (content_of now) (content_of ahead))
   begins p quiet = subst (λ (q : Phase). BeginsBatch first (timed_elements handed) (view_in_phase now q).choice (under_way (content_of now) (content_of ahead))) (sym quiet) (
     ready.count,
@@ -76,7 +76,7 @@ body_bytes_length first count encodings =
     let c = little_bytes 4 count in
     omega (arith, length-append (a ++ b ++ c) encodings, length-append (a ++ b) c, length-append a b, length-bytes_low_first 0 4 (16 + length encodings), length-bytes_low_first 0 8 first, length-bytes_low_first 0 4 count)
 
--- the body of the elements that were chosen, and what stands with it, are ready
+-- the body of the chosen elements, and the content with it, are ready
 pub ready_of : (store : Store) → store.hives ≤ 256 → (now : Extent) (first : ℕ) (handed : List Element) (count size : ℕ) (chunk bytes : List ℕ) (ahead : Extent) (xs : List Element)
     → chunk ≡ body_bytes first (length xs) (flat_map element_bytes xs) → AllByRecursion FitsIfThere xs → xs ≡ take count handed
     → first < 256 ^ 8 → 0 < count → IsLongestPrefix count handed → AllByRecursion (OnHives store.hives) handed → size ≡ body_len (take count handed)

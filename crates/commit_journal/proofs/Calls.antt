@@ -1,4 +1,4 @@
--- Each call of the device, from one phase to the next.
+-- Each device call, from one phase to the next.
 use Rattle.std.proofs.Common.{◌≡◌, ⊎_elim, ℕ, ◌+◌, ◌<◌, List, [], ◌∷◌, ◌++◌, length, refl, ap, subst, arith, Some}
 use Rattle.crash_model.specs.Promises.{Content, nothing}
 use Rattle.disk_model.specs.FileState.{FileState, Writes, MayWrite, Syncs}
@@ -47,7 +47,7 @@ module _ {Op : Type 0} (t : Encodings Op) (now then : Content Op) (gate ahead : 
   prefix_of : (on : At AtRest old) → PrefixEncodes t now gate (opened AtRest old on).prefix
   prefix_of on = (opened AtRest old on).on_device
 
-  -- where something stands, the first gate is open
+  -- if the journal has an element, the first gate is open
   first : (on : At AtRest old) → 0 < length now.elements → (rest : List ℕ) × ((opened AtRest old on).prefix ≡ t.header ++ 0xc3 ∷ rest)
   first on some = let s = prefix_of on in
       ⊎_elim (λ none. absurd (omega (arith, some, ap (λ (x : Content Op). length x.elements) none.0))) (λ one. one) (first_gate t now gate (opened AtRest old on).prefix s)

@@ -13,7 +13,7 @@ use Rattle.commit_journal.specs.Store.{Store, created_bytes, header_bytes, encod
 use Rattle.commit_journal.specs.OnDisk.{is_on, view_at, Phase.AtRest}
 use Rattle.commit_journal.proofs.Opening.{created}
 
--- a header is as long as where the first gate stands
+-- a header is as long as the offset of the first gate
 pub header_length : (store : Store) → length store.id ≡ 16 → length (header_bytes store) ≡ 64
 header_length store size =
     let zeros : List ℕ = replicate 36 0 in

@@ -1,4 +1,4 @@
--- An element at the front of bytes: what is read of it, and where nothing is.
+-- An element at the front of bytes: what is read of it, and when nothing is.
 use Rattle.std.proofs.Common.{◌≡◌, ℕ, ◌+◌, ◌-◌, ◌≤◌, List, [], ◌∷◌, ◌++◌, length, take, drop, refl, sym, ◌∙◌, ap, arith, append_assoc, length-append, length-take, take-append-drop, Some, None}
 use Rattle.std.proofs.lemmas.List.{take_at, append-nil, drop-take, take-take}
 use Rattle.std.proofs.lemmas.Option.{none-some}
@@ -23,7 +23,7 @@ no_bytes (b ∷ l) is = absurd (omega (arith, is))
 pub cut_front : (k n : ℕ) (l : List ℕ) → k ≤ n → drop k (take n l) ≡ take (n - k) (drop k l)
 cut_front k n l le = let e : n ≡ k + (n - k) = omega (arith, le) in ap (λ (m : ℕ). drop k (take m l)) e ∙ drop-take k (n - k) l
 
--- the length in front of a text
+-- the length in front of an encoding
 length_read : (hives : ℕ) (e : Element) (rest bytes : List ℕ) → Fits hives e → bytes ≡ element_bytes e ++ rest → little_number 4 bytes ≡ element_encoded_len e
 length_read hives e rest bytes fits is =
     let behind = little_bytes 8 e.moment ++ counted 4 op_bytes e.ops in
@@ -45,7 +45,7 @@ module _ (hives : ℕ) (le : hives ≤ 256) where
     pub element : Element
     pub read : element_at hives (take (little_number 4 bytes) bytes) ≡ Some (element, [])
 
-  -- where an element is read, its length stands before it, and it is read of so many bytes
+  -- if an element is read, its length is in front of it, and it is read of so many bytes
   pub begins : (bytes : List ℕ) (one : law.Element TimedOp × List ℕ) → timed_at hives bytes ≡ Some one → Begins bytes
   begins bytes one h = map_back (λ got. (timed_element got.0, got.1)) (element_at hives bytes) one h (λ got read made.
       let b = (element_law hives le).back bytes got.0 got.1 read in
@@ -60,7 +60,7 @@ module _ (hives : ℕ) (le : hives ≤ 256) where
         read = ap (element_at hives) prefix ∙ (element_law hives le).sized_element got.0 [] b.1;
       })
 
-  -- an element that was read of as many bytes as its length says is read so of more
+  -- an element that was read of as many bytes as its length says is also read of more bytes
   pub whole : (bytes : List ℕ) (len : ℕ) (e : Element) (rest : List ℕ) → little_number 4 bytes ≡ len → 16 ≤ len → len ≤ length bytes → element_at hives (take len bytes) ≡ Some (e, rest)
       → (rest ≡ []) × ((left : ℕ) → len ≤ left → timed_at hives (take left bytes) ≡ Some (timed_element e, take (left - len) (drop len bytes)))
   whole bytes len e rest is low there h =
@@ -84,7 +84,7 @@ module _ (hives : ℕ) (le : hives ≤ 256) where
       = ap (λ (l : List ℕ). take len l) b.0 ∙ take_at (element_bytes e) rest len (element_length e ∙ n) ∙ sym (append-nil (element_bytes e)) in
       (ap (element_at hives) prefix ∙ (element_law hives le).sized_element e [] b.1, n)
 
-  -- where bytes begin with no element, none is read of the first of them
+  -- if bytes begin with no element, none is read of the first of them
   pub none_front : (bytes : List ℕ) (len : ℕ) → element_at hives bytes ≡ None → element_at hives (take len bytes) ≡ None
   none_front bytes len none = never (element_at hives (take len bytes)) (λ one h.
       let b = (element_law hives le).back (take len bytes) one.0 one.1 h in

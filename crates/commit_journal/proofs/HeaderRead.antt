@@ -19,7 +19,7 @@ use Rattle.commit_journal.proofs.Created.{header_length}
 use Rattle.commit_journal.proofs.ElementsRead.{cut_front}
 use Rattle.commit_journal.proofs.Parts.{never}
 
--- the fields of a header, where bytes begin with it
+-- the fields of a header, if bytes begin with it
 pub id_there : (bytes : List ℕ) (store : Store) → IsStore store → take 64 bytes ≡ header_bytes store → store.id ≡ take 16 (drop 8 bytes)
 id_there bytes store is begin_batch =
     let behind = little_bytes 4 store.hives ++ replicate 36 0 in
@@ -46,7 +46,7 @@ pub no_other : (bytes : List ℕ) (id : List ℕ) (hives : ℕ) (header : List �
 no_other bytes id hives header id_is hives_is is differ store here begin_batch =
     differ (begin_batch ∙ ap header_bytes (same_store store (record { id = id; hives = hives }) (id_there bytes store here begin_batch ∙ sym id_is) (hives_there bytes store here begin_batch ∙ sym hives_is)) ∙ sym is)
 
--- what a journal spells stands behind its store's header
+-- what a journal decodes to is after its store's header
 header_there : (store : Store) → IsStore store → (file : List ℕ) (x : Content TimedOp) → decoded (encodings store) file ≡ Some x → take 64 file ≡ header_bytes store
 unfolding decoded
 header_there store is file x e =
@@ -74,7 +74,7 @@ none_for file store is begin_batch none other other_is = never (decoded (encodin
     let same : other ≡ store = same_store other store (id_there file other other_is there ∙ sym (id_there file store is begin_batch)) (hives_there file other other_is there ∙ sym (hives_there file store is begin_batch)) in
     none-some x (sym none ∙ ap (λ (s : Store). decoded (encodings s) file) (sym same) ∙ e))
 
--- behind the header the first gate comes
+-- after the header the first gate comes
 pub at_first : (file : List ℕ) (store : Store) → IsStore store → take 64 file ≡ header_bytes store → AtGate (encodings store) file nothing 64 (drop 64 file)
 at_first file store is begin_batch = record {
   prefix = header_bytes store;
@@ -82,7 +82,7 @@ at_first file store is begin_batch = record {
   on_device = empty_prefix (encodings store) (header_length store is.id_is_whole);
 }
 
--- a store whose journal spells something is the one whose header bytes begin with
+-- a store whose journal the bytes decode as is the one whose header they begin with
 pub only_one : (file : List ℕ) (a b : Store) (x : Content TimedOp) → IsStore a → IsStore b → decoded (encodings a) file ≡ Some x → take 64 file ≡ header_bytes b → a ≡ b
 only_one file a b x a_is b_is ax begin_batch =
     let first = header_there a a_is file x ax in

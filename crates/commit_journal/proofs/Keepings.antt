@@ -25,7 +25,7 @@ use Rattle.commit_journal.proofs.Numbers.{floor_some}
 use Rattle.commit_journal.specs.declared.ghost_log.GhostLog.{GhostLog, Nothing, Then', Same'}
 use Rattle.commit_journal.proofs.Namings.{drop_more, named, one_counted, unnamed}
 
--- the changes that were told, as the law sees them
+-- the logged changes, as the crash model sees them
 pub logged_are : (ghost_log : GhostLog) → logged_elements ghost_log ≡ timed_elements (logged_changes ghost_log)
 logged_are Nothing = refl
 logged_are (Then' shape before element) = ap (λ (l : List (law.Element TimedOp)). l ++ timed_element element.value ∷ []) (logged_are before) ∙ sym (map-append timed_element (logged_changes before) (element.value ∷ []))
@@ -103,7 +103,7 @@ module _ (numbers : List ℕ) (last : ℕ) (es kept : List Element) (below : ℕ
           let same_one : y ∷ ys ++ e ∷ [] ≡ x ∷ xs = ap (λ (l : List Element). l ++ e ∷ []) (sym some) ∙ is in
           subst (λ (z : Element). Lacks numbers (below + 1) z) (cc same_one) (k.keeps.first y ys some)
 
-  -- one more is let go
+  -- one more is dropped
   pub one_gone : kept ≡ [] → ((i : ℕ) → get_or numbers i 0 < last + 1 → names i e.ops ≡ false) → IsRetention numbers (last + 1) (es ++ e ∷ []) (last + 1) kept now
   one_gone none held_by = record {
     few = omega (arith, long, k.few);
@@ -134,7 +134,7 @@ lacks_one numbers number e (i, lt, is) = (i, lt, named i e.moment e.ops is)
 abbrev decoded_at : ℕ → List (law.Element TimedOp) → Content TimedOp
 decoded_at below es = record { below = below; elements = es }
 
--- a number behind what stands goes on with what was read
+-- a number after the durable content continues what was read
 pub follows_on : (now : Extent) (es : List Element) (last first : ℕ) → logged_elements now.ghost_log ≡ timed_elements es → last ≡ now.last → 1 ≤ first → top (first - 1) (content_of now) ≡ first - 1 → (es ≡ []) ⊎ (last + 1 ≡ first)
 follows_on now [] last first ghost_log same some ends = inl refl
 follows_on now (x ∷ xs) last first ghost_log same some ends =
@@ -172,12 +172,12 @@ pub no_changes : (l : List Element) → length l ≡ 0 → l ≡ []
 no_changes [] is = refl
 no_changes (x ∷ l) is = absurd (omega (arith, is))
 
--- each element has 16 bytes at least
+-- each element has at least 16 bytes
 pub least : (es : List Element) → 16 * length es ≤ sum_by element_encoded_len es
 least [] = omega arith
 least (e ∷ es) = let rest = least es in omega (arith, rest, sum_by-cons element_encoded_len e es)
 
--- the number below all that were read
+-- the number before all that were read
 pub base_is : (now : Extent) (es : List Element) (last below : ℕ) → logged_elements now.ghost_log ≡ timed_elements es → last ≡ now.last → last - length es ≤ below → below ≤ last - length es + length es → floor below (content_of now) ≡ last - length es
 base_is now [] last below ghost_log same low high = ap (λ (l : List (law.Element TimedOp)). floor below (decoded_at now.below l)) ghost_log ∙ omega (arith, low, high)
 base_is now (x ∷ xs) last below ghost_log same low high =

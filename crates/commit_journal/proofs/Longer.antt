@@ -11,7 +11,7 @@ use Rattle.commit_journal.specs.declared.journal.Phase.TheVariants.{AtRest, Body
 use Rattle.commit_journal.specs.declared.journal.Journal.{Journal}
 use Rattle.commit_journal.proofs.Progress.{few_steps}
 
--- nothing is on its way exactly where four steps are left
+-- nothing is under way exactly if four steps are left
 none_at_four : (now : Extent) (p : Phase) → steps_in (view_in_phase now p).phase ≡ 4 → (view_in_phase now p).choice.next ≡ None
 none_at_four now AtRest four = refl
 none_at_four now (BodyWritten batch) four = absurd (omega (arith, four))
@@ -28,7 +28,7 @@ four_at_none now (GateWritten batch) none = absurd (none-some _ (sym none))
 four_at_none now TrimWritten none = absurd (none-some _ (sym none))
 four_at_none now (Broken ahead) none = absurd (none-some _ (sym none))
 
--- so many elements stand, and more are on their way
+-- n elements are durable, and more are under way
 record Grows (n : ℕ) (c : Choice (Content TimedOp)) : Type 0 where
   now : length c.now.elements ≡ n
   then : Content TimedOp
@@ -38,7 +38,7 @@ record Grows (n : ℕ) (c : Choice (Content TimedOp)) : Type 0 where
 settled_is_quiet : (j : Journal) (x : Content TimedOp) → choice_of j ≡ settled x → steps_left j ≡ 4
 settled_is_quiet j x e = four_at_none j.on_device j.phase (ap (λ (c : Choice (Content TimedOp)). c.next) e)
 
--- no step that isn't refused comes behind one with which none was left
+-- no step that isn't refused follows one with which none was left
 dead : (old new : Journal) → IsStep old new → steps_left old ≡ 0 → ⊥
 dead old new step none = ⊎_elim (λ (falls : steps_left new + 1 ≡ steps_left old). absurd (omega (arith, falls, none))) (λ (on_device : BatchIsDurable old new). absurd (omega (arith, none, on_device.0))) step.nearer
 
@@ -52,7 +52,7 @@ last old new newer step next one = ⊎_elim (λ (e : steps_left new + 1 ≡ step
 quiet_after : (old new newer : Journal) → IsStep old new → IsStep new newer → steps_left old ≡ 1 → steps_left new ≡ 4
 quiet_after old new newer step next one = let on_device = last old new newer step next one in settled_is_quiet new on_device.1.0 on_device.1.2
 
--- a step where nothing is on its way begins a batch
+-- a step begins a batch if nothing is under way
 begun : (first : ℕ) (handed : List (law.Element TimedOp)) (old new : Choice (Content TimedOp)) → BeginsBatch first handed old new → Grows (length old.now.elements) new
 begun first handed old new (m, some, few, none, is) = record {
   now = ap (λ (c : Choice (Content TimedOp)). length c.now.elements) is;

@@ -53,19 +53,19 @@ named i moment (op ∷ ops) e none = by_case (eqb (hive_of op) i) (λ f n. named
     by_case true rest f none = omega (arith, ap length none)
     by_case false rest f none = rest f none
 
--- One change more
+-- One more change
 
 module _ (base : ℕ) (known : List (law.Element TimedOp)) (e : law.Element TimedOp) (i : ℕ) where
   one_of : on_hive i e ≡ [] → ops_on i (e ∷ []) ≡ []
   one_of none = ap (λ (os : List TimedOp). os ++ []) none
 
-  -- behind so many of the changes and one more
+  -- after some of the changes and one more
   pub drop_more : (k : ℕ) (xs : List (law.Element TimedOp)) → on_hive i e ≡ [] → ops_on i (drop k xs) ≡ [] → ops_on i (drop k (xs ++ e ∷ [])) ≡ []
   drop_more zero xs none before = ops_on-append i xs (e ∷ []) ∙ ap (λ (os : List TimedOp). os ++ ops_on i (e ∷ [])) before ∙ one_of none
   drop_more (suc k) [] none before = ap (ops_on i) (drop_nil {A = law.Element TimedOp} k)
   drop_more (suc k) (x ∷ xs) none before = drop_more k xs none before
 
-  -- what is there stays there
+  -- an operation that is there stays there
   drop_some : (k : ℕ) (xs : List (law.Element TimedOp)) → (ops_on i (drop k xs) ≡ [] → ⊥) → ops_on i (drop k (xs ++ e ∷ [])) ≡ [] → ⊥
   drop_some zero xs some none = some (first_nil (ops_on i xs) (ops_on i (e ∷ [])) (sym (ops_on-append i xs (e ∷ [])) ∙ none))
   drop_some (suc k) [] some none = some refl
@@ -110,7 +110,7 @@ none_named base hives i m is = record { none_after = ap (ops_on i) (drop_nil {A 
     zero_at (suc n) zero e = sym (same_Some 0 m e)
     zero_at (suc n) (suc j) e = zero_at n j e
 
--- One operation more of a change
+-- One more operation of a change
 
 same_test : (n : ℕ) → eqb n n ≡ true
 same_test n = grind (arith, nat_tests)
@@ -158,7 +158,7 @@ one_named xs ys i h number b lt is = by_test (eqb h i) refl
         get_other ys h i number (λ s. true≢false (sym (same_test h) ∙ ap (eqb h) (sym s) ∙ e)) ∙ is
         ∙ ap (λ c. option_map (λ m. cond c number m) (slice_get xs i)) (sym (or_no b))
 
--- the first so many changes, and the next
+-- the first k changes, and the next
 pub take_more : {A : Type 0} (k : ℕ) (xs : List A) (x : A) → slice_get xs k ≡ Some x → take (suc k) xs ≡ take k xs ++ x ∷ []
 take_more k [] x e = absurd (none-some x e)
 take_more zero (y ∷ ys) x e = ap (λ z. z ∷ []) (same_Some y x e)
@@ -173,7 +173,7 @@ slice_get_past [] i past = refl
 slice_get_past (y ∷ ys) zero past = absurd (omega (arith, past))
 slice_get_past (y ∷ ys) (suc i) past = slice_get_past ys i (omega (arith, past))
 
--- where the operation is on a hive that isn't there
+-- if the operation is on a hive that isn't in the list
 pub named_past : (xs ys : List ℕ) (i h number : ℕ) (b : Bool) → length ys ≤ h → slice_get ys i ≡ option_map (λ m. cond b number m) (slice_get xs i) → slice_get ys i ≡ option_map (λ m. cond (b || eqb h i) number m) (slice_get xs i)
 named_past xs ys i h number b past is = by_test (eqb h i) refl
   where
@@ -219,7 +219,7 @@ pub all_named : (was : List ℕ) (number : ℕ) (ops : List Op) (is : List ℕ) 
 all_named was number ops is (prefix, are, named, many) i =
     named i ∙ ap (λ b. option_map (λ m. cond b number m) (slice_get was i)) (sym (names_among i ops ∙ ap (among i) (are ∙ append-nil prefix)))
 
--- Of a change's hives these are left, and each of the others holds the change of this number, by its own.
+-- Of a change's hives these are left, and each of the others has the change of this number, by its own number.
 abbrev pub HaveHeld : List ℕ → ℕ → List ℕ → List ℕ → Type 0
 HaveHeld numbers number hives left = (prefix : List ℕ) × (hives ≡ prefix ++ left) × ((i : ℕ) → get_or numbers i 0 < number → among i prefix ≡ false)
 

@@ -1,4 +1,4 @@
--- A body more goes on from the last number, and what its text is.
+-- One more body continues from the last number, and its bytes.
 use Rattle.std.proofs.Common.{◌≡◌, ◌⊎◌, inl, inr, ℕ, ◌+◌, ◌-◌, ◌≤◌, Bool, true, false, List, [], ◌∷◌, ◌++◌, length, refl, sym, ◌∙◌, ap, arith, append_assoc, length-append, Some, None, Option}
 use Rattle.std.specs.Prelude.{if◌then◌else◌, ◌==◌, nat_le}
 use Rattle.std.proofs.lemmas.List.{append-nil}
@@ -31,7 +31,7 @@ module _ {Op : Type 0} where
   floor_some durable below [] some = absurd (omega arith)
   floor_some durable below (e ∷ es) some = refl
 
-  -- numbers of a body more
+  -- numbers of one more body
   numbered_push : (most : ℕ) (c : Body Op) (bs : List (Body Op)) (b : Body Op) → are_numbered most c bs ≡ true → b.first ≡ c.first + length (elements_of (c ∷ bs)) → 1 ≤ length b.elements
       → b.first + length b.elements ≤ most + 1 → are_numbered most c (bs ++ b ∷ []) ≡ true
   numbered_push most c bs b numbered is some room =
@@ -69,7 +69,7 @@ module _ {Op : Type 0} where
       ∙ same_decoded (c.first - 1) (floor_of durable (c.first - 1) (elements_of (c ∷ bs))) (elements_of (c ∷ bs ++ b ∷ [])) (elements_of (c ∷ bs) ++ b.elements) (sym low) (elements_push (c ∷ bs) b)
       ∙ ap (λ (s : Content Op). Some (record { below = floor durable s; elements = s.elements ++ b.elements })) p.1
 
-  -- what stands, with a body more
+  -- the prefix with one more body
   pub prefix_push : (t : Encodings Op) (now : Content Op) (used durable : ℕ) (prefix chunk : List ℕ) (b : Body Op) → PrefixEncodes t now used prefix → IsBody t chunk b → top durable now ≡ durable → b.first ≡ durable + 1
       → 1 ≤ length b.elements → durable + length b.elements ≤ t.most
       → PrefixEncodes t (record { below = floor durable now; elements = now.elements ++ b.elements }) (used + 1 + length chunk) (prefix ++ 0xc3 ∷ chunk)
@@ -83,11 +83,11 @@ module _ {Op : Type 0} where
     size = omega (arith, on_device.size, length-append prefix (0xc3 ∷ chunk));
   }
 
-  -- a header with no body spells nothing
+  -- a header without a body decodes to no element
   pub empty_prefix : (t : Encodings Op) → length t.header ≡ 64 → PrefixEncodes t nothing 64 t.header
   empty_prefix t head = record { head = head; bodies = []; chain = []; is = sym (append-nil t.header); gated = refl; numbered = refl; size = sym head }
 
-  -- what spells nothing is the header alone, and else its first gate is open
+  -- a prefix that decodes to no element is the header alone, and else its first gate is open
   by_bodies : (t : Encodings Op) (prefix chain : List ℕ) (bodies : List (Body Op)) (now : Content Op) → prefix ≡ t.header ++ chain → AreGated t chain bodies → content_of_bodies t.most bodies ≡ Some now
       → ((now ≡ nothing) × (prefix ≡ t.header)) ⊎ ((rest : List ℕ) × (prefix ≡ t.header ++ 0xc3 ∷ rest))
   by_bodies t prefix chain [] now is gated numbered = inl (sym (same_Some nothing now numbered), is ∙ ap (λ (l : List ℕ). t.header ++ l) gated ∙ append-nil t.header)

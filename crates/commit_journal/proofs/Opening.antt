@@ -1,4 +1,5 @@
--- What the decoder takes is what the grammar says: so a file that is at rest, and spells something, is that of a quiet journal.
+-- The decoder takes what the grammar says: so a file that is at rest, and decodes to some content, is that of a journal
+-- at rest.
 use Rattle.std.proofs.Common.{◌≡◌, ◌≢◌, ℕ, zero, suc, ◌≤◌, Bool, true, false, List, [], ◌∷◌, ◌++◌, length, take, drop, refl, sym, ◌∙◌, ap, subst, arith, append_assoc, length-append, length-take, take-append-drop, Some, None, Option}
 use Rattle.std.specs.Prelude.{if◌then◌else◌, ◌==◌, nat_le, nat_eq, option_map}
 use Rattle.std.specs.Option.{option_and_then}
@@ -101,14 +102,14 @@ module _ {Op : Type 0} (t : Encodings Op) where
           record { head = head; bodies = bodies; chain = b.0; is = refl; gated = b.5; numbered = numbered; size = refl },
         ))
 
-    -- what an opening may rest on
+    -- what an opening may rely on
     pub found : (c : List ℕ) (s any : Content Op) → decoded t c ≡ Some s → (gate : ℕ) × ((ahead : ℕ) → is_on t (view_at s any gate ahead AtRest) (at_rest c))
     unfolding is_on
     found c s any e =
         let b = decoded_back c s e in
         (length b.0, λ ahead. record { prefix = b.0; closed = b.1; tail = b.2; none = refl; on_device = b.5; shut = b.4; is = ap at_rest b.3 })
 
-    -- a header and a gate that isn't open are a journal that spells nothing
+    -- a header and a gate that isn't open are a journal that decodes to no element
     pub created : (closed ahead : ℕ) (tail : List ℕ) (any : Content Op) → closed ≢ 0xc3 → is_on t (view_at nothing any 64 ahead AtRest) (at_rest (t.header ++ closed ∷ tail))
     unfolding is_on
     created closed ahead tail any shut = record { prefix = t.header; closed = closed; tail = tail; none = refl; on_device = empty_prefix t head; shut = shut; is = refl }

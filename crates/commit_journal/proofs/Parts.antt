@@ -1,4 +1,4 @@
--- Bodies behind what stands, read from left to right.
+-- Bodies after the durable content, read from left to right.
 use Rattle.std.proofs.Common.{◌≡◌, ◌≢◌, ℕ, zero, suc, ◌+◌, ◌-◌, ◌<◌, ◌≤◌, Bool, true, false, List, [], ◌∷◌, ◌++◌, length, take, drop, refl, sym, ◌∙◌, ap, subst, arith, append_assoc, length-append, length-take, length-drop, Some, None, Option}
 use Rattle.std.specs.Prelude.{if◌then◌else◌, ◌==◌, nat_le, nat_eq, option_map}
 use Rattle.std.specs.List.{starts_with}
@@ -52,7 +52,7 @@ module _ {Op : Type 0} where
       let r = follow_back (next + length c.elements) bs b more q.1 in
       (omega (arith, r.0, length-append c.elements (elements_of bs)), r.1)
 
-  -- a body that stands among others behind bodies goes on from what they spell
+  -- a body among others after bodies continues from what they decode to
   pub continues : (most : ℕ) (bs : List (Body Op)) (b : Body Op) (more : List (Body Op)) (now x : Content Op) → content_of_bodies most bs ≡ Some now → content_of_bodies most (bs ++ b ∷ more) ≡ Some x → BodyMayFollow most now b.first (length b.elements)
   continues most [] b more now x is all =
       let none : nothing ≡ now = same_Some nothing now is in
@@ -99,7 +99,7 @@ module _ {Op : Type 0} (t : Encodings Op) where
       ∙ ap (λ (o : Option (List (Body Op))). option_map (λ tail. b ∷ tail) o) (gates_on n k gated.1 rest bs gated.4 (omega (arith, e)))
       ∙ map_more b bs (read_gates t k rest)
 
-  -- what is spelled where something stands: that, with the bodies that are read behind it
+  -- what is decoded after a prefix: its content, with the bodies that are read after it
   decoded_on : (now : Content Op) (at : ℕ) (prefix rest : List ℕ) (s : PrefixEncodes t now at prefix)
       → (n : ℕ) × (length rest < n) × (decoded t (prefix ++ rest) ≡ option_and_then (λ more. content_of_bodies t.most (s.bodies ++ more)) (read_gates t n rest))
   unfolding decoded
@@ -122,13 +122,13 @@ module _ {Op : Type 0} (t : Encodings Op) where
   gates_none zero = refl
   gates_none (suc n) = refl
 
-  -- a file that ends where a gate is to be spells nothing
+  -- a file that ends where a gate is to be decodes to nothing
   pub no_gate : (file : List ℕ) (now : Content Op) (at : ℕ) → AtGate t file now at [] → decoded t file ≡ None
   no_gate file now at here =
       let p = decoded_on now at here.prefix [] here.on_device in
       ap (decoded t) here.is ∙ p.2 ∙ ap (λ (o : Option (List (Body Op))). option_and_then (λ more. content_of_bodies t.most (here.on_device.bodies ++ more)) o) (gates_none p.0)
 
-  -- what is spelled begins, behind an open gate, with a body that goes on from what stands
+  -- what is decoded begins, after an open gate, with a body that continues the durable content
   abbrev Opens : Content Op → List ℕ → Type 0
   Opens now bytes = (b : Body Op) × (rest : List ℕ) × (read_body t bytes ≡ Some (b, rest)) × BodyMayFollow t.most now b.first (length b.elements)
 
@@ -146,7 +146,7 @@ module _ {Op : Type 0} (t : Encodings Op) where
       let p = decoded_on now at here.prefix (0xc3 ∷ bytes) here.on_device in
       opens_by p.0 now x bytes here.on_device.bodies here.on_device.numbered p.1 (sym p.2 ∙ ap (decoded t) (sym here.is) ∙ e)
 
-  -- at a gate that isn't open all is found
+  -- all is found at a gate that isn't open
   pub found_at : (file : List ℕ) (now : Content Op) (at gate : ℕ) (tail : List ℕ) → AtGate t file now at (gate ∷ tail) → gate ≢ 0xc3
       → (decoded t file ≡ Some now) × ((any : Content Op) (ahead : ℕ) → is_on t (view_at now any at ahead AtRest) (at_rest file))
   unfolding is_on
@@ -168,7 +168,7 @@ module _ {Op : Type 0} (t : Encodings Op) where
       by_test true = refl
       by_test false = refl
 
-  -- a body behind its head, none of whose elements is read
+  -- a body after its head, none of whose elements is read
   pub body_begins : (bytes : List ℕ) (len first count : ℕ) → len ≡ little_number 4 bytes → first ≡ little_number 8 (drop 4 bytes) → count ≡ little_number 4 (drop 12 bytes) → 16 ≤ len → len ≤ 8388608 → len ≤ length bytes
       → read_body t bytes ≡ rest_of_body t first [] (len - 16) count (drop 16 bytes)
   body_begins bytes len first count len_is first_is count_is low high there =
@@ -192,7 +192,7 @@ module _ {Op : Type 0} (t : Encodings Op) where
       map_back (λ more. (one.0 ∷ more.0, more.1)) (read_elements t.read n one.1) got others (λ more rest made.
       ap (λ (g : List (Element Op) × List ℕ). length g.0) (sym made) ∙ ap suc (read_count n one.1 more rest)))
 
-  -- what the head of a body says, that goes on from what stands
+  -- what the head of a body says that continues the durable content
   pub record HeadSays (now : Content Op) (bytes : List ℕ) (len first count : ℕ) : Type 0 where
     pub low : 16 ≤ len
     pub high : len ≤ 8388608
@@ -223,7 +223,7 @@ module _ {Op : Type 0} (t : Encodings Op) where
   one_more first es e behind (Some got) =
       ap (λ (l : List (Element Op)). if length got.1 == 0 then Some (record { first = first; elements = l }, behind) else None) (sym (append_assoc es (e ∷ []) got.0))
 
-  -- one element more is read of it
+  -- one more element of it is read
   pub body_goes_on : (first : ℕ) (es : List (Element Op)) (e : Element Op) (left count more len : ℕ) (rest : List ℕ) → count ≡ suc more → len ≤ left → t.read (take left rest) ≡ Some (e, take (left - len) (drop len rest))
       → rest_of_body t first es left count rest ≡ rest_of_body t first (es ++ e ∷ []) (left - len) more (drop len rest)
   body_goes_on first es e left count more len rest is le reads =
@@ -271,7 +271,7 @@ module _ {Op : Type 0} (t : Encodings Op) where
       length_is = omega (arith, length-drop len rest, here.there, here.length_is, le);
     }
 
-  -- all of the body is read: more stands
+  -- all of the body is read: its elements are added
   pub body_done : (file : List ℕ) (now : Content Op) (at size first : ℕ) (es : List (Element Op)) (rest : List ℕ) → InBody t file now at size first es 0 0 rest → BodyMayFollow t.most now first (length es)
       → AtGate t file (with_elements now (first - 1) es) (at + 1 + size) rest
   body_done file now at size first es rest here goes =
@@ -285,7 +285,7 @@ module _ {Op : Type 0} (t : Encodings Op) where
         on_device = subst (λ (n : ℕ). PrefixEncodes t (with_elements now (first - 1) es) n (here.gate.prefix ++ 0xc3 ∷ chunk)) (omega (arith, long)) on_device;
       }
 
-  -- a file that is too short for a gate, or for a head, spells nothing
+  -- a file that is too short for a gate, or for a head, decodes to nothing
   pub short_gate : (file : List ℕ) (now : Content Op) (at : ℕ) (rest : List ℕ) → AtGate t file now at rest → length rest < 1 → decoded t file ≡ None
   short_gate file now at [] here few = no_gate file now at here
   short_gate file now at (b ∷ rest) here few = absurd (omega (arith, few))

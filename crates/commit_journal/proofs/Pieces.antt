@@ -1,4 +1,4 @@
--- A piece of a file, behind what was read of it.
+-- A part of a file, after what was read of it.
 use Rattle.std.proofs.Common.{◌≡◌, inl, inr, ⊎_elim, ℕ, ◌+◌, ◌≤◌, List, ◌++◌, length, take, drop, sym, ◌∙◌, ap, append_assoc, take-append-drop}
 use Rattle.refusals.specs.Answers.{RefusedFor}
 use Rattle.refusals.specs.declared.refusal.Refusal.{Refusal}

@@ -22,7 +22,7 @@ few_steps phase.Phase.GateWritten = omega arith
 few_steps phase.Phase.TrimWritten = omega arith
 few_steps phase.Phase.Broken = omega arith
 
--- so many steps are left, and so many of the eight
+-- at most n steps are left, and as many of the eight
 prefix_from : (journals : ℕ → Journal) (n k : ℕ) → ((k : ℕ) → k < 8 → DurableWithin k journals ⊎ MakesProgress (journals k) (journals (k + 1)))
     → steps_left (journals k) ≤ n → k + n < 8 → DurableWithin 8 journals
 prefix_from journals zero k nearer left room = ⊎_elim
@@ -42,15 +42,15 @@ eight journals nearer = prefix_from journals 5 0 nearer (few_steps _) (omega ari
 pub whole : (now : Extent) (p q : Phase) (n : ℕ) → p ≡ q → steps_in (view_in_phase now p).phase ≡ suc n → ¬ ((view_in_phase now q).phase ≡ phase.Phase.Broken)
 whole now p q n same left broken = absurd (omega (arith, left, ap (λ (r : Phase). steps_in (view_in_phase now r).phase) same, ap steps_in broken))
 
--- a phase in which no trim is on its way
+-- a phase in which no trim is under way
 pub no_trim : (now : Extent) (p q : Phase) (n : ℕ) → p ≡ q → steps_in (view_in_phase now p).phase ≡ n → n < 5 → ¬ ((view_in_phase now q).phase ≡ phase.Phase.TrimWritten)
 no_trim now p q n same left few trims = absurd (omega (arith, left, few, ap (λ (r : Phase). steps_in (view_in_phase now r).phase) same, ap steps_in trims))
 
--- what comes only by this call, where it wasn't there before
+-- what comes only by this call, if it wasn't there before
 pub only_now : {A B C : Type 0} → ¬ B → A ↔ C → A ↔ (B ⊎ C)
 only_now not_before now = (λ a. inr (now.0 a), λ either. ⊎_elim (λ b. absurd (not_before b)) now.1 either)
 
--- where something is on its way, a step neither lacks memory nor is idle
+-- if something is under way, a step neither lacks memory nor is idle
 no_want : (old new : Choice (Content TimedOp)) → Says (JournalSays 0 []) (Err refusal.NoMemory) old new → old.next ≡ None
 no_want old new says = says.0
 

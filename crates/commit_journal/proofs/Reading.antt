@@ -1,4 +1,4 @@
--- What bytes spell: the decoder reads what the grammar says.
+-- What bytes decode to: the decoder reads what the grammar says.
 use Rattle.std.proofs.Common.{◌≡◌, ◌≢◌, ℕ, zero, suc, ◌<◌, ◌≤◌, Bool, true, false, List, [], ◌∷◌, ◌++◌, length, drop, refl, sym, ◌∙◌, ap, arith, append_assoc, length-append, Some, Option}
 use Rattle.std.specs.Prelude.{if◌then◌else◌, ◌==◌, nat_eq, option_map}
 use Rattle.std.specs.List.{starts_with}
@@ -16,7 +16,7 @@ choose b x y e = ap (λ (c : Bool). if c then x else y) e
 pub chosen : {A : Type 0} (b : Bool) (x y : A) → b ≡ true → (if b then x else y) ≡ x
 chosen b x y e = ap (λ (c : Bool). if c then x else y) e
 
--- bytes that begin with a header, and what is behind it
+-- bytes that begin with a header, and what is after it
 pub begins : (header rest : List ℕ) → starts_with nat_eq (header ++ rest) header ≡ true
 begins header rest = (starts_is Decides-eqb (header ++ rest) header (starts_with nat_eq (header ++ rest) header) refl).1 rest refl
 
@@ -36,7 +36,7 @@ module _ {Op : Type 0} (t : Encodings Op) where
   fewer bytes (b ∷ bs) gated =
       omega (arith, ap (λ (l : List ℕ). length l) gated.2, length-append gated.0 gated.1, fewer gated.1 bs gated.4)
 
-  -- gated bodies are read up to a gate that isn't open, whatever is behind it
+  -- gated bodies are read up to a gate that isn't open, whatever is after it
   pub reads : (n : ℕ) (prefix tail : List ℕ) (gate : ℕ) (bs : List (Body Op)) → AreGated t prefix bs → gate ≢ 0xc3 → length bs < n
       → read_gates t n (prefix ++ gate ∷ tail) ≡ Some bs
   reads zero prefix tail gate bs gated shut below = absurd (omega arith)
@@ -48,7 +48,7 @@ module _ {Op : Type 0} (t : Encodings Op) where
       ∙ ap (λ (l : List ℕ). read_gates t (suc n) (0xc3 ∷ l)) (append_assoc gated.0 gated.1 (gate ∷ tail))
       ∙ one_gate n gated.0 (gated.1 ++ gate ∷ tail) b bs gated.3 more
 
-  -- a body more
+  -- one more body
   pub gated_push : (prefix chunk : List ℕ) (bs : List (Body Op)) (b : Body Op) → AreGated t prefix bs → IsBody t chunk b → AreGated t (prefix ++ 0xc3 ∷ chunk) (bs ++ b ∷ [])
   gated_push prefix chunk [] b is body = (chunk, [], ap (λ (l : List ℕ). l ++ 0xc3 ∷ chunk) is ∙ ap (λ (l : List ℕ). 0xc3 ∷ l) (sym (append-nil chunk)), body, refl)
   gated_push prefix chunk (c ∷ bs) b gated body = (
@@ -59,7 +59,7 @@ module _ {Op : Type 0} (t : Encodings Op) where
     gated_push gated.1 chunk bs b gated.4 body,
   )
 
-  -- what stands is spelled, whatever is behind the gate that isn't open
+  -- the durable content is decoded, whatever is after the gate that isn't open
   pub extent_decodes : (now : Content Op) (used : ℕ) (prefix tail : List ℕ) (gate : ℕ) → PrefixEncodes t now used prefix → gate ≢ 0xc3 → decoded t (prefix ++ gate ∷ tail) ≡ Some now
   unfolding decoded
   extent_decodes now used prefix tail gate on_device shut =

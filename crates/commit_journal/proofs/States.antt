@@ -1,4 +1,4 @@
--- What a crash leaves in each phase, and how each call of the device leads from one phase to the next.
+-- What a crash leaves in each phase, and how each device call leads from one phase to the next.
 use Rattle.std.proofs.Common.{◌≡◌, ◌≢◌, inl, inr, ⊎_elim, ℕ, ◌+◌, List, [], ◌∷◌, ◌++◌, length, get_or, drop, refl, sym, ◌∙◌, ap, subst, arith, append_assoc, Some}
 use Rattle.std.proofs.lemmas.Option.{same_Some}
 use Rattle.std.proofs.lemmas.Bool.{cases_eq}
@@ -21,18 +21,18 @@ module _ {Op : Type 0} (t : Encodings Op) where
   moved : (c bytes : List ℕ) (s : Content Op) → c ≡ bytes → decoded t bytes ≡ Some s → decoded t c ≡ Some s
   moved c bytes s is decodes = ap (decoded t) is ∙ decodes
 
-  -- a file at rest that spells what stands
+  -- a file at rest that decodes to the durable content
   rest_on : (choice : Choice (Content Op)) (bytes : List ℕ) (state : FileState) → state ≡ at_rest bytes → decoded t bytes ≡ Some choice.now → On choice state
   rest_on choice bytes state is decodes c left =
       (choice.now, inl refl, moved c bytes choice.now (left_at_rest bytes c (subst (λ (s : FileState). Leaves s c) is left)) decodes)
 
-  -- a write behind the gate
+  -- a write after the gate
   behind_on : (choice : Choice (Content Op)) (gate : ℕ) (prefix tail bytes seen : List ℕ) (closed : ℕ) → PrefixEncodes t choice.now gate prefix → closed ≢ 0xc3
       → On choice (after_write (at_rest (prefix ++ closed ∷ tail)) (gate + 1) bytes seen)
   behind_on choice gate prefix tail bytes seen closed on_device shut c left =
       (choice.now, inl refl, moved c _ choice.now (left_behind prefix tail closed gate on_device.size bytes seen c left) (extent_decodes t choice.now gate prefix (drop (gate + 1) c) closed on_device shut))
 
-  -- a write at a gate: what is spelled with it open, and with it closed
+  -- a write at a gate: what is decoded with it open, and with it closed
   gate_on : (choice : Choice (Content Op)) (n : ℕ) (prefix tail seen : List ℕ) (before byte : ℕ) → n ≡ length prefix
       → ((s : Content Op) × law.Leaves choice s × (decoded t (prefix ++ 0xc3 ∷ tail) ≡ Some s))
       → ((gate : ℕ) → gate ≢ 0xc3 → (s : Content Op) × law.Leaves choice s × (decoded t (prefix ++ gate ∷ tail) ≡ Some s))
@@ -62,7 +62,7 @@ module _ {Op : Type 0} (t : Encodings Op) where
   at_state : (choice : Choice (Content Op)) (a b : FileState) → a ≡ b → On choice b → On choice a
   at_state choice a b is on = subst (On choice) (sym is) on
 
-  -- The law: in each phase, whatever a crash leaves spells what stands or what is on its way.
+  -- The law: in each phase, whatever a crash leaves decodes to the durable content or to what is under way.
   on_leaves_in : (phase : Phase) (choice : Choice (Content Op)) (gate ahead : ℕ) (state : FileState) → in_phase phase t choice gate ahead state → On choice state
   on_leaves_in AtRest choice gate ahead state on = rest_on choice (on.prefix ++ on.closed ∷ on.tail) state on.is (extent_decodes t choice.now gate on.prefix on.tail on.closed on.on_device on.shut)
   on_leaves_in BodyWritten choice gate ahead state on = at_state choice state _ on.is (behind_on choice gate on.batch.prefix on.tail _ _ on.batch.closed on.batch.on_device on.batch.shut)
@@ -97,7 +97,7 @@ module _ {Op : Type 0} (t : Encodings Op) where
   broken_same : (choice : Choice (Content Op)) (gate ahead : ℕ) (then : Content Op) (old new : FileState) → choice.next ≡ Some then → On choice old → new ≡ old → IsBroken t choice gate ahead new
   broken_same choice gate ahead then old new next on same = record { then = then; next = next; on = at_state choice new old same on }
 
-  -- a batch begins: the body and the next gate are written behind the gate that isn't open
+  -- a batch begins: the body and the next gate are written after the gate that isn't open
   module _ (v : JournalView Op) (durable : ℕ) (chunk : List ℕ) (b : Body Op) (old new : FileState) (quiet : IsAtRest t v.choice v.gate v.ahead old) (may : MayBegin t v.choice.now durable chunk b) where
     abbrev w : JournalView Op
     w = begun v durable chunk b
@@ -147,7 +147,7 @@ module _ {Op : Type 0} (t : Encodings Op) where
     gate_failed on failed = broken_by v.choice v.gate v.ahead on.batch.then v.gate (0xc3 ∷ []) (at_rest (staged on.batch.prefix on.batch.closed on.batch.chunk on.tail)) new on.batch.next
         (open_on v.choice v.gate v.ahead on.batch on.tail []) (may_at _ _ _ old new on.is failed)
 
-    -- and synced: the batch stands
+    -- and synced: the batch is durable
     pub gate_synced : (then : Content Op) → v.choice.next ≡ Some then → IsGateWritten t v.choice v.gate v.ahead old → Syncs old new → is_on t (ended then v) new
     unfolding is_on
     gate_synced then next on syncs =
@@ -162,12 +162,12 @@ module _ {Op : Type 0} (t : Encodings Op) where
           is = synced _ _ _ _ old new on.is syncs ∙ ap at_rest (sym (append_assoc on.batch.prefix (0xc3 ∷ on.batch.chunk) (0 ∷ on.tail)));
         }
 
-    -- a sync that failed, in any phase in which something is on its way
+    -- a sync that failed, in any phase in which something is under way
     pub sync_failed : (then : Content Op) → v.choice.next ≡ Some then → is_on t v old → new ≡ old → is_on t (with_phase Broken v) new
     unfolding is_on
     sync_failed then next on same = broken_same v.choice v.gate v.ahead then old new next (on_leaves v old on) same
 
-  -- a trim begins at a quiet journal whose first gate is open
+  -- a trim begins at a journal at rest whose first gate is open
   module _ (v : JournalView Op) (old new : FileState) (quiet : IsAtRest t v.choice v.gate v.ahead old) (rest : List ℕ) (opened : quiet.prefix ≡ t.header ++ 0xc3 ∷ rest) where
     whole : quiet.prefix ++ quiet.closed ∷ quiet.tail ≡ t.header ++ 0xc3 ∷ (rest ++ quiet.closed ∷ quiet.tail)
     whole = ap (λ (l : List ℕ). l ++ quiet.closed ∷ quiet.tail) opened ∙ append_assoc t.header (0xc3 ∷ rest) (quiet.closed ∷ quiet.tail)
@@ -194,7 +194,7 @@ module _ {Op : Type 0} (t : Encodings Op) where
         (close_on (trimmed Broken v).choice (rest ++ quiet.closed ∷ quiet.tail) [] quiet.on_device.head refl decodes) (may_at _ _ _ old new at failed)
 
   module _ (v : JournalView Op) (old new : FileState) where
-    -- the trim is synced: the journal spells nothing
+    -- the trim is synced: the journal decodes to no element
     pub trim_synced : v.ahead ≡ 64 → IsTrimWritten t v.choice v.gate v.ahead old → Syncs old new → is_on t (ended nothing v) new
     unfolding is_on
     trim_synced ahead on syncs = record {

@@ -40,7 +40,7 @@ all_push : {X : Type 0} (P : X → Type 0) (xs : List X) (x : X) → AllByRecurs
 all_push P [] x all here = (here, tt)
 all_push P (y ∷ xs) x all here = (all.0, all_push P xs x all.1 here)
 
--- one element more is kept
+-- one more element is kept
 pub keeps_more : (hives : ℕ) (now : Extent) (start : ℕ) (es xs : List Element) (e : Element) → ElementsAreSound hives now (take start es) es → start ≤ length es → Fits hives e → xs ≡ es ++ e ∷ [] → ElementsAreSound hives now (take start xs) xs
 keeps_more hives now start es xs e keeps inside fits is = subst (λ (l : List Element). ElementsAreSound hives now (take start l) l) (sym is) (record {
   are = keeps.are ∙ sym (take-append-le start es (e ∷ []) inside);
@@ -71,22 +71,22 @@ pub gate_front : (bytes : List ℕ) → 1 ≤ length bytes → bytes ≡ get_or 
 gate_front [] some = absurd (omega (arith, some))
 gate_front (b ∷ bytes) some = refl
 
--- the last number with a body more
+-- the last number with one more body
 pub last_is : (s : Content TimedOp) (d : ℕ) (es : List (law.Element TimedOp)) → 0 < length es → top d s ≡ d → top 0 (with_elements s d es) ≡ d + length es
 last_is s d es some ends =
     let all : length (s.elements ++ es) ≡ length s.elements + length es = length-append s.elements es in
     omega (arith, floor_some 0 (floor d s) (s.elements ++ es) (omega (arith, all, some)), all, ends)
 
--- a number in the front of bytes, whatever is behind them
+-- a number in the front of bytes, whatever follows them
 pub number_front : (n k : ℕ) (bytes behind : List ℕ) → n + k ≤ length bytes → little_number k (drop n bytes) ≡ little_number k (drop n (bytes ++ behind))
 number_front n k bytes behind long =
     sym (ap (little_number k) (drop-append-le n bytes behind (omega (arith, long))) ∙ little_from-append k (drop n bytes) behind (omega (arith, long, length-drop n bytes)))
 
--- the bytes from a place on, to the end of all
+-- the bytes from an offset on, to the end of all
 pub rest_is : (n : ℕ) (bytes : List ℕ) → take (length bytes - n) (drop n bytes) ≡ drop n bytes
 rest_is n bytes = take_all (length bytes - n) (drop n bytes) (omega (arith, length-drop n bytes))
 
--- those that are further on
+-- the bytes further on
 pub rest_on : (n k : ℕ) (bytes : List ℕ) → drop k (take (length bytes - n) (drop n bytes)) ≡ drop (n + k) bytes
 rest_on n k bytes = ap (drop k) (rest_is n bytes) ∙ drop-drop k n bytes ∙ ap (λ (m : ℕ). drop m bytes) (omega arith)
 

@@ -1,4 +1,4 @@
--- The elements that a journal was told.
+-- The elements that a journal was handed or has read.
 use Rattle.std.specs.Prelude.{ℕ, List, [], ◌∷◌, ◌++◌}
 use Rattle.reg_tree.specs.declared.element.Element.{Element}
 use Rattle.crash_model.specs.Changes as law
@@ -11,7 +11,7 @@ logged_elements Nothing = []
 logged_elements (Then' shape before element) = logged_elements before ++ timed_element element.value ∷ []
 logged_elements (Same' shape before) = logged_elements before
 
--- the same, as they were told
+-- the same, as changes
 abbrev pub logged_changes : GhostLog → List Element
 logged_changes Nothing = []
 logged_changes (Then' shape before element) = logged_changes before ++ element.value ∷ []

@@ -10,21 +10,21 @@ use Rattle.change_codec.specs.Encoding.{Fits}
 use Rattle.change_codec.specs.ModelChanges.{TimedOp, timed_elements}
 use Rattle.commit_journal.specs.declared.layout.TheConstants.{MOST_BODY_BYTES}
 
--- each operation is on one of so many hives
+-- each operation is on one of the `hives` hives
 abbrev pub OnHives : ℕ → Element → Type 0
 OnHives hives e = AllByRecursion (λ op. hive_of op < hives) e.ops
 
--- the change has a text in the journal of each store whose hives it is on
+-- the change has an encoding in the journal of each store whose hives it is on
 pub record FitsIfThere (e : Element) : Type 0 where
   pub fits : (hives : ℕ) → OnHives hives e → Fits hives e
 
--- the change's text is not longer than an accepted change's may be
+-- the change's encoding is not longer than an accepted change's may be
 abbrev pub IsShort : Element → Type 0
 IsShort e = element_encoded_len e ≤ MOST_ELEMENT_BYTES
 
--- Elements that a batch may be handed, the first of which has this number: it is 1 or more, they go on from what stands
--- within the greatest number, each is on hives that are there and is as short as an accepted change, and the journal has
--- room for all of them.
+-- Elements that a batch may be handed, the first of which has this number. The number is 1 or more. The elements
+-- continue the durable content within the greatest number. Each is on hives of the store and is as short as an accepted
+-- change. The journal has room for all of them.
 pub record IsHanded (hives used first : ℕ) (handed : List Element) (now : Content TimedOp) : Type 0 where
   pub number : 1 ≤ first
   pub continue_at : MayFollow GREATEST_NUMBER (first - 1) (timed_elements handed) now
@@ -36,7 +36,7 @@ pub record IsHanded (hives used first : ℕ) (handed : List Element) (now : Cont
 abbrev pub body_len : List Element → ℕ
 body_len es = 16 + sum_by element_encoded_len es
 
--- so many of the first elements are as many as fit a body
+-- the first `count` elements are the longest prefix that fits a body
 pub record IsLongestPrefix (count : ℕ) (handed : List Element) : Type 0 where
   pub there : count ≤ length handed
   pub fits : body_len (take count handed) ≤ MOST_BODY_BYTES

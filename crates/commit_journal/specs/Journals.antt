@@ -18,7 +18,7 @@ use Rattle.commit_journal.specs.declared.journal.Journal.{Journal}
 abbrev pub content_of : Extent → Content TimedOp
 content_of s = logged_content s.below s.ghost_log
 
--- what is on its way in a phase, the place of its gate, and how far it has come
+-- what is under way in a phase, the offset of its gate, and how far it has come
 abbrev pub view_in_phase : Extent → Phase → JournalView TimedOp
 view_in_phase now AtRest = view_at (content_of now) nothing now.gate now.gate phase.Phase.AtRest
 view_in_phase now (BodyWritten batch) = view_at (content_of now) (content_of batch.ahead) now.gate batch.ahead.gate phase.Phase.BodyWritten
@@ -30,22 +30,22 @@ view_in_phase now (Broken ahead) = view_at (content_of now) (content_of ahead.va
 abbrev pub journal_view : Journal → JournalView TimedOp
 journal_view j = view_in_phase j.on_device j.phase
 
--- what surely stands in the file, and what is on its way there
+-- the durable content of the file, and what is under way there
 abbrev pub choice_of : Journal → Choice (Content TimedOp)
 choice_of j = (journal_view j).choice
 
--- the changes that stand
+-- the durable changes
 abbrev pub changes_of : Journal → List Element
 changes_of j = logged_changes j.on_device.ghost_log
 
--- the store that the journal is of
+-- the store of the journal
 abbrev pub store_of : Journal → Store
 store_of j = record { id = j.id; hives = j.hives }
 
 abbrev pub encodings_of : Journal → Encodings TimedOp
 encodings_of j = encodings (store_of j)
 
--- A trim is halfway: its first call was made.
+-- A trim is under way: its first call was made.
 abbrev pub IsTrimming : Journal → Type 0
 IsTrimming j = (journal_view j).phase ≡ phase.Phase.TrimWritten
 
@@ -53,8 +53,8 @@ IsTrimming j = (journal_view j).phase ≡ phase.Phase.TrimWritten
 abbrev pub IsBroken : Journal → Type 0
 IsBroken j = (journal_view j).phase ≡ phase.Phase.Broken
 
--- A batch is ready to be written: of what is handed in as many elements as fit, at least one; their body, with a gate that
--- isn't open behind it; and what will stand.
+-- A batch is ready to be written: as many of the handed elements as fit, at least one; their body, with a gate that
+-- isn't open after it; and what will be durable.
 pub record IsReady (t : Encodings TimedOp) (now : Extent) (first : ℕ) (handed : List Element) (bytes : List ℕ) (ahead : Extent) : Type 0 where
   pub count : ℕ
   pub chunk : List ℕ
@@ -70,7 +70,7 @@ abbrev pub BeginsLongest : ℕ → List Element → Choice (Content TimedOp) →
 BeginsLongest first handed old new = (count : ℕ) × IsLongestPrefix count handed
     × (new.next ≡ Some (with_elements old.now (first - 1) (timed_elements (take count handed))))
 
--- How many steps that aren't refused are left until something is durable, where elements wait: a trim that is halfway is
+-- How many steps that aren't refused are left until something is durable, if elements wait: a trim that is under way is
 -- ended first, and a batch takes four.
 abbrev pub steps_in : phase.Phase → ℕ
 steps_in phase.Phase.AtRest = 4
@@ -83,25 +83,25 @@ steps_in phase.Phase.Broken = 0
 abbrev pub steps_left : Journal → ℕ
 steps_left j = steps_in (journal_view j).phase
 
--- The batch that was on its way stands, and nothing else is on its way.
+-- The batch that was under way is durable, and nothing else is under way.
 abbrev pub BatchIsDurable : Journal → Journal → Type 0
 BatchIsDurable old new = (steps_left old ≡ 1) × Ends (choice_of old) (choice_of new)
 
--- A step that wasn't refused came nearer to that, or it was the last one: the batch that was on its way stands.
+-- A step that wasn't refused came nearer to that, or it was the last one: the batch that was under way is durable.
 abbrev pub MakesProgress : Journal → Journal → Type 0
 MakesProgress old new = (steps_left new + 1 ≡ steps_left old) ⊎ BatchIsDurable old new
 
--- In the first so many of some steps a batch was made to stand. These are the journals before each step.
+-- One of the first `count` steps made a batch durable. These are the journals before each step.
 abbrev pub DurableWithin : ℕ → (ℕ → Journal) → Type 0
 DurableWithin count journals = (k : ℕ) × (k < count) × BatchIsDurable (journals k) (journals (k + 1))
 
--- What a step says that isn't refused, and that isn't idle since elements wait.
+-- What a step that isn't refused says. It isn't idle since elements wait.
 pub record IsStep (old new : Journal) : Type 0 where
   pub first : ℕ
   pub handed : List (law.Element TimedOp)
   pub says : JournalSays first handed More (choice_of old) (choice_of new) ⊎ JournalSays first handed Done (choice_of old) (choice_of new)
   pub nearer : MakesProgress old new
 
--- More elements stand than before.
+-- More elements are durable than before.
 abbrev pub DurableGrows : Journal → Journal → Type 0
 DurableGrows old new = length (choice_of old).now.elements < length (choice_of new).now.elements

@@ -5,13 +5,13 @@ use Rattle.crash_model.specs.Changes.{on_hive, ops_on}
 use Rattle.change_codec.specs.ModelChanges.{timed_element, timed_elements}
 use Rattle.commit_journal.specs.LastChangePerHive.{AreLastIn}
 
--- Some hive lacks the change of this number: the change has an operation on it, and the hive's own number is below. These are the
--- hives' own numbers, in their order; the number of a hive behind them is 0.
+-- Some hive lacks the change of this number: the change has an operation on it, and the hive's own number is below.
+-- These are the hives' own numbers, in their order. A hive without a number has the number 0.
 abbrev pub Lacks : List ℕ → ℕ → Element → Type 0
 Lacks numbers number e = (i : ℕ) × (get_or numbers i 0 < number) × ¬ (on_hive i (timed_element e) ≡ [])
 
--- Of changes that are numbered from `base` + 1 on, those above `below` are kept. Of the others no hive lacks an operation; and of
--- these some hive lacks the first.
+-- Of changes that are numbered from `base` + 1 on, those above `below` are kept. No hive lacks an operation of the
+-- others, and some hive lacks the first kept one.
 pub record AreRetained (numbers : List ℕ) (base : ℕ) (changes : List Element) (below : ℕ) (kept : List Element) : Type 0 where
   pub low : base ≤ below
   pub high : below ≤ base + length changes
@@ -19,7 +19,8 @@ pub record AreRetained (numbers : List ℕ) (base : ℕ) (changes : List Element
   pub held : (i : ℕ) → ops_on i (drop (get_or numbers i 0 - base) (take (below - base) (timed_elements changes))) ≡ []
   pub first : (e : Element) (es : List Element) → kept ≡ e ∷ es → Lacks numbers (below + 1) e
 
--- Changes that were read, the last of which has this number; those of them that are kept; and of each hive the last one that names it.
+-- Changes that were read, the last of which has this number; the kept ones; and for each hive the last one that names
+-- it.
 pub record IsRetention (numbers : List ℕ) (last : ℕ) (changes : List Element) (below : ℕ) (kept : List Element) (named : List ℕ) : Type 0 where
   pub few : length changes ≤ last
   pub keeps : AreRetained numbers (last - length changes) changes below kept

@@ -1,4 +1,4 @@
--- The journal's value, and what its phase says of its file.
+-- The view of a journal, and what its phase says of its file.
 use Rattle.std.specs.Prelude.{◌≡◌, ◌≢◌, ℕ, ◌+◌, ◌≤◌, List, [], ◌∷◌, ◌++◌, length, drop, Option, Some, None}
 use Rattle.crash_model.specs.Promises.{Choice, Content, nothing, floor, top, settled, under_way, JournalOn}
 use Rattle.crash_model.specs.Changes.{Element}
@@ -10,7 +10,7 @@ use Rattle.commit_journal.specs.Encoding.{Encodings, Body, IsBody, PrefixEncodes
 
 -- How far a batch or a trim has come.
 pub data Phase : Type 0 where
-  -- nothing is on its way
+  -- nothing is under way
   AtRest : Phase
   -- a batch: its body and the next gate are written; they are synced; its gate is opened
   BodyWritten : Phase
@@ -21,15 +21,15 @@ pub data Phase : Type 0 where
   -- the device has failed in a call of a batch or of a trim
   Broken : Phase
 
--- What contracts see of a journal: what stands and what is on its way, the place of the gate that isn't open, its place
--- once what is on its way stands, and how far that has come.
+-- What contracts see of a journal: the durable content and what is under way, the offset of the gate that isn't open,
+-- its offset once what is under way is durable, and the phase.
 pub record JournalView (Op : Type 0) : Type 0 where
   pub choice : Choice (Content Op)
   pub gate : ℕ
   pub ahead : ℕ
   pub phase : Phase
 
--- all is on the disk, and what is behind the gate is free
+-- all is on the disk, and what is after the gate is free
 pub record IsAtRest {Op : Type 0} (t : Encodings Op) (choice : Choice (Content Op)) (gate ahead : ℕ) (state : FileState) : Type 0 where
   pub prefix : List ℕ
   pub closed : ℕ
@@ -39,7 +39,7 @@ pub record IsAtRest {Op : Type 0} (t : Encodings Op) (choice : Choice (Content O
   pub shut : closed ≢ OPEN_GATE
   pub is : state ≡ at_rest (prefix ++ closed ∷ tail)
 
--- the bytes of a batch that is on its way: with the gate open they spell what will stand
+-- the bytes of a batch that is under way: with the gate open they decode to what will be durable
 pub record Batch {Op : Type 0} (t : Encodings Op) (choice : Choice (Content Op)) (gate ahead : ℕ) : Type 0 where
   pub prefix : List ℕ
   pub closed : ℕ
@@ -50,7 +50,7 @@ pub record Batch {Op : Type 0} (t : Encodings Op) (choice : Choice (Content Op))
   pub shut : closed ≢ OPEN_GATE
   pub will : PrefixEncodes t then ahead (prefix ++ OPEN_GATE ∷ chunk)
 
--- the file with the body and the next gate behind a gate
+-- the file with the body and the next gate after a gate
 abbrev pub staged : List ℕ → ℕ → List ℕ → List ℕ → List ℕ
 staged prefix gate chunk tail = prefix ++ (gate ∷ chunk ++ 0 ∷ tail)
 
@@ -81,7 +81,7 @@ pub record IsTrimWritten {Op : Type 0} (t : Encodings Op) (choice : Choice (Cont
   pub decodes : decoded t (t.header ++ OPEN_GATE ∷ rest) ≡ Some choice.now
   pub is : state ≡ after_write (at_rest (t.header ++ OPEN_GATE ∷ rest)) 64 (0 ∷ []) (t.header ++ 0 ∷ rest)
 
--- after a call of the device that failed: no more is known than what a crash leaves
+-- after a device call that failed: no more is known than what a crash leaves
 pub record IsBroken {Op : Type 0} (t : Encodings Op) (choice : Choice (Content Op)) (gate ahead : ℕ) (state : FileState) : Type 0 where
   pub then : Content Op
   pub next : choice.next ≡ Some then
@@ -99,8 +99,8 @@ in_phase Broken t choice gate ahead state = IsBroken t choice gate ahead state
 unfoldable pub is_on : {Op : Type 0} → Encodings Op → JournalView Op → FileState → Type 0
 is_on t v state = in_phase v.phase t v.choice v.gate v.ahead state
 
--- A body that a batch may begin with, and its bytes: its elements go on from the durable number, and there is room for
--- their numbers.
+-- A body that a batch may begin with, and its bytes: its elements continue from the durable number, and there is room
+-- for their numbers.
 pub record MayBegin {Op : Type 0} (t : Encodings Op) (now : Content Op) (durable : ℕ) (chunk : List ℕ) (b : Body Op) : Type 0 where
   pub body : IsBody t chunk b
   pub ends : top durable now ≡ durable
@@ -108,7 +108,7 @@ pub record MayBegin {Op : Type 0} (t : Encodings Op) (now : Content Op) (durable
   pub some : 1 ≤ length b.elements
   pub room : durable + length b.elements ≤ t.most
 
--- what a batch with such a body is to make of what stands
+-- what a batch with such a body is to make of the durable content
 abbrev pub with_elements : {Op : Type 0} → Content Op → ℕ → List (Element Op) → Content Op
 with_elements now durable more = record { below = floor durable now; elements = now.elements ++ more }
 
@@ -124,11 +124,11 @@ trimmed phase v = record { choice = under_way v.choice.now nothing; gate = v.gat
 abbrev pub with_phase : {Op : Type 0} → Phase → JournalView Op → JournalView Op
 with_phase phase v = record { choice = v.choice; gate = v.gate; ahead = v.ahead; phase = phase }
 
--- what was on its way stands
+-- what was under way is durable
 abbrev pub ended : {Op : Type 0} → Content Op → JournalView Op → JournalView Op
 ended then v = record { choice = settled then; gate = v.ahead; ahead = v.ahead; phase = AtRest }
 
--- what is on its way in a phase
+-- what is under way in a phase
 abbrev pub next_at : {Op : Type 0} → Phase → Content Op → Option (Content Op)
 next_at AtRest then = None
 next_at BodyWritten then = Some then
@@ -137,6 +137,6 @@ next_at GateWritten then = Some then
 next_at TrimWritten then = Some then
 next_at Broken then = Some then
 
--- the value of what stands, what will, the place of the gate, its place then, and a phase
+-- the view of the durable content, of what will be durable, the offset of the gate, its offset then, and a phase
 abbrev pub view_at : {Op : Type 0} → Content Op → Content Op → ℕ → ℕ → Phase → JournalView Op
 view_at now then gate ahead phase = record { choice = record { now = now; next = next_at phase then }; gate = gate; ahead = ahead; phase = phase }

@@ -9,7 +9,7 @@ use Rattle.commit_journal.specs.declared.buffer.ReadBuffer.{ReadBuffer}
 abbrev pub held : ReadBuffer → List ℕ
 held w = drop w.start w.bytes.items
 
--- the bytes of a file that aren't taken: those in memory, and those behind them
+-- the bytes of a file that aren't taken: those in memory, and those after them
 abbrev pub rest_of : List ℕ → ReadBuffer → List ℕ
 rest_of file w = held w ++ drop w.at file
 
@@ -21,6 +21,6 @@ left_of w = length (held w) + (w.end - w.at)
 abbrev pub journal_bytes_at : (ℕ → ℕ → FileState) → ℕ → List ℕ
 journal_bytes_at states clock = (states clock 0).seen
 
--- The refusal is want of memory; or the device failed; or the file is damaged, in this way.
+-- The refusal is `NoMemory`; or the device failed; or the file is damaged, in this way.
 abbrev pub FailsBy : Type 0 → Type 0 → Refusal → Type 0
 FailsBy fault damaged why = (why ≡ NoMemory) ⊎ (((why ≡ DiskFault) × fault) ⊎ ((why ≡ JournalDamaged) × damaged))

@@ -27,21 +27,22 @@ use Rattle.commit_journal.specs.declared.reader.Reader.{Reader}
 
 -- ---- what the file's bytes are
 
--- All before these bytes stands, and spells this: the next byte is a gate.
+-- The bytes before these encode this content: the next byte is a gate.
 pub record AtGate {Op : Type 0} (t : Encodings Op) (file : List ℕ) (now : Content Op) (at : ℕ) (rest : List ℕ) : Type 0 where
   pub prefix : List ℕ
   pub is : file ≡ prefix ++ rest
   pub on_device : PrefixEncodes t now at prefix
 
--- the body of these elements, with those that were read before them, where nothing of it is left
+-- the body of these elements, with those that were read before them, if nothing of it is left
 abbrev pub finished : {Op : Type 0} → ℕ → List (law.Element Op) → List ℕ → List (law.Element Op) × List ℕ → Option (Body Op × List ℕ)
 finished first es behind got = if length got.1 == 0 then Some (record { first = first; elements = es ++ got.0 }, behind) else None
 
--- the body that begins with these elements, of which so many bytes and elements are left
+-- the body that begins with these elements, of which `left` bytes and `count` elements are left
 abbrev pub rest_of_body : {Op : Type 0} → Encodings Op → ℕ → List (law.Element Op) → ℕ → ℕ → List ℕ → Option (Body Op × List ℕ)
 rest_of_body t first es left count rest = option_and_then (finished first es (drop left rest)) (read_elements t.read count (take left rest))
 
--- Behind an open gate a body of `size` bytes was read in part: these elements; so many bytes and elements of it are left.
+-- After an open gate a body of `size` bytes was read in part: these elements are read, and this many bytes and elements
+-- are left.
 pub record InBody {Op : Type 0} (t : Encodings Op) (file : List ℕ) (now : Content Op) (at size first : ℕ) (es : List (law.Element Op)) (left count : ℕ) (rest : List ℕ) : Type 0 where
   pub bytes : List ℕ
   pub gate : AtGate t file now at (OPEN_GATE ∷ bytes)
@@ -49,7 +50,7 @@ pub record InBody {Op : Type 0} (t : Encodings Op) (file : List ℕ) (now : Cont
   pub there : left ≤ length rest
   pub length_is : length bytes + left ≡ size + length rest
 
--- the file spells what stands, and its journal is quiet
+-- the file decodes to the durable content, and its journal is at rest
 pub record FileDecodesTo (t : Encodings TimedOp) (file : List ℕ) (now : Extent) : Type 0 where
   pub decodes : decoded t file ≡ Some (content_of now)
   pub on : is_on t (view_at (content_of now) nothing now.gate now.gate AtRest) (at_rest file)
@@ -73,20 +74,21 @@ read_by r = logged_changes r.retention.read
 abbrev pub encodings_for : List ℕ → Reader → Encodings TimedOp
 encodings_for id r = encodings (record { id = id; hives = r.hives })
 
--- The reading of this file, as the journal of a store with this id, has come so far that these bytes are still to be read.
+-- The reading of this file, as the journal of a store with this id, has reached these bytes, which are still to be
+-- read.
 abbrev pub IsReading : List ℕ → List ℕ → Reader → List ℕ → Type 0
 IsReading id file r rest = reading_at (encodings_for id r) file r.on_device (read_by r) r.next rest
 
--- A body with so many elements from this number on may stand behind what stands.
+-- A body with `count` elements from the number `first` on may follow the durable content.
 pub record BodyMayFollow {Op : Type 0} (most : ℕ) (now : Content Op) (first count : ℕ) : Type 0 where
   pub one : 1 ≤ first
   pub ends : top (first - 1) now ≡ first - 1
   pub some : 1 ≤ count
   pub room : first + count ≤ most + 1
 
--- ---- what is kept of them, whatever the device gave
+-- ---- what is kept of the elements, whatever the device gave
 
--- what stands is these elements, and each of all that were read fits
+-- the durable content is these elements, and each of all elements that were read fits
 pub record ElementsAreSound (hives : ℕ) (now : Extent) (durable_before es : List Element) : Type 0 where
   pub are : logged_changes now.ghost_log ≡ durable_before
   pub ghost_log : logged_elements now.ghost_log ≡ timed_elements durable_before
@@ -103,7 +105,7 @@ pub record PartialIsSound (now : Extent) (es : List Element) (partial_body : Par
   pub size : partial_body.size ≡ 16 + (partial_body.left + sum_by element_encoded_len (drop partial_body.start es))
   pub short : partial_body.size ≤ MOST_BODY_BYTES
 
--- the length of a part's next element may be this
+-- the length of the next element of a partial body may be this
 pub record IsNext (partial_body : PartialBody) (len : ℕ) : Type 0 where
   pub some : 1 ≤ partial_body.count
   pub low : 16 ≤ len
@@ -119,7 +121,7 @@ sound_at hives now es Done = ElementsAreSound hives now es es
 abbrev pub ReaderIsSound : Reader → Type 0
 ReaderIsSound r = sound_at r.hives r.on_device (read_by r) r.next
 
--- the number of the last element that was read of a body, or that below its first
+-- the number of the last element that was read of a body, or the number before its first
 abbrev pub IsLastOfPartial : ℕ → List Element → PartialBody → Type 0
 IsLastOfPartial last es partial_body = last + 1 ≡ partial_body.first + length (drop partial_body.start es)
 
@@ -130,15 +132,15 @@ numbers_agree_at last now es (Size partial_body) = IsLastOfPartial last es parti
 numbers_agree_at last now es (Encoding partial_body len) = IsLastOfPartial last es partial_body
 numbers_agree_at last now es Done = last ≡ now.last
 
--- those that were read are kept as the hives' own numbers say
+-- the elements that were read are kept by the hives' own numbers
 abbrev pub IsRetained : Retention → Type 0
 IsRetained k = IsRetention k.numbers.items k.last (logged_changes k.read) k.below k.elements.items k.last_changes.last.items
 
--- the numbers of what is kept go on with what stands, and with what was read of a body
+-- the numbers of the kept elements continue the durable content, and what was read of a body
 abbrev pub NumbersAgree : Reader → Type 0
 NumbersAgree r = numbers_agree_at r.retention.last r.on_device (read_by r) r.next
 
--- what is kept is judged by the same numbers, and the last changes are those that name as many hives
+-- elements are kept by the same numbers, and the last changes are of as many hives
 abbrev pub HasSameNumbers : Retention → Retention → Type 0
 HasSameNumbers old new = (new.numbers ≡ old.numbers) × (length new.last_changes.last.items ≡ length old.last_changes.last.items)
 

@@ -1,4 +1,4 @@
--- The text of a store's journal: its header, and its elements as the law of one prefix sees them.
+-- The encoding of a store's journal: its header, and its elements as the crash model sees them.
 use Rattle.std.specs.Prelude.{◌≡◌, ◌≤◌, ℕ, ◌+◌, List, [], ◌∷◌, length, ◌++◌, replicate, codes, sum_by, Option, None, option_map}
 use Rattle.byteorder.specs.Endian.{little_bytes}
 use Rattle.refusals.specs.declared.limits.TheConstants.{GREATEST_NUMBER, MOST_HIVES}
@@ -8,7 +8,7 @@ use Rattle.change_codec.specs.Encoding.{element_at}
 use Rattle.change_codec.specs.ModelChanges.{TimedOp, timed_element}
 use Rattle.commit_journal.specs.Encoding.{Encodings, decoded}
 
--- what a store's header holds: the 16 bytes of its id, and its number of hives
+-- the content of a store's header: the 16 bytes of its id, and its number of hives
 pub record Store : Type 0 where
   pub id : List ℕ
   pub hives : ℕ
@@ -23,19 +23,19 @@ pub record IsStore (store : Store) : Type 0 where
 abbrev pub header_bytes : Store → List ℕ
 header_bytes store = codes "KTMJRNL1" ++ (store.id ++ (little_bytes 4 store.hives ++ replicate 36 0))
 
--- the text of a store's journal as it is made: its header, and a gate that isn't open
+-- the bytes of a store's journal as it is made: its header, and a gate that isn't open
 abbrev pub created_bytes : Store → List ℕ
 created_bytes store = header_bytes store ++ 0 ∷ []
 
--- the change on one of so many hives that bytes begin with, as the law sees it, and the bytes behind it
+-- the change on one of the `hives` hives that bytes begin with, as the crash model sees it, and the bytes after it
 abbrev pub timed_at : ℕ → List ℕ → Option (law.Element TimedOp × List ℕ)
 timed_at hives bytes = option_map (λ got. (timed_element got.0, got.1)) (element_at hives bytes)
 
--- the text of a store's journal
+-- the encodings of a store's journal
 abbrev pub encodings : Store → Encodings TimedOp
 encodings store = record { header = header_bytes store; read = timed_at store.hives; most = GREATEST_NUMBER }
 
--- how long a change is as journal text
+-- the length of a change's encoding in a journal
 abbrev pub timed_len : law.Element TimedOp → ℕ
 timed_len e = 16 + sum_by (λ o. op_encoded_len o.1.1) e
 

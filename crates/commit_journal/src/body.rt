@@ -11,14 +11,14 @@ use crate::layout::{HEAD_BYTES, MOST_BODY_BYTES};
 use change_codec::{EncodedChange, put_u32, put_u64};
 use std::alloc::{AllocError, Global};
 
-/// So many of the first elements, and the bytes of the body that they make.
+/// The number of elements that a body takes from the front, and the size of the body in bytes.
 #[derive(Clone, Copy)]
 pub(crate) struct Prefix {
     pub count: usize,
     pub size: u64,
 }
 
-/// As many of the first elements as fit a body.
+/// The longest prefix of the elements that fits a body.
 pub(crate) fn longest_prefix(handed: &[EncodedChange]) -> Prefix
     requires { AllByRecursion IsShort handed.now }
     ensures prefix { IsLongestPrefix result.count handed.now }
@@ -39,8 +39,8 @@ pub(crate) fn longest_prefix(handed: &[EncodedChange]) -> Prefix
     }
 }
 
-/// The bytes of the body of these elements, the first of which has the number `first`: so many bytes. There is room behind
-/// them for one more.
+/// The bytes of the body of these elements, `size` of them. The first element has the number `first`. There is room
+/// after them for one more byte.
 pub(crate) fn encode(
     alloc: Global,
     first: u64,
@@ -61,7 +61,7 @@ pub(crate) fn encode(
     Ok(body)
 }
 
-/// Puts the texts of elements behind some bytes.
+/// Appends the encodings of elements to some bytes.
 fn write_all(elements: &[EncodedChange], bytes: &mut Vec<u8>) -> Result<(), AllocError>
     requires { sum_by element_encoded_len elements.now < 2 ^ 32 }
     ensures encoding { OnOk result (bytes.new.items

@@ -1,4 +1,4 @@
-//! The journal's file, read in pieces.
+//! The journal's file, read in chunks.
 ghost use Rattle.std.specs.Prelude.{◌≡◌, ◌+◌, ◌-◌, ◌<◌, ◌≤◌, ℕ, List, length, drop, IfOk, OnOk, IfErr};
 ghost use Rattle.disk_model.specs.ReadOnly.{OnlyReads};
 
@@ -13,17 +13,17 @@ const CHUNK_BYTES: usize = 65_536;
 
 /// The part of the journal's file that is in memory: what was read of it and isn't taken yet.
 ///
-/// Each call reads one piece, and what it gave is put behind what isn't taken. That gets longer than two pieces only where
-/// so many bytes in a row are wanted, and the file has them.
+/// Each call reads one chunk and appends it to what isn't taken. The buffer gets longer than two chunks only if a
+/// longer run of bytes is wanted and the file has it.
 #[derive(Drop)]
 pub(crate) struct ReadBuffer {
     /// What one call reads.
     chunk: Vec<u8>,
-    /// What was read, from some place on.
+    /// What was read, from some offset on.
     bytes: Vec<u8>,
-    /// How much of that is taken.
+    /// How many of those bytes are taken.
     start: usize,
-    /// Where in the file the next piece begins.
+    /// The offset in the file at which the next chunk begins.
     at: u64,
     /// The file's length.
     end: u64,
@@ -68,7 +68,7 @@ impl ReadBuffer {
         self.end - (self.at - held)
     }
 
-    /// Takes so many bytes.
+    /// Takes the next `count` bytes.
     pub fn skip(&mut self, count: usize)
         requires { count ≤ length (held self.old) }
         ensures held { held self.new ≡ drop count (held self.old) }
@@ -79,7 +79,8 @@ impl ReadBuffer {
         self.start += count;
     }
 
-    /// Sees that so many bytes are in memory. Where the file has fewer, it is refused with `JournalDamaged`.
+    /// Reads until `wanted` bytes are in memory. Refused with `JournalDamaged` if the file has fewer, with `DiskFault`
+    /// if the device failed, and with `NoMemory`.
     pub fn fill<D: Disk>(&mut self, disk: &mut D, wanted: usize) -> Result<(), Refusal>
         ensures there { OnOk result (wanted ≤ length (held self.new)) }
         ensures left { OnOk result (left_of self.new ≡ left_of self.old) }
@@ -112,7 +113,7 @@ impl ReadBuffer {
         Ok(())
     }
 
-    /// Lets what is taken go.
+    /// Drops what is taken.
     fn compact(&mut self) -> Result<(), AllocError>
         ensures start { OnOk result (self.new.start ≡ 0) }
         ensures held { OnOk result (held self.new ≡ held self.old) }
@@ -126,7 +127,7 @@ impl ReadBuffer {
         Ok(())
     }
 
-    /// Reads the next piece of the file: answers how many bytes came.
+    /// Reads the next chunk of the file: answers how many bytes came.
     fn read_chunk<D: Disk>(&mut self, disk: &mut D) -> Result<usize, Refusal>
         ensures start { self.new.start ≡ self.old.start }
         ensures end { self.new.end ≡ self.old.end }

@@ -1,4 +1,4 @@
-//! Making a journal: its text in memory first, and then its writing.
+//! Making a journal: its encoding in memory first, and then its writing.
 ghost use Rattle.std.specs.Prelude.{◌≡◌, ◌⊎◌, ◌<◌, ◌≤◌, ℕ, length, IfErr, IfOk};
 ghost use Rattle.crash_model.specs.Promises.{nothing, settled};
 ghost use Rattle.refusals.specs.declared.limits.TheConstants.{MOST_HIVES};
@@ -19,7 +19,7 @@ use refusals::Refusal;
 use std::alloc::{AllocError, Global};
 use uuid::Uuid;
 
-/// The journal of a store that is to be made, in memory: an empty one.
+/// The empty journal of a store that is to be made, in memory.
 #[derive(Drop)]
 pub struct JournalImage {
     pub(crate) alloc: Global,
@@ -31,7 +31,7 @@ pub struct JournalImage {
 }
 
 impl JournalImage {
-    /// The empty journal of a store under an id, with 1 to 16 hives.
+    /// The empty journal of a store with this id and 1 to 16 hives.
     pub fn of(alloc: Global, id: Uuid, hives: u8) -> Result<JournalImage, AllocError>
         requires size { length id ≡ 16 }
         requires hives { (1 ≤ hives) × (hives ≤ MOST_HIVES) }
@@ -48,10 +48,11 @@ impl JournalImage {
         })
     }
 
-    /// Makes the journal's file, whatever it held: it holds the journal then, and nothing else, and is synced.
+    /// Makes the journal's file, whatever it contained: afterwards it contains the journal and nothing else, and is
+    /// synced.
     ///
-    /// Takes no memory. Failed where the device failed in a call, which was the last one: nothing is said of the file's bytes
-    /// then.
+    /// Takes no memory. Fails if the device failed in a call, which was the last one. Nothing is promised of the file's
+    /// bytes then.
     pub fn write<D: Disk>(self, disk: &mut D) -> Result<Journal, Failed>
         ensures empty { IfOk result (λ journal. choice_of journal ≡ settled nothing) }
         ensures store { IfOk result (λ journal.
@@ -76,11 +77,11 @@ impl JournalImage {
 }
 
 impl Journal {
-    /// Makes the journal of a store: an empty one, whatever the file held. It is on the disk then, and the file holds nothing
-    /// else.
+    /// Makes the empty journal of a store, whatever the file contained. Afterwards the journal is durable, and the file
+    /// contains nothing else.
     ///
-    /// Refused with `NoMemory` before any device call, and with `DiskFault` where the device failed; nothing is said of
-    /// the file's bytes then.
+    /// Refused with `NoMemory` before any device call, and with `DiskFault` if the device failed. After `DiskFault`
+    /// nothing is promised of the file's bytes.
     pub fn create<D: Disk>(
         alloc: Global,
         disk: &mut D,

@@ -67,7 +67,7 @@ pub(crate) fn len<D: Disk>(disk: &mut D) -> Result<u64, Failed>
     disk.len(JOURNAL)
 }
 
-/// Reads from an offset in the journal's file on into the front of a piece: answers how many bytes came.
+/// Reads from an offset in the journal's file into the front of a chunk: answers how many bytes came.
 pub(crate) fn read<D: Disk>(disk: &mut D, offset: u64, chunk: &mut Vec<u8>) -> Result<usize, Failed>
     ensures size { length chunk.new.items ≡ length chunk.old.items }
     ensures count { IfOk result (λ n. n ≤ length chunk.new.items) }

@@ -1,4 +1,4 @@
-//! What a journal keeps of what stands in its file, or will.
+//! What a journal keeps of the durable content of its file, or of the content that will be durable.
 ghost use Rattle.std.specs.Prelude.{◌≡◌, ◌+◌, ◌-◌, ◌*◌, ◌<◌, ◌≤◌, ◌^◌, ℕ, List, length, take, drop, [], sum_by};
 ghost use Rattle.crash_model.specs.Promises.{nothing, top, floor};
 ghost use Rattle.reg_tree.specs.Encodings.{element_encoded_len};
@@ -10,14 +10,14 @@ use crate::layout::{ELEMENT_ROOM, EMPTY_ROOM, FIRST_GATE, HEAD_BYTES};
 use crate::reader::PartialBody;
 use change_codec::EncodedChange;
 
-/// The place and the numbers of what stands, or of what will.
+/// The offset and the numbers of the durable content, or of the content that will be durable.
 #[derive(Drop)]
 pub(crate) struct Extent {
     /// The offset of the gate that isn't open.
     pub gate: u64,
-    /// The number below the first element, or 0 where there is none.
+    /// The number before the first element's, or 0 if there is none.
     pub below: u64,
-    /// The number of the last element, or 0 where there is none.
+    /// The number of the last element, or 0 if there is none.
     pub last: u64,
     /// The used room in bytes: 65, and 17 and its length for each element.
     pub used: u64,
@@ -45,7 +45,8 @@ impl Extent {
         }
     }
 
-    /// What stands once a body of so many bytes with these elements does, the first of which has the number `first`.
+    /// The content once a body of `size` bytes with these elements is durable too. The first of them has the number
+    /// `first`.
     pub fn with_elements(&self, first: u64, size: u64, elements: &[EncodedChange]) -> Extent
         requires some { 0 < length elements.now }
         requires number { 1 ≤ first }
@@ -74,14 +75,14 @@ impl Extent {
         }
     }
 
-    /// How many elements stand.
+    /// How many elements are durable.
     pub fn count(&self) -> u64
         ensures { result ≡ length (logged_elements self.now.ghost_log) }
     {
         self.last.saturating_sub(self.below)
     }
 
-    /// What stands once a body that was read does: these are its elements, so many, behind those that stand.
+    /// The content once a body that was read is added. It has `count` elements, after those that are there.
     pub fn with_body(&self, partial_body: PartialBody, count: u64, ghost_log: GhostLog) -> Extent
         requires before { logged_elements self.now.ghost_log ≡ timed_elements (take partial_body.start (logged_changes ghost_log)) }
         requires count { count ≡ length (drop partial_body.start (logged_changes ghost_log)) }

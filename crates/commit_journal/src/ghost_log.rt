@@ -1,10 +1,11 @@
-//! The elements that a journal was told. Only contracts read them, and they take no memory.
+//! The elements that a journal was handed or has read. Only contracts read them, and they take no
+//! memory.
 ghost use Rattle.std.specs.Prelude.{◌≡◌, ◌++◌, ◌∷◌, []};
 
 use change_codec::EncodedChange;
 use std::snapshot::Snapshot;
 
-/// The elements that a journal was told, the last one outermost.
+/// The elements that a journal was handed or has read, the last one outermost.
 #[derive(Drop)]
 pub(crate) enum GhostLog {
     /// None.

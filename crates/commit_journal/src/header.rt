@@ -15,10 +15,10 @@ use uuid::Uuid;
 /// The bytes that each journal begins with.
 const MAGIC: &[u8; 8] = b"KTMJRNL1";
 
-/// The zeros behind the fields of a header.
+/// The zeros after the fields of a header.
 const ZEROS: [u8; 36] = [0; 36];
 
-/// The header of a store's journal. There is room for a gate behind it.
+/// The header of a store's journal. There is room for a gate after it.
 pub(crate) fn encode(alloc: Global, id: Uuid, hives: u8) -> Result<Vec<u8>, AllocError>
     ensures { IfOk result (λ header. header.items
         ≡ header_bytes (record { id = id; hives = hives })) }
@@ -31,8 +31,8 @@ pub(crate) fn encode(alloc: Global, id: Uuid, hives: u8) -> Result<Vec<u8>, Allo
     Ok(header)
 }
 
-/// The id and the number of hives of the store whose header bytes begin with. Refused with `JournalDamaged` where they begin
-/// with no store's, and with `NoMemory`.
+/// The id and the number of hives of the store whose header the bytes begin with. Refused with `JournalDamaged` only if
+/// they begin with no store's header, and with `NoMemory`.
 pub(crate) fn decode(alloc: Global, bytes: &[u8]) -> Result<(Uuid, u8), Refusal>
     requires { 64 ≤ length bytes.now }
     ensures { MatchResult result

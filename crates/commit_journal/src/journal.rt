@@ -25,7 +25,7 @@ use std::mem;
 use std::snapshot::Snapshot;
 use uuid::Uuid;
 
-/// What will stand once a batch is done: it has an element.
+/// What will be durable once a batch is done: it has an element.
 #[derive(Drop)]
 struct Batch {
     ahead: Extent,
@@ -35,7 +35,7 @@ struct Batch {
 /// How far a batch or a trim has come.
 #[derive(Drop)]
 enum Phase {
-    /// Nothing is on its way.
+    /// Nothing is under way.
     AtRest,
     /// A batch's body and the next gate are written.
     BodyWritten(Batch),
@@ -45,15 +45,15 @@ enum Phase {
     GateWritten(Batch),
     /// The first gate is closed, by a trim.
     TrimWritten,
-    /// The device has failed. What was on its way is known to contracts alone.
+    /// The device has failed. Contracts alone know what was under way.
     Broken(Snapshot<Extent>),
 }
 
 /// The journal of a store, on file 0 of a disk.
 ///
-/// A step makes at most one device call. A batch takes four: its body with the next gate behind it, a sync, the gate before
-/// it, a sync; a trim takes two: the first gate, a sync. No batch begins while a trim is halfway, and no trim while a batch
-/// is. After a call of the device that failed each step is refused with `Faulted` and makes none.
+/// A step makes at most one device call. A batch takes four calls: its body and the next gate, a sync, the gate before
+/// the body, a sync. A trim takes two: the first gate, a sync. No batch begins while a trim is under way, and no trim
+/// while a batch is. After a device call failed, each step is refused with `Faulted` and makes no call.
 #[derive(Drop)]
 pub struct Journal {
     alloc: Global,
@@ -67,7 +67,7 @@ pub struct Journal {
 impl Journal {
     ghost use Rattle.commit_journal.specs.Journals.{content_of, changes_of, view_in_phase, journal_view, choice_of, store_of, encodings_of, IsReady, BeginsLongest, IsTrimming, IsBroken, steps_left, MakesProgress};
 
-    /// The journal of what stands in a file that is at rest.
+    /// The journal of the content of a file that is at rest.
     pub(crate) fn found(alloc: Global, id: Uuid, hives: u8, on_device: Extent) -> Journal
         ensures store { store_of result ≡ record { id = id; hives = hives } }
         ensures value { journal_view result ≡ view_at (content_of on_device) nothing on_device.gate on_device.gate
@@ -104,21 +104,21 @@ impl Journal {
         self.on_device.used
     }
 
-    /// The number of the last element that stands, or 0 where none does.
+    /// The number of the last durable element, or 0 if there is none.
     pub fn last_number(&self) -> u64
         ensures { result ≡ top 0 (choice_of self.now).now }
     {
         self.on_device.last
     }
 
-    /// A batch or a trim is on its way, or was as the device failed.
+    /// A batch or a trim is under way, or was when the device failed.
     pub fn is_halfway(&self) -> bool
         ensures { (result ≡ false) ↔ ((choice_of self.now).next ≡ None) }
     {
         !self.is_at_rest()
     }
 
-    /// A trim is on its way.
+    /// A trim is under way.
     pub fn is_trimming(&self) -> bool
         ensures trims { (result ≡ true) ↔ IsTrimming self.now }
         ensures nothing { result ≡ true → (choice_of self.now).next ≡ Some nothing }
@@ -133,12 +133,12 @@ impl Journal {
         matches!(self.phase, Phase::AtRest)
     }
 
-    /// One step: where nothing is on its way the first call of a batch of as many of the elements as fit, and else the next
-    /// call of the batch or the trim. `first` is the number of the first element handed in; elements are read only as a
-    /// batch begins.
+    /// One step. If nothing is under way, it makes the first call of a batch of as many of the elements as fit.
+    /// Otherwise it makes the next call of the batch or the trim. `first` is the number of the first element handed in.
+    /// Elements are read only when a batch begins.
     ///
-    /// Refused with `NoMemory` before anything is begun, with `DiskFault` where the device failed in the call, and with
-    /// `Faulted` exactly where it had failed in an earlier one.
+    /// Refused with `NoMemory` before anything is begun, and with `DiskFault` if the device failed in the call. Refused
+    /// with `Faulted` exactly if the device had failed in an earlier call.
     pub fn step<D: Disk>(
         &mut self,
         disk: &mut D,
@@ -178,10 +178,10 @@ impl Journal {
         self.begin_batch(disk, first, handed)
     }
 
-    /// One step of a trim: where nothing is on its way the first gate is closed, and else the trim's second call is made. Its
-    /// caller judges that the elements may go, and sees that one stands.
+    /// One step of a trim. If nothing is under way, it closes the first gate. Otherwise it makes the trim's second
+    /// call. The caller makes sure that the elements may be discarded, and that there is one.
     ///
-    /// It takes no memory. Refused with `DiskFault` and `Faulted` as [`step`](Journal::step) is.
+    /// It takes no memory. Refused with `DiskFault` and `Faulted` if [`step`](Journal::step) would be.
     pub fn trim_step<D: Disk>(&mut self, disk: &mut D) -> Result<Progress, Refusal>
         requires some { (choice_of self.old).next ≡ None →
             0 < length (choice_of self.old).now.elements }
@@ -267,7 +267,7 @@ impl Journal {
         }
     }
 
-    /// The last call of a batch: its gate is synced, and it stands.
+    /// The last call of a batch: its gate is synced, and the batch is durable.
     fn sync_gate<D: Disk>(&mut self, disk: &mut D, batch: Batch) -> Result<Progress, Refusal>
         ensures says { (first : ℕ) (handed : List (law.Element TimedOp)) →
             Says (JournalSays first handed) result (view_in_phase self.old.on_device (Phase.GateWritten batch)).choice (choice_of self.new) }
@@ -298,7 +298,7 @@ impl Journal {
         }
     }
 
-    /// The last call of a trim: nothing is spelled.
+    /// The last call of a trim: the file decodes to no element.
     fn sync_trim<D: Disk>(&mut self, disk: &mut D) -> Result<Progress, Refusal>
         ensures says { (first : ℕ) (handed : List (law.Element TimedOp)) →
             Says (JournalSays first handed) result (view_in_phase self.old.on_device Phase.TrimWritten).choice (choice_of self.new) }
@@ -362,7 +362,7 @@ impl Journal {
         }
     }
 
-    /// The body of a batch of as many elements as fit, with the next gate behind it, and what will stand with it.
+    /// The body of a batch of as many elements as fit, with the next gate after it, and what will be durable with it.
     fn prepare(&self, first: u64, handed: &[EncodedChange]) -> Result<(Vec<u8>, Batch), Refusal>
         requires some { 0 < length handed.now }
         requires handed { IsHanded self.now.hives self.now.on_device.used first handed.now
@@ -379,7 +379,7 @@ impl Journal {
         Ok((bytes, Batch { ahead }))
     }
 
-    /// The first call of a batch: its body and the next gate are written behind the gate that isn't open.
+    /// The first call of a batch: its body and the next gate are written after the gate that isn't open.
     fn begin_batch<D: Disk>(
         &mut self,
         disk: &mut D,
@@ -421,7 +421,7 @@ impl Journal {
         }
     }
 
-    /// The next call of what is on its way. After a failure none is made.
+    /// The next call of what is under way. After a failure no call is made.
     fn go_on<D: Disk>(&mut self, disk: &mut D) -> Result<Progress, Refusal>
         requires halfway { ¬ (self.old.phase ≡ Phase.AtRest) }
         ensures says { (first : ℕ) (handed : List (law.Element TimedOp)) →

@@ -1,4 +1,4 @@
-//! Of each hive the last change that names it.
+//! For each hive the last change that names it.
 ghost use Rattle.std.specs.Prelude.{◌≡◌, ◌+◌, ◌<◌, ◌^◌, ℕ, if◌then◌else◌, IfOk, length, replicate, slice_get};
 ghost use Rattle.std.specs.Option.{option_map};
 ghost use Rattle.commit_journal.specs.LastChangePerHive.{HasCounted, names};
@@ -6,7 +6,7 @@ ghost use Rattle.commit_journal.specs.LastChangePerHive.{HasCounted, names};
 use change_codec::EncodedChange;
 use std::alloc::{AllocError, Global};
 
-/// For each hive the number of the last change counted in that has an operation on it, or 0 where none has.
+/// For each hive the number of the last counted change that has an operation on it, or 0 if there is none.
 #[derive(Drop)]
 pub struct LastChangePerHive {
     /// The numbers, in the hives' order.
@@ -14,7 +14,7 @@ pub struct LastChangePerHive {
 }
 
 impl LastChangePerHive {
-    /// Of so many hives, none of which a change names.
+    /// Of `hives` hives, none of which a change names.
     pub fn new(alloc: Global, hives: usize) -> Result<LastChangePerHive, AllocError>
         ensures { IfOk result (λ last_changes. last_changes.last.items ≡ replicate hives 0) }
     {
@@ -22,7 +22,7 @@ impl LastChangePerHive {
         Ok(LastChangePerHive { last })
     }
 
-    /// Each hive that one of a change's operations is on has this number.
+    /// Sets the number of each hive that an operation of the change is on.
     pub(crate) fn count_one(&mut self, change: &EncodedChange, number: u64)
         ensures named { (i : ℕ) → slice_get self.new.last.items i ≡
             option_map (λ m. if names i change.now.ops then number else m) (slice_get self.old.last.items i) }
@@ -31,7 +31,7 @@ impl LastChangePerHive {
         name(&mut self.last, change, number);
     }
 
-    /// Counts changes in, the first of which has the number behind this one.
+    /// Counts changes in. The first of them has the number `below + 1`.
     pub fn count_in(&mut self, below: u64, changes: &[EncodedChange])
         requires numbers { below + length changes.now < 2 ^ 64 }
         ensures { HasCounted self.old.last.items below changes.now self.new.last.items }
@@ -44,7 +44,7 @@ impl LastChangePerHive {
     }
 }
 
-// each hive that one of a change's operations is on has this number
+// sets the number of each hive that an operation of the change is on
 fn name(last: &mut [u64], change: &EncodedChange, number: u64)
     ensures named { (i : ℕ) → slice_get last.new i ≡
         option_map (λ m. if names i change.now.ops then number else m) (slice_get last.old i) }

@@ -13,8 +13,8 @@ ghost use Rattle.commit_journal.specs.Journals.{MakesProgress, DurableWithin, Is
 ghost use Rattle.commit_journal.specs.declared.journal.Journal.{Journal};
 ghost use Rattle.commit_journal.specs.OnDisk.{Phase, Phase.AtRest, Phase.BodyWritten, Phase.BodySynced, Phase.GateWritten, Phase.TrimWritten, Phase.Broken};
 
-/// The text: what stands is spelled whatever is behind the gate that isn't open; and with that gate open and a body behind
-/// it, more stands.
+/// The encoding: the durable content is decoded whatever is after the gate that isn't open. With that gate open and a
+/// body after it, there is more content.
 pub fn encoding<Op>()
     ensures decodes { (t : Encodings Op) (now : Content Op) (used : ℕ) (prefix tail : List ℕ)
         (gate : ℕ) → PrefixEncodes t now used prefix → gate ≢ OPEN_GATE →
@@ -27,8 +27,8 @@ pub fn encoding<Op>()
         (prefix ++ OPEN_GATE ∷ chunk) }
 {}
 
-/// An opening: a file at rest that spells something is that of a quiet journal,
-/// and a created one spells nothing.
+/// An opening: a file at rest that decodes to some content is that of a journal at rest. A created file decodes to no
+/// element.
 pub fn opening<Op>()
     ensures found { (t : Encodings Op) → length t.header ≡ 64 → (bytes : List ℕ) (s any : Content Op) →
         decoded t bytes ≡ Some s → (gate : ℕ) × ((ahead : ℕ) →
@@ -38,13 +38,13 @@ pub fn opening<Op>()
         is_on t (view_at nothing any 64 ahead AtRest) (file.at_rest (t.header ++ closed ∷ tail)) }
 {}
 
-/// In each phase, whatever a crash leaves spells what stands or what is on its way.
+/// In each phase, whatever a crash leaves decodes to the durable content or to what is under way.
 pub fn leaves<Op>()
     ensures { (t : Encodings Op) (v : JournalView Op) (state : FileState) → is_on t v state →
         JournalOn (DecodesBy (decoded t)) v.choice (file.Leaves state) }
 {}
 
-/// Each call of the device leads from one phase to the next, or at a failure to a value with the same choice.
+/// Each device call leads from one phase to the next, or at a failure to a view with the same choice.
 pub fn calls<Op>()
     ensures body_ok { (t : Encodings Op) (now then : Content Op) (gate ahead : ℕ) (old new : FileState)
         (durable : ℕ) (chunk : List ℕ) (b : Body Op) →
@@ -89,9 +89,9 @@ pub fn calls<Op>()
         Syncs old new → is_on t (view_at nothing any 64 64 AtRest) new }
 {}
 
-/// In eight steps in a row, each of which comes nearer to something durable as long as nothing was made durable in those
-/// before it, a batch is made to stand; and in eight steps that aren't refused while elements wait, more elements are made to
-/// stand than did, since a whole batch begins and ends in them.
+/// Eight steps in a row make a batch durable, if each of them makes progress as long as none before it made anything
+/// durable. Eight steps that aren't refused while elements wait make more elements durable, since a whole batch begins
+/// and ends in them.
 pub fn progress()
     ensures on_device { (journals : ℕ → Journal) →
         ((k : ℕ) → k < 8 → DurableWithin k journals ⊎ MakesProgress (journals k) (journals (k + 1))) →

@@ -1,21 +1,21 @@
-//! The bytes of a journal that have a name. Offsets and lengths are in bytes.
+//! The layout of a journal. Offsets and lengths are in bytes.
 
-/// The bytes of a header. The first gate stands behind it.
+/// The length of a header. The first gate follows it.
 pub(crate) const HEADER_BYTES: usize = 64;
 
-/// Where a header has the id of its store, 16 bytes.
+/// The offset of the store's id in a header, 16 bytes.
 pub(crate) const ID_AT: usize = 8;
 
-/// Where a header has the number of its store's hives, 4 bytes.
+/// The offset of the number of hives in a header, 4 bytes.
 pub(crate) const HIVES_AT: usize = 24;
 
 /// The gate before a body that counts. A gate of any other byte is closed.
 pub const OPEN_GATE: u8 = 0xc3;
 
-/// The gate that is written where none is to be open.
+/// The gate that is written if none is to be open.
 pub(crate) const CLOSED_GATE: u8 = 0;
 
-/// Where the first gate stands, behind the header.
+/// The offset of the first gate, after the header.
 pub const FIRST_GATE: u64 = 64;
 
 /// The used room of a journal without elements: its header and a gate.
@@ -27,10 +27,10 @@ pub const MOST_BODY_BYTES: u64 = 8_388_608;
 /// The bytes of a body's head: its size (4 bytes), its first number (8) and the count of its elements (4).
 pub(crate) const HEAD_BYTES: u64 = 16;
 
-/// Where a body's head has the number of its first element.
+/// The offset of the first element's number in a body's head.
 pub(crate) const FIRST_NUMBER_AT: usize = 4;
 
-/// Where a body's head has the count of its elements.
+/// The offset of the count of elements in a body's head.
 pub(crate) const COUNT_AT: usize = 12;
 
 /// The bytes of an element's length, with which it begins.

@@ -1,9 +1,9 @@
-//! The commit journal: a file in which accepted changes stand behind gates.
+//! The commit journal: a file that keeps accepted changes after gates.
 //!
-//! Behind a header stand bodies, one for each batch, each behind a gate; the bodies up to the first gate that isn't open
-//! count, and what is behind that gate is free. A batch is written behind the closed gate, with the next closed gate, and
-//! synced; only then its gate is opened, and synced. A trim closes the first gate. So a crash at any moment leaves the
-//! changes before or those after, and what it promises is said so: [`Journal`].
+//! After a header come bodies, one for each batch, each after a gate. The bodies up to the first gate that isn't open
+//! count, and what is after that gate is free. A batch is written after the closed gate, with the next closed gate, and
+//! synced. Only then its gate is opened, and synced. A trim closes the first gate. So a crash at any moment leaves the
+//! changes before or those after; the contracts of [`Journal`] promise that.
 #![tactic(auto)]
 
 mod body;

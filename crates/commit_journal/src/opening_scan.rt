@@ -1,4 +1,4 @@
-//! The opening of a journal: what its file spells.
+//! The opening of a journal: what its file decodes to.
 ghost use Rattle.std.specs.Prelude.{◌≡◌, ◌+◌, ◌<◌, ◌≤◌, ℕ, List, length, take, None, Some, IfOk, IfErr, OnOk};
 ghost use Rattle.std.specs.List.{AllByRecursion};
 ghost use Rattle.crash_model.specs.Promises.{Content, floor, settled, top};
@@ -32,22 +32,22 @@ use refusals::Refusal;
 use std::alloc::Global;
 use uuid::Uuid;
 
-/// A journal that was opened, and those of its changes that are kept.
+/// An opened journal, and those of its changes that are kept.
 #[derive(Drop)]
 pub struct OpenedJournal {
-    /// The journal, which spells changes ([`changes_of`](crate::Journal) to contracts).
+    /// The journal, which decodes to changes ([`changes_of`](crate::Journal) to contracts).
     pub journal: Journal,
-    /// The number below that of the first change that it spells.
+    /// The number before that of the first change that it decodes to.
     pub base: u64,
-    /// The number below that of the first change that is kept.
+    /// The number before that of the first change that is kept.
     pub below: u64,
     /// The changes from there on, numbered without a gap.
     pub elements: Vec<EncodedChange>,
-    /// Of each hive the last of all changes that names it.
+    /// For each hive the last of all changes that names it.
     pub last_changes: LastChangePerHive,
 }
 
-/// Whose a journal is, as its header says.
+/// The store of a journal, by the journal's header.
 #[derive(Drop)]
 pub struct StoreHeader {
     /// The id of the store.
@@ -57,10 +57,10 @@ pub struct StoreHeader {
 }
 
 impl Journal {
-    /// Whose journal the file is: its header alone is read.
+    /// The store of the journal. Its header alone is read.
     ///
-    /// Refused with `JournalDamaged` only where the bytes are no store's journal, with `DiskFault` where the device failed, and
-    /// with `NoMemory`. No file changes.
+    /// Refused with `JournalDamaged` only if the bytes are no store's journal, with `DiskFault` only if the device
+    /// failed, and with `NoMemory`. No file changes.
     pub fn owner<D: Disk>(alloc: Global, disk: &mut D) -> Result<StoreHeader, Refusal>
         ensures store { IfOk result (λ owner. IsStore (record { id = owner.id; hives = owner.hives })) }
         ensures header { IfOk result (λ owner. D.faithful disk.new →
@@ -89,15 +89,16 @@ impl Journal {
         }
     }
 
-    /// Opens the journal of a store: what the file spells, with the journal that goes on from there. Of the changes those from
-    /// the first one on are handed out that some hive lacks, by the hives' own numbers, which are given in their order; a hive
-    /// that is given none lacks each change that names it. The others are let go as they are read: they take no memory.
+    /// Opens the journal of a store: answers what the file decodes to, with the journal that continues from there. The
+    /// changes are handed out from the first one on that some hive lacks, by `numbers`, the hives' own numbers in
+    /// order. A hive without a number lacks each change that names it. The other changes are dropped as they are read:
+    /// they take no memory.
     ///
-    /// The file is synced, and then read in pieces of at most 65,536 bytes, from its beginning to the first gate that isn't
-    /// open. Nothing is allocated by a length that stands in the file before the file is known to have so many bytes.
+    /// The file is synced, and then read in chunks of at most 65,536 bytes, from its beginning to the first gate that
+    /// isn't open. A length in the file leads to an allocation only once the file is known to have that many bytes.
     ///
-    /// Refused with `JournalDamaged` exactly where the bytes are no store's journal, with `DiskFault` where the device
-    /// failed, and with `NoMemory`. No file changes but by the sync.
+    /// Refused with `JournalDamaged` only if the bytes are no store's journal (such bytes are never opened), with
+    /// `DiskFault` only if the device failed, and with `NoMemory`. The sync is the only effect on files.
     pub fn open<D: Disk>(
         alloc: Global,
         disk: &mut D,
@@ -143,7 +144,7 @@ impl Journal {
     }
 }
 
-/// What the journal's file spells, which is at rest.
+/// What the journal's file, which is at rest, decodes to.
 fn read<D: Disk>(alloc: Global, disk: &mut D, numbers: Vec<u64>) -> Result<OpenedJournal, Refusal>
     ensures store { IfOk result (λ opened. IsStore (store_of opened.journal)) }
     ensures choice { IfOk result (λ opened. choice_of opened.journal ≡ settled (record {
@@ -215,7 +216,7 @@ fn read<D: Disk>(alloc: Global, disk: &mut D, numbers: Vec<u64>) -> Result<Opene
     })
 }
 
-/// Reads on to the end of what counts.
+/// Reads to the end of what counts.
 fn scan<D: Disk>(disk: &mut D, buffer: &mut ReadBuffer, reader: &mut Reader) -> Result<(), Refusal>
     requires keeps { ReaderIsSound reader.old }
     requires tied { NumbersAgree reader.old }

@@ -1,7 +1,7 @@
-//! A reading of a journal's bytes behind the header, from left to right: what it has found, and how many bytes it needs next.
+//! Reads a journal's bytes after the header, from left to right: what it has found, and how many bytes it needs next.
 //!
-//! It sees no device. Bytes are handed to it as they come, each time as many as it wants at least; where the file has
-//! fewer, it is no journal. Each element is handed on as it is complete, so that the reading never holds bytes of its own.
+//! It sees no device. Bytes are handed to it as they come, each time at least as many as it wants. If the file has
+//! fewer, it is no journal. Each element is handed on when it is complete, so the reader never keeps bytes of its own.
 ghost use Rattle.std.specs.Prelude.{◌≡◌, ◌+◌, ◌-◌, ◌*◌, ◌<◌, ◌≤◌, ◌^◌, ◌++◌, ◌↔◌, ℕ, List, [], length, take, drop, true, None, IfSome, IfOk, IfErr, OnOk};
 ghost use Rattle.byteorder.specs.Endian.{little_number};
 ghost use Rattle.refusals.specs.Answers.{RefusedFor};
@@ -23,15 +23,15 @@ use refusals::Refusal;
 use refusals::limits::GREATEST_NUMBER;
 use std::alloc::Global;
 
-/// No journal has so much room: each byte of it is in memory once it is read.
+/// The limit of a journal's room: each byte of it is in memory once it is read.
 const MOST_ROOM: u64 = 1 << 63;
 
-/// A body that is read in part.
+/// A body of which a part is read.
 #[derive(Clone, Copy)]
 pub(crate) struct PartialBody {
     /// The number of its first element.
     pub first: u64,
-    /// Its bytes, with its head.
+    /// Its size in bytes, with its head.
     pub size: u64,
     /// The bytes of it that are still to be read.
     left: u64,
@@ -46,13 +46,13 @@ pub(crate) struct PartialBody {
 pub(crate) enum NextField {
     /// A gate.
     Gate,
-    /// The head of a body, behind an open gate.
+    /// The head of a body, after an open gate.
     Head,
     /// The length of a body's next element.
     Size(PartialBody),
-    /// An element of so many bytes, its length with them.
+    /// An element and its size in bytes, its length included.
     Encoding(PartialBody, usize),
-    /// Nothing: the last gate wasn't open, and what is behind it is free.
+    /// Nothing: the last gate wasn't open, and what is after it is free.
     Done,
 }
 
@@ -61,7 +61,7 @@ pub(crate) enum NextField {
 pub(crate) struct Reader {
     alloc: Global,
     hives: u8,
-    /// What the bodies spell that were read whole.
+    /// What the bodies that were read whole decode to.
     pub on_device: Extent,
     /// The elements that were read, in their order.
     pub retention: Retention,
@@ -94,14 +94,14 @@ impl Reader {
         }
     }
 
-    /// All is read that counts.
+    /// All that counts is read.
     pub fn is_done(&self) -> bool
         ensures { (result ≡ true) ↔ (self.now.next ≡ NextField.Done) }
     {
         matches!(self.next, NextField::Done)
     }
 
-    /// How many bytes it wants at least. Where the file has fewer, it spells nothing.
+    /// How many bytes it wants at least. If the file has fewer, it decodes to nothing.
     pub fn wants(&self) -> usize
         requires keeps { ReaderIsSound self.now }
         ensures wants { result ≡ wanted_by self.now.next }
@@ -119,7 +119,7 @@ impl Reader {
 
     /// Takes the next bytes, of which the file has `left` from here on: answers how many were taken.
     ///
-    /// Refused with `JournalDamaged` only where the file spells nothing, and with `NoMemory`.
+    /// Refused with `JournalDamaged` only if the file decodes to nothing, and with `NoMemory`.
     pub fn take(&mut self, bytes: &[u8], left: u64) -> Result<usize, Refusal>
         requires continues { ¬ (self.old.next ≡ NextField.Done) }
         requires there { wanted_by self.old.next ≤ length bytes.now }
@@ -156,7 +156,7 @@ impl Reader {
         }
     }
 
-    /// A gate: behind an open one a body comes.
+    /// A gate: after an open one a body comes.
     fn gate(&mut self, bytes: &[u8])
         requires there { 1 ≤ length bytes.now }
         requires keeps { sound_at self.old.hives self.old.on_device (read_by self.old) NextField.Gate }
@@ -222,7 +222,7 @@ impl Reader {
         })
     }
 
-    /// Whether a body with so many elements from this number on may stand behind what stands.
+    /// Whether a body with `count` elements from the number `first` on may follow the durable content.
     fn may_follow(&self, first: u64, count: u64) -> bool
         ensures { (result ≡ true) ↔ BodyMayFollow GREATEST_NUMBER (content_of self.now.on_device) first count }
     {
@@ -234,7 +234,7 @@ impl Reader {
             && count - 1 <= GREATEST_NUMBER - first
     }
 
-    /// What comes next in a body: an element, or the gate behind it.
+    /// What comes next in a body: an element, or the gate after it.
     fn partial_body(&mut self, partial_body: PartialBody) -> Result<(), Refusal>
         requires elements { ElementsAreSound self.old.hives self.old.on_device
             (take partial_body.start (read_by self.old)) (read_by self.old) }
@@ -264,9 +264,9 @@ impl Reader {
         Ok(())
     }
 
-    /// The end of a body, all of whose elements were read: with it more stands.
+    /// The end of a body, all of whose elements were read: its elements are added.
     ///
-    /// A journal whose elements have more than 2^63 bytes would not find memory for them: it is refused as one that doesn't.
+    /// A journal whose elements have more than 2^63 bytes doesn't fit memory, so it is refused with `NoMemory`.
     fn end(&mut self, partial_body: PartialBody) -> Result<(), Refusal>
         requires none { partial_body.count ≡ 0 }
         requires elements { ElementsAreSound self.old.hives self.old.on_device
@@ -302,7 +302,7 @@ impl Reader {
         Ok(())
     }
 
-    /// The length of an element, which is read again with it: where so many bytes are at hand it is taken.
+    /// The length of an element, which is read again with the element. If the whole element is in memory, it is taken.
     fn size(&mut self, partial_body: PartialBody, bytes: &[u8]) -> Result<usize, Refusal>
         requires there { 4 ≤ length bytes.now }
         requires keeps { sound_at self.old.hives self.old.on_device (read_by self.old) (NextField.Size partial_body) }
@@ -336,7 +336,7 @@ impl Reader {
         self.encodings(partial_body, len, bytes)
     }
 
-    /// An element whose length was read before it was at hand, and with it again.
+    /// An element whose length was read before the element was in memory. The length is read again with it.
     fn sized_element(
         &mut self,
         partial_body: PartialBody,
@@ -371,7 +371,7 @@ impl Reader {
         self.encodings(partial_body, len, bytes)
     }
 
-    /// An element, and those behind it that are at hand whole: answers how many bytes they have.
+    /// An element, and those after it that are whole in memory: answers how many bytes they have.
     fn encodings(
         &mut self,
         partial_body: PartialBody,
@@ -415,7 +415,7 @@ impl Reader {
         }
     }
 
-    /// An element: the part has one less.
+    /// An element: one less is to be read of the body.
     #[inline(always)]
     fn encoding(
         &mut self,
@@ -460,7 +460,7 @@ impl Reader {
 impl PartialBody {
     ghost use Rattle.commit_journal.specs.Reading.{IsNext};
 
-    /// The length of its next element, where that is at hand whole.
+    /// The length of its next element, if that is whole in memory.
     fn whole(&self, bytes: &[u8]) -> Option<usize>
         ensures { IfSome result (λ len. IsNext self.now len × ((len ≤ length bytes.now) ×
             (little_number 4 bytes.now ≡ len))) }

@@ -1,6 +1,6 @@
 //! Which of the changes that are read are kept: those from the first one on that some hive lacks.
 //!
-//! Of the others only what contracts say of them is left, and of each hive the last one that names it.
+//! Of the others only what contracts say of them is left, and for each hive the last one that names it.
 ghost use Rattle.std.specs.Prelude.{◌≡◌, ◌⊎◌, ◌+◌, ◌-◌, ◌<◌, ◌≤◌, ◌^◌, ◌++◌, ◌∷◌, [], ℕ, List, false, true, get_or, length, OnOk, IfOk};
 ghost use Rattle.commit_journal.specs.LastChangePerHive.{names};
 ghost use Rattle.commit_journal.specs.GhostLog.{logged_changes};
@@ -17,13 +17,13 @@ pub(crate) struct Retention {
     numbers: Vec<u64>,
     /// All of them: known to contracts alone.
     read: GhostLog,
-    /// The number of the last one, or that below the first.
+    /// The number of the last one, or the number before the first one's.
     pub last: u64,
-    /// The number below that of the first that is kept, or that of the last one where none is.
+    /// The number before that of the first kept change, or the last change's number if none is kept.
     pub below: u64,
-    /// Those that are kept.
+    /// The kept changes.
     pub elements: Vec<EncodedChange>,
-    /// Of each hive the last one that names it.
+    /// For each hive the last one that names it.
     pub last_changes: LastChangePerHive,
 }
 
@@ -31,7 +31,7 @@ impl Retention {
     ghost use Rattle.commit_journal.specs.Lacking.{Lacks};
     ghost use Rattle.commit_journal.specs.Reading.{IsRetained};
 
-    /// None was read. The hives' own numbers tell what is kept; that of a hive behind them is 0.
+    /// No change was read. The hives' own numbers decide what is kept. A hive without a number has the number 0.
     pub fn new(alloc: Global, hives: u8, numbers: Vec<u64>) -> Result<Retention, AllocError>
         ensures kept { IfOk result IsRetained }
         ensures read { IfOk result (λ retention. logged_changes retention.read ≡ []) }
@@ -49,14 +49,14 @@ impl Retention {
         })
     }
 
-    /// All that were read, as contracts see them.
+    /// All changes that were read, for contracts.
     pub fn ghost_log(&self) -> GhostLog
         ensures { logged_changes result ≡ logged_changes self.now.read }
     {
         self.read.same()
     }
 
-    /// The next one has this number: the one behind the last that was read, if any was.
+    /// The next change has this number. It is the one after the last change that was read, if any was.
     pub fn continue_at(&mut self, first: u64)
         requires kept { IsRetained self.old }
         requires number { 1 ≤ first }
@@ -73,7 +73,7 @@ impl Retention {
         }
     }
 
-    /// One more. It is let go where none was kept, and no hive lacks it.
+    /// One more change. It is dropped if none is kept and no hive lacks it.
     #[inline(always)]
     pub fn push(&mut self, element: EncodedChange) -> Result<(), AllocError>
         requires kept { IsRetained self.old }
@@ -90,8 +90,8 @@ impl Retention {
         self.keep_or_discard(element)
     }
 
-    // a next one where none is kept: it is let go, or the first that is; apart from `push`, since it is read here before it
-    // is moved
+    // a next one if none is kept: it is dropped, or the first that is kept; apart from `push`, since it is read here
+    // before it is moved
     #[inline(never)]
     fn keep_or_discard(&mut self, element: EncodedChange) -> Result<(), AllocError>
         requires kept { IsRetained self.old }
@@ -109,7 +109,7 @@ impl Retention {
         self.keep(element)
     }
 
-    // whether a next one is let go
+    // whether a next one is dropped
     fn is_in_all_hives(&self, element: &EncodedChange) -> bool
         requires room { self.now.last + 1 < 2 ^ 64 }
         ensures none { result ≡ true → length self.now.elements.items ≡ 0 }
@@ -124,7 +124,7 @@ impl Retention {
         all_hives_have(&self.numbers, self.last + 1, element)
     }
 
-    // a next one is let go
+    // a next one is dropped
     fn discard(&mut self, element: &EncodedChange)
         requires kept { IsRetained self.old }
         requires room { self.old.last + 1 < 2 ^ 64 }
@@ -158,7 +158,7 @@ impl Retention {
         ensures hives { length self.new.last_changes.last.items ≡ length self.old.last_changes.last.items }
     {
         let number = self.last + 1;
-        // it is read where it stays: before that it needs no place in memory
+        // it is read after it is moved into the list: before that it needs no place in memory
         let place = self.elements.len();
         self.read.then(&element);
         self.elements.push(element)?;
@@ -168,7 +168,7 @@ impl Retention {
     }
 }
 
-// whether each hive that one of the operations of a change is on holds it, by the change's number and the hives' own
+// whether each hive that an operation of the change is on has the change, by its number and the hives' own
 fn all_hives_have(numbers: &[u64], number: u64, change: &EncodedChange) -> bool
     ensures yes { result ≡ true → (i : ℕ) → get_or numbers.now i 0 < number → names i change.now.ops ≡ false }
     ensures no { result ≡ false → (i : ℕ) × (get_or numbers.now i 0 < number) × (names i change.now.ops ≡ true) }

@@ -6,7 +6,7 @@ use Rattle.reg_tree.specs.declared.op.Op.{Op}
 use Rattle.reg_tree.specs.Operations.{hive_of}
 use Rattle.change_codec.proofs.Taken.{all_push}
 
--- Of a change's hives these are left, and each of the others is one of so many.
+-- Of a change's hives these are left, and each of the others is one of `many` hives.
 abbrev pub AreThere : ℕ → List ℕ → List ℕ → Type 0
 AreThere many hives left = (front : List ℕ) × (hives ≡ front ++ left) × AllByRecursion (λ hive. hive < many) front
 

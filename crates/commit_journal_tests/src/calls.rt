@@ -13,7 +13,7 @@ use test_support::Fault;
 use uuid::Uuid;
 
 impl JournalDriver {
-    /// Creates the journal of a store of so many hives.
+    /// Creates the journal of a store of `hives` hives.
     pub fn create(&mut self, hives: &str, wanted: &[&str]) -> Result<(), Fault> {
         let hives = number(hives)?;
         if hives == 0 || hives > MOST_HIVES as u64 {
@@ -42,7 +42,7 @@ impl JournalDriver {
         }
     }
 
-    /// Opens the journal: the number of hives of its store, the number below the first element, and the used room.
+    /// Opens the journal: the number of hives of its store, the number before the first element, and the used room.
     pub fn open(&mut self, wanted: &[&str]) -> Result<(), Fault> {
         match self.reopened()? {
             Ok(
@@ -73,7 +73,7 @@ impl JournalDriver {
         }
     }
 
-    /// So many steps as answers are wanted.
+    /// As many steps as answers are wanted.
     pub fn steps(&mut self, wanted: &[&str]) -> Result<(), Fault> {
         for word in wanted {
             let came = self.step()?;
@@ -105,7 +105,7 @@ impl JournalDriver {
         }
     }
 
-    /// So many steps of a trim as answers are wanted.
+    /// As many steps of a trim as answers are wanted.
     pub fn trims(&mut self, wanted: &[&str]) -> Result<(), Fault> {
         for word in wanted {
             let came = self.trim()?;

@@ -24,7 +24,7 @@ pub(crate) struct JournalDriver {
     pub handed: Vec<EncodedChange>,
     /// What the last opening answered.
     pub opened: Vec<EncodedChange>,
-    /// Whether each call that takes memory is looked at, before it and behind it.
+    /// Whether each call that takes memory is checked, before it and after it.
     pub is_watched: bool,
     /// Whether a call of the journal was refused memory.
     pub was_refused: bool,
@@ -58,7 +58,7 @@ impl JournalDriver {
         self.was_refused
     }
 
-    /// Plays a line: its words before the `>`, and those behind it, which say what has to come.
+    /// Plays a line: its words before the `>`, and those after it, which say what has to come.
     pub fn play(&mut self, asked: &[&str], wanted: &[&str]) -> Result<(), Fault> {
         let Some((verb, words)) = asked.split_first() else {
             return Err(Fault::NotUnderstood);
@@ -74,7 +74,7 @@ impl JournalDriver {
         }
     }
 
-    /// A line of words that spell bytes.
+    /// A line of words that give bytes.
     fn give(&mut self, verb: &str, words: &[&str]) -> Result<(), Fault> {
         match (verb, words) {
             ("let", [name, words @ ..]) => self.names.name(name, words),
@@ -134,7 +134,7 @@ impl JournalDriver {
         done(self.disk.write_at(0, 0, &bytes).is_ok() && self.disk.sync(0).is_ok())
     }
 
-    /// The k-th call that changes, and all behind it, fail.
+    /// The k-th call that changes, and all after it, fail.
     fn stop(&mut self, k: &str) -> Result<(), Fault> {
         let k = number(k)?;
         if k > 0 {
@@ -162,7 +162,7 @@ impl JournalDriver {
         Ok(())
     }
 
-    /// Hands in the elements of which words spell the texts.
+    /// Hands in the elements whose encodings the words give.
     fn hand(&mut self, words: &[&str]) -> Result<(), Fault> {
         let bytes = self.names.bytes(words)?;
         self.handed = elements_of(self.alloc, &bytes)?;
@@ -178,7 +178,7 @@ fn done(is_done: bool) -> Result<(), Fault> {
     }
 }
 
-/// The elements of which bytes are the texts, one behind another.
+/// The elements whose encodings the bytes are, one after another.
 fn elements_of(alloc: Global, bytes: &[u8]) -> Result<Vec<EncodedChange>, Fault> {
     let mut elements = Vec::new(alloc);
     let mut rest = bytes;

@@ -8,7 +8,7 @@ use test_support::Fault;
 /// The bytes that one reading call asks for.
 const CHUNK_BYTES: usize = 65_536;
 
-/// The journal's file, and the numbers of the journal where there is one.
+/// The journal's file, and the numbers of the journal if there is one.
 #[derive(Drop)]
 pub(crate) struct Look {
     file: Vec<u8>,
@@ -16,7 +16,7 @@ pub(crate) struct Look {
 }
 
 impl JournalDriver {
-    /// From here on each call of the journal that takes memory is looked at, on a disk that takes none for so many bytes.
+    /// From here on each call of the journal that takes memory is checked, on a disk that takes none for so many bytes.
     pub fn watch(&mut self, bytes: &str) -> Result<(), Fault> {
         let bytes = number(bytes)?;
         self.disk.room(2, bytes as usize, 64)?;
@@ -24,7 +24,7 @@ impl JournalDriver {
         Ok(())
     }
 
-    /// What is there before a call, where calls are watched.
+    /// What is there before a call, if calls are watched.
     pub fn look(&self) -> Result<Option<Look>, Fault> {
         if self.is_watched {
             Ok(Some(self.look_now()?))
@@ -58,13 +58,13 @@ impl JournalDriver {
         }
     }
 
-    /// Sees that the journal's file has the bytes that words spell.
+    /// Checks that the journal's file has the bytes of the words.
     pub fn file(&mut self, wanted: &[&str]) -> Result<(), Fault> {
         let wanted = self.names.bytes(wanted)?;
         same(&self.left_of(Tear::New, 0)?, &wanted)
     }
 
-    /// Sees that the last opening answered the elements of which words spell the texts.
+    /// Checks that the last opening answered the elements whose encodings the words give.
     pub fn opened(&mut self, wanted: &[&str]) -> Result<(), Fault> {
         let wanted = self.names.bytes(wanted)?;
         let mut encodings = Vec::new(self.alloc);
@@ -78,7 +78,7 @@ impl JournalDriver {
         }
     }
 
-    /// Reads the journal's file to its end, piece by piece: how many bytes came.
+    /// Reads the journal's file to its end, chunk by chunk: how many bytes came.
     pub fn read(&mut self, wanted: &[&str]) -> Result<(), Fault> {
         let mut piece = vec![in self.alloc; 0u8; CHUNK_BYTES]?;
         let len = self.disk.len(0)?;

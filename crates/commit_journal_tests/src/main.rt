@@ -1,30 +1,30 @@
 //! Plays lines about the disk in memory and a journal on it, and sees that what comes is what each line says.
 //!
-//! Lines come on standard input. One that has nothing, or begins with `#`, says nothing. BYTES are words, each
-//! hexadecimal digits or a name, and behind either may stand `*` and how many times. WANTED is what has to come.
+//! Lines come on standard input. A line that is empty or begins with `#` says nothing. BYTES are words, each
+//! hexadecimal digits or a name, and after either there may be `*` and how many times. WANTED is what has to come.
 //!
 //! | line | |
 //! |---|---|
 //! | `let NAME BYTES` | gives the bytes a name |
 //! | `disk BYTES` | a new disk; its journal's file has these bytes, and they are synced |
 //! | `create HIVES > WANTED` | creates the journal of the store 0102..10: `Done`, or a refusal's name |
-//! | `open > WANTED` | opens it: the number of hives, the number below the first element and the used room, or a refusal's name |
-//! | `opened > BYTES` | the elements that the last opening answered, by their texts |
-//! | `hand BYTES` | the elements that are handed in at each step from here on, by their texts |
-//! | `step > WANTED..` | so many steps: what each answers |
-//! | `trim > WANTED..` | so many steps of a trim |
+//! | `open > WANTED` | opens it: the number of hives, the number before the first element and the used room, or a refusal's name |
+//! | `opened > BYTES` | the elements that the last opening answered, by their encodings |
+//! | `hand BYTES` | the elements that are handed in at each step from here on, by their encodings |
+//! | `step > WANTED..` | a step for each answer: what each answers |
+//! | `trim > WANTED..` | a step of a trim for each answer |
 //! | `numbers > USED LAST` | the used room and the last number |
 //! | `file > BYTES` | the bytes of the journal's file, as a read gives them |
-//! | `stop K`, `fail K` | the K-th changing call and all behind it fail; the K-th call fails alone |
+//! | `stop K`, `fail K` | the K-th changing call and all after it fail; the K-th call fails alone |
 //! | `crash old`, `crash new`, `crash torn` | what a crash leaves is the disk, and no journal is there |
 //! | `write FILE AT BYTES > WANTED`, `cut FILE LENGTH > WANTED`, `sync FILE > WANTED` | a call of the disk: `Done`, or `DiskFault` |
 //! | `length FILE > LENGTH`, `get FILE AT > BYTES` | a file's length; what a read of at most four bytes gives |
 //! | `left old FILE > BYTES`, and so `new` and `torn` | what a crash now would leave of a file |
-//! | `read > LENGTH` | reads the journal's file to its end, piece by piece |
+//! | `read > LENGTH` | reads the journal's file to its end, chunk by chunk |
 //! | `watch ROOM` | from here on a call that is refused memory has to leave file and journal as they were, and is made again; the disk's own calls take no memory within that room |
 //! | `timed LINE` | plays the line and prints the processor time that it took, in microseconds |
 //!
-//! The status is 0 where each line came as it says, 1 where memory was refused, and 2 where something else came.
+//! The status is 0 if each line came as it says, 1 if memory was refused, and 2 if something else came.
 #![tactic(auto)]
 
 mod calls;
@@ -79,7 +79,7 @@ fn status(is_right: bool, was_refused: bool) -> u8 {
     }
 }
 
-/// Plays a line: what stands behind a `>` says what has to come.
+/// Plays a line: what follows a `>` says what has to come.
 fn play<R: Print + CpuClock>(
     rt: &R,
     alloc: Global,

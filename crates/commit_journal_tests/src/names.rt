@@ -1,4 +1,4 @@
-//! Bytes as lines spell them.
+//! Bytes as lines write them.
 use std::alloc::Global;
 use std::collections::BTreeMap;
 use test_support::Fault;
@@ -19,7 +19,7 @@ impl NamedBytes {
         }
     }
 
-    /// Gives a name to the bytes that words spell.
+    /// Gives a name to the bytes of the words.
     pub fn name(&mut self, name: &str, words: &[&str]) -> Result<(), Fault> {
         let bytes = self.bytes(words)?;
         let name = String::from_str(self.alloc, name)?;
@@ -27,7 +27,7 @@ impl NamedBytes {
         Ok(())
     }
 
-    /// The bytes that words spell, one behind another.
+    /// The bytes of the words, one after another.
     pub fn bytes(&self, words: &[&str]) -> Result<Vec<u8>, Fault> {
         let mut bytes = Vec::new(self.alloc);
         for word in words {
@@ -36,8 +36,8 @@ impl NamedBytes {
         Ok(bytes)
     }
 
-    /// Puts the bytes that a word spells behind others: those of a name, or of hexadecimal digits, as often as a number
-    /// behind a `*` says.
+    /// Appends the bytes of a word to others: those of a name, or of hexadecimal digits, as often as a number after a
+    /// `*` says.
     fn append(&self, word: &str, bytes: &mut Vec<u8>) -> Result<(), Fault> {
         let (once, times) = match word.split_once("*") {
             Some((once, times)) => (once, number(times)?),
@@ -54,7 +54,7 @@ impl NamedBytes {
     }
 }
 
-/// Puts bytes behind others, so many times.
+/// Appends bytes to others, `times` times.
 fn repeat(once: &[u8], times: u64, bytes: &mut Vec<u8>) -> Result<(), Fault> {
     for _ in 0..times {
         bytes.extend_from_slice(once)?;
@@ -62,7 +62,7 @@ fn repeat(once: &[u8], times: u64, bytes: &mut Vec<u8>) -> Result<(), Fault> {
     Ok(())
 }
 
-/// The number that decimal digits spell.
+/// The number that decimal digits write.
 pub(crate) fn number(word: &str) -> Result<u64, Fault> {
     match word.parse::<u64>() {
         Ok(value) => Ok(value),

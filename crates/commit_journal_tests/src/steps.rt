@@ -1,4 +1,4 @@
-//! Steps of a journal, after a look at whether they may be made: what the engine knows, a test has to ask.
+//! Steps of a journal, after a check if they may be made: a test has to check what the engine knows.
 ghost use Rattle.std.specs.Prelude.{◌≡◌, ◌⊎◌, ◌+◌, ◌<◌, ◌≤◌, ℕ, length, true, IfSome, Some, None};
 ghost use Rattle.std.specs.List.{AllByRecursion};
 ghost use Rattle.crash_model.specs.Promises.{nothing, top};
@@ -25,7 +25,7 @@ fn is_on_hives(change: &EncodedChange, hives: u8) -> bool
     true
 }
 
-/// Whether the journal may be handed these elements behind what stands.
+/// Whether the journal may be handed these elements after the durable content.
 pub fn may_hand(journal: &Journal, handed: &[EncodedChange]) -> bool
     ensures { result ≡ true → IsHanded (store_of journal.now).hives
         (65 + room_of (choice_of journal.now).now.elements)
@@ -50,7 +50,7 @@ pub fn may_hand(journal: &Journal, handed: &[EncodedChange]) -> bool
     room <= MOST_JOURNAL_BYTES || handed.is_empty()
 }
 
-/// One step with these elements behind what stands; nothing where the journal may not be handed them.
+/// One step with these elements after the durable content; `None` if the journal may not be handed them.
 pub fn step<D: Disk>(
     journal: &mut Journal,
     disk: &mut D,
@@ -63,7 +63,7 @@ pub fn step<D: Disk>(
     Some(journal.step(disk, first, handed))
 }
 
-/// One step of a trim; nothing where the journal may not be trimmed.
+/// One step of a trim; `None` if the journal may not be trimmed.
 pub fn trim_step<D: Disk>(
     journal: &mut Journal,
     disk: &mut D,
@@ -74,7 +74,7 @@ pub fn trim_step<D: Disk>(
     Some(journal.trim_step(disk))
 }
 
-/// Whether a trim goes on, or an element stands and nothing is on its way.
+/// Whether a trim is under way, or an element is durable and nothing is under way.
 fn may_trim(journal: &Journal) -> bool
     ensures some { result ≡ true → (choice_of journal.now).next ≡ None →
         0 < length (choice_of journal.now).now.elements }

@@ -10,11 +10,11 @@ use Rattle.crash_lab.specs.Experiments.{Flushes}
 one_fewer : (most made : ℕ) → made < most → most - made ≡ suc (most - (made + 1))
 one_fewer most made below = omega (arith, below)
 
--- a step that isn't told as `more` is the last
+-- a step that isn't answered with `more` is the last
 pub last_step : (most made hive : ℕ) (old new : Script) (reported : ReplyLine) → made < most → Asks old (event.FlusherStep hive) reported new → reported ≢ reply.StepMore → Flushes (most - made) old hive reported new
 last_step most made hive old new reported below asked other = subst (λ left. Flushes left old hive reported new) (sym (one_fewer most made below)) (inl (asked, other))
 
--- one that is goes before others
+-- a step that is answered with `more` goes before others
 pub step_before : (most made hive : ℕ) (old mid new : Script) (reported : ReplyLine) → made < most → Asks old (event.FlusherStep hive) reply.StepMore mid → Flushes (most - (made + 1)) mid hive reported new → Flushes (most - made) old hive reported new
 step_before most made hive old mid new reported below asked on = subst (λ left. Flushes left old hive reported new) (sym (one_fewer most made below)) (inr (mid, asked, on))
 

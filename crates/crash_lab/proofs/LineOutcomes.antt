@@ -1,4 +1,4 @@
--- The run of a script in a laboratory, turn by turn.
+-- The run of a script in a laboratory, line by line.
 use Rattle.std.proofs.Common.{◌≡◌, ℕ, ◌+◌, Bool, List, [], ◌∷◌, ◌++◌, Option, Some, None, refl, ap, inl, inr}
 use Rattle.std.specs.Io.KnownBytes.{Appends}
 use Rattle.store_model.specs.Machine.{trees_now}
@@ -28,7 +28,7 @@ stops_wrong old number known rest before after line status taken none wrong writ
 pub ends_here : (old : LabState) (number : ℕ) (known before after : Option (List ℕ)) (end_of_script : EndOfScript) (text : List ℕ) (status : Status) → WereRead known [] (Some end_of_script) → Ends end_of_script text status → Appends before after text → IsExperimentOn old number known before after status
 ends_here old number known before after end_of_script text status read how written = ([], Some end_of_script, text, read, how, written)
 
--- a line was answered, and the run goes on
+-- a line was answered, and the run continues
 pub continues : (old new : LabState) (number : ℕ) (known rest before mid after : Option (List ℕ)) (refused : Bool) (status : Status)
     → OutcomeOfLine old number known before (Replied refused) new rest mid → IsExperimentOn new (number + 1) rest mid after status
     → IsExperimentOn old number known before after (with_refusal refused status)

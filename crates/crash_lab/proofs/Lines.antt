@@ -10,7 +10,7 @@ use Rattle.crash_lab.specs.Experiments.{AnswersLine, following_line}
 use Rattle.crash_lab.specs.declared.reply.LabReply.{LabReply}
 use Rattle.crash_lab.specs.declared.reply.LabReply.TheVariants.{OneLine}
 
--- a line of other scripts is answered as theirs, and nothing is asked of the device
+-- a line of other scripts gets their reply, and nothing is asked of the device
 pub answered_as_theirs : (old new : LabState) (line : Line) (reported : ReplyLine) → AnswersOf old.script line reported new.script → new.asked ≡ old.asked
     → (following_line (Some line) ≡ Some line) × AnswersLine old line (OneLine reported) new
 answered_as_theirs old new (Hives count) reported is asked = absurd is
@@ -27,7 +27,7 @@ answered_as_theirs old new (Outcome label) reported is asked = (refl, (is, asked
 answered_as_theirs old new Flush reported is asked = (refl, (is, asked))
 answered_as_theirs old new (Lab line) reported is asked = absurd is
 
--- what is known behind a line, whichever it is, is so of its answer too
+-- what is known after a line, whichever it is, holds of its answer too
 pub also_kept : (none line : Type 0) (Answers : LabReply → Type 0) (kept : Type 0) (reported : Option LabReply) → MatchOption reported none (λ reported. line × Answers reported) → kept → MatchOption reported none (λ reported. line × (Answers reported × kept))
 also_kept none line Answers kept None said is = said
 also_kept none line Answers kept (Some reported) said is = (said.0, (said.1, is))

@@ -1,4 +1,4 @@
--- Why nothing opens behind a loss of power.
+-- Why nothing opens after a loss of power.
 use Rattle.std.proofs.Common.{◌≡◌, ◌≢◌, ℕ, ◌∙◌, inl, inr, sym, subst}
 use Rattle.disk_model.specs.FileState.{FileState}
 use Rattle.disk_model.specs.declared.tear.Tear.{Tear}
@@ -8,7 +8,7 @@ use Rattle.refusals.specs.declared.refusal.Refusal.TheVariants.{DiskFault, NoMem
 use Rattle.script_runner.specs.Running.{MayNotOpen}
 use Rattle.crash_lab.specs.Crashes.{IsLeftBy, MayNotReopen}
 
--- no refusal that tells of the files is that of a device that fails
+-- no refusal of files is that of a device that fails
 tells_no_fault : (why : Refusal) → IsFileRefusal why → why ≢ DiskFault
 tells_no_fault why tells fault = subst IsFileRefusal fault tells
 
@@ -20,7 +20,7 @@ IsOther why = Unit {0}
 wants_no_fault : NoMemory ≢ DiskFault
 wants_no_fault same = subst IsOther same tt
 
--- a device that failed found no memory; else it is told what is told of the files that are left
+-- a device that failed found no memory; else the refusal of the files that are left is reported
 pub stays_shut : (tear : Tear) (files left : ℕ → FileState) (failed : Type 0) (why reported : Refusal) → IsLeftBy tear files left → MayNotOpen failed (Unit {0}) (seen_in left) why
     → (why ≡ DiskFault → reported ≡ NoMemory) → (why ≢ DiskFault → reported ≡ why) → MayNotReopen tear files reported
 stays_shut tear files left failed why reported by (inl wanting) fault other = inl (other (λ is. wants_no_fault (sym wanting ∙ is)) ∙ wanting)

@@ -14,11 +14,11 @@ use Rattle.script_runner.specs.Running.{IsOpenedOn, session_0}
 abbrev pub IsLeftBy : Tear → (ℕ → FileState) → (ℕ → FileState) → Type 0
 IsLeftBy tear files left = (f : ℕ) → IsCrashOf tear (files f) (left f)
 
--- The files that are left recover this number, at which the machine begins with the trees that they recover, and with the room that
--- their journal takes.
+-- The files that are left recover this number. The machine begins at it with the trees that the files recover, and with
+-- the room that their journal takes.
 abbrev pub OpensAfterCrash : Tear → (ℕ → FileState) → ℕ → Machine → Type 0
 OpensAfterCrash tear files number machine = (left : ℕ → FileState) × IsLeftBy tear files left × ((store : Store) × IsOpenedOn ⊤ (seen_in left) store number session_0 machine)
 
--- Why nothing opens: memory was wanting, or the files that are left recover nothing, of which the refusal tells.
+-- Why nothing opens: memory was lacking, or the files that are left recover nothing, as the refusal says.
 abbrev pub MayNotReopen : Tear → (ℕ → FileState) → Refusal → Type 0
 MayNotReopen tear files why = (why ≡ NoMemory) ⊎ ((left : ℕ → FileState) × IsLeftBy tear files left × IsNoStore ⊤ (seen_in left) why)

@@ -1,4 +1,4 @@
--- What the lines of a laboratory ask, and what they are answered.
+-- What the lines of a laboratory ask, and the replies to them.
 use Rattle.std.specs.Prelude.{◌≡◌, ◌≢◌, ◌⊎◌, ℕ, zero, suc, ◌-◌, ◌^◌, Bool, false, List, [], ◌∷◌, ◌++◌, ◌+◌, Option, Some, None}
 use Rattle.disk_model.specs.declared.tear.Tear.{Tear}
 use Rattle.disk_model.specs.declared.tear.Tear.TheVariants as tear
@@ -24,17 +24,17 @@ use Rattle.crash_lab.specs.Crashes.{MayNotReopen, OpensAfterCrash}
 use Rattle.crash_lab.specs.declared.reply.LabReply.{LabReply}
 use Rattle.crash_lab.specs.declared.reply.LabReply.TheVariants.{OneLine, Opened}
 
--- `hives` stands on a script's first line alone; any other line may stand behind it
+-- `hives` is a script's first line alone; any other line may follow it
 abbrev pub following_line : Option Line → Option Line
 following_line None = None
 following_line (Some (Hives count)) = None
 following_line (Some line) = Some line
 
--- the line that the bytes of any further line spell
+-- the line of the bytes of any further line
 abbrev pub line_asked : List ℕ → Option Line
 line_asked bytes = following_line (line_of bytes)
 
--- the script asks for what is told, and nothing is asked of the device
+-- the script asks for what is reported, and nothing is asked of the device
 abbrev pub Replies : (ReplyLine → Script → Type 0) → LabState → LabReply → LabState → Type 0
 Replies answers old (OneLine reported) new = answers reported new.script × (new.asked ≡ old.asked)
 Replies answers old (Opened number) new = ⊥
@@ -43,7 +43,8 @@ Replies answers old (Opened number) new = ⊥
 abbrev pub Accepts : Script → List ℕ → ReplyLine → Script → Type 0
 Accepts old label reported new = IsLabelled (old.labels label) (λ tx. Asks old (event.CommitAccept old.session tx old.moment) reported new) old reported new
 
--- Steps of a hive's flush, so many at most: each but the last is told as `more`, and the last one, which is not, is the reply.
+-- Steps of a hive's flush, at most the given number: each but the last is answered with `more`, and the last, which is
+-- not, is the reply.
 abbrev pub Flushes : ℕ → Script → ℕ → ReplyLine → Script → Type 0
 Flushes zero old hive reported new = (reported ≡ reply.StepMore) × (new ≡ old)
 Flushes (suc left) old hive reported new =
@@ -54,7 +55,7 @@ Flushes (suc left) old hive reported new =
 abbrev pub most_steps : ℕ
 most_steps = 2 ^ 64 - 1
 
--- a hive's flush, up to the step that is not told as `more`
+-- a hive's flush, up to the step that is not answered with `more`
 pub record IsFlushedWhole (old : Script) (hive : ℕ) (reported : ReplyLine) (new : Script) : Type 0 where
   pub steps : Flushes most_steps old hive reported new
 
@@ -64,8 +65,8 @@ tear_of crash.Old = tear.Old
 tear_of crash.New = tear.New
 tear_of crash.Torn = tear.Torn
 
--- A store was opened behind a loss of power: session 0 is open and current, no label names anything, the moment is the one before,
--- and nothing is asked of the new disk's device.
+-- A store was opened after a loss of power: session 0 is open and current, no label names anything, the moment is the
+-- one before, and nothing is asked of the new disk's device.
 pub record Reopens (at : Tear) (old : LabState) (number : ℕ) (new : LabState) : Type 0 where
   pub opens : OpensAfterCrash at old.files number new.script.machine
   pub script_is : new.script ≡ record (script_at new.script.machine) { moment = old.script.moment }
@@ -77,7 +78,7 @@ Crashes at old (Opened number) new = Reopens at old number new
 Crashes at old (OneLine (reply.Refused why)) new = MayNotReopen at old.files why × (new ≡ old)
 Crashes at old (OneLine reported) new = ⊥
 
--- From old, a line that only a laboratory takes may be answered this, and leave new.
+-- From old, a line that only a laboratory takes may get this reply, and leave new.
 abbrev pub Experiments : LabState → LabLine → LabReply → LabState → Type 0
 Experiments old (Accept label) reported new = Replies (Accepts old.script label) old reported new
 Experiments old JournalStep reported new = Replies (Asks old.script event.JournalStep) old reported new
@@ -88,7 +89,7 @@ Experiments old (StopAt call) reported new = (reported ≡ OneLine reply.Done) �
 Experiments old (FailAt call) reported new = (reported ≡ OneLine reply.Done) × (new ≡ record old { asked = record old.asked { fail = Some call } })
 Experiments old (Crash at) reported new = Crashes (tear_of at) old reported new
 
--- the same of any line: those of other scripts are answered as theirs
+-- the same of any line: those of other scripts get their replies
 abbrev pub AnswersLine : LabState → Line → LabReply → LabState → Type 0
 AnswersLine old (Lab line) reported new = Experiments old line reported new
 AnswersLine old line reported new = Replies (Answers old.script line) old reported new

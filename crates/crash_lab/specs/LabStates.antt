@@ -27,12 +27,12 @@ files_of disk f = states disk.past disk.files.items (length (earlier disk.past))
 abbrev pub lab_state_of : Laboratory → LabState
 lab_state_of laboratory = record { script = script_of laboratory.interpreter; files = files_of (engine_of laboratory.interpreter).disk; asked = laboratory.device.asked }
 
--- Whatever a loss of power leaves of the files, with honest first sectors, recovers one number, not below the durable one and not
--- above the last, and the trees after the accepted changes up to it.
+-- Whatever a loss of power leaves of the files, with honest first sectors, recovers one number and the trees after the
+-- accepted changes up to it. The number is not below the durable one and not above the last.
 abbrev pub CrashesAreSafe : LabState → Type 0
 CrashesAreSafe lab_state = (store : Store) × IsSafe store lab_state.script.machine lab_state.files
 
--- a laboratory that has made its store, of so many new hives
+-- a laboratory that has made its store, of `hives` new hives
 pub record IsNew (hives : ℕ) (lab_state : LabState) : Type 0 where
   pub script_is : lab_state.script ≡ fresh_script hives
   pub asked_is : lab_state.asked ≡ nothing_asked

@@ -19,8 +19,8 @@ use Rattle.crash_lab.specs.declared.reply.LabReply.{LabReply}
 use Rattle.crash_lab.specs.declared.lab_run.LabLineOutcome.{LabLineOutcome}
 use Rattle.crash_lab.specs.declared.lab_run.LabLineOutcome.TheVariants.{Over, Replied}
 
--- From old, at the line of this number, the lines and the way that reading ended print this text, and end with this status: each
--- line is answered in turn, up to one that is not understood.
+-- From old, at the line of this number, the lines and the way that reading ended print this text, and end with this
+-- status: each line is answered in turn, up to one that is not understood.
 abbrev pub RunsOn : LabState → ℕ → List (List ℕ) → Option EndOfScript → List ℕ → Status → Type 0
 RunsOn old number [] end_of_script text status = EndsAs end_of_script text status
 RunsOn old number (line ∷ lines) end_of_script text status =
@@ -49,7 +49,7 @@ abbrev pub IsExperimentOn : LabState → ℕ → Option (List ℕ) → Option (L
 IsExperimentOn old number known before after status =
     (lines : List (List ℕ)) × (end_of_script : Option EndOfScript) × (text : List ℕ) × WereRead known lines end_of_script × RunsOn old number lines end_of_script text status × Appends before after text
 
--- one turn of a run: a line was answered, or the run is over
+-- one line of a run: a line was answered, or the run is over
 abbrev pub OutcomeOfLine : LabState → ℕ → Option (List ℕ) → Option (List ℕ) → LabLineOutcome → LabState → Option (List ℕ) → Option (List ℕ) → Type 0
 OutcomeOfLine old number known before (Over status) new rest after = IsExperimentOn old number known before after status
 OutcomeOfLine old number known before (Replied refused) new rest after =

@@ -6,7 +6,8 @@ use disk_model::Plan;
 use std::alloc::{AllocError, Global};
 use std::sync::Arc;
 
-/// What was asked of a device since its disk was made. Calls are counted from 1, the one behind the line that asked.
+/// What was asked of a device since its disk was made. Calls are counted from 1, the first call after the line that
+/// asked.
 #[derive(Clone, Copy)]
 pub(crate) struct Asked {
     /// Which of the writes, cuts and syncs it was to stop at.
@@ -23,7 +24,7 @@ pub(crate) struct Device {
 }
 
 impl Device {
-    /// A device of which nothing was asked. Refused for want of memory alone.
+    /// A device of which nothing was asked. Refused only for lack of memory.
     pub(crate) fn new(alloc: Global) -> Result<Device, AllocError>
         ensures { IfOk result (λ device. device.asked ≡ nothing_asked) }
     {

@@ -10,7 +10,7 @@ use std::alloc::{AllocError, Global};
 use std::io;
 use std::io::{BufRead, Write};
 
-/// What one turn of a run came to.
+/// The outcome of one line of a run.
 enum LabLineOutcome {
     /// A line was answered.
     Replied {
@@ -24,12 +24,12 @@ enum LabLineOutcome {
     },
 }
 
-/// Runs a script over a store in memory, whose power may go, and writes the replies to its lines, in order, each as soon as its line is
-/// read. No more of the script is held than one line.
+/// Runs a script over a store in memory, whose power may go. Writes the replies to its lines, in order, each as soon as
+/// its line is read. Only one line of the script is in memory at a time.
 ///
-/// The lines are those of [`play`](script_runner::play), and those of a laboratory beside: a single step, a device that is to stop or
-/// fail, a loss of power. Behind a loss of power what is left is opened, and its number and trees are written; where it can't be
-/// opened, why is told, and nothing has changed.
+/// The lines are those of [`play`](script_runner::play), and those of a laboratory: a single step, a device that is to
+/// stop or fail, a loss of power. After a loss of power what is left is opened, and its number and trees are written.
+/// If it can't be opened, the reason is written, and nothing has changed.
 ///
 /// `Err` says that a write failed, which ends the run; the program then ends with the status of a refusal.
 pub fn lab<R: BufRead, W: Write>(
@@ -83,7 +83,7 @@ fn go_on<R: BufRead, W: Write>(
             LabLineOutcome::Over { status } => return Ok(status.after(has_refusal)),
         }
     }
-    // a script of so many lines isn't read on
+    // a script of so many lines isn't read further
     let status = end(writer, EndOfScript::Broken)?;
     Ok(status.after(has_refusal))
 }

@@ -25,7 +25,7 @@ pub(crate) struct Laboratory {
 }
 
 impl Drop for Laboratory {
-    // one drop for all that own a laboratory, whose proofs see no more of it than that
+    // one drop for all that own a laboratory, whose proofs see no more of it than this contract
     fn drop(self) {
         let Laboratory {
             alloc: _,
@@ -36,8 +36,8 @@ impl Drop for Laboratory {
 }
 
 impl Laboratory {
-    /// The laboratory of the script whose first line these bytes are; or nothing where they are no such line. Refused for want of
-    /// memory alone.
+    /// The laboratory of the script whose first line these bytes are; or `None` if they are no such line. Refused only
+    /// for lack of memory.
     pub(crate) fn begin(alloc: Global, bytes: &[u8]) -> Result<Option<Laboratory>, AllocError>
         ensures none { IfOk result (λ made. IfNone made (hives_asked bytes.now ≡ None)) }
         ensures some { IfOk result (λ made. IfSome made (λ laboratory. (hives : ℕ)
@@ -65,8 +65,8 @@ impl Laboratory {
         self.interpreter.engine().trees()
     }
 
-    /// Answers a further line of the script, or nothing where the bytes are no such line. Memory is refused only for reading the
-    /// line, before anything is asked.
+    /// Answers a further line of the script, or `None` if the bytes are no such line. Memory is refused only for
+    /// reading the line, before anything is asked.
     pub(crate) fn reply_to(&mut self, bytes: &[u8]) -> Result<Option<LabReply>, AllocError>
         ensures none { IfOk result (λ made. IfNone made (line_asked bytes.now ≡ None)) }
         ensures some { IfOk result (λ made. IfSome made (λ reported. (asked : AnyLine)
@@ -80,7 +80,7 @@ impl Laboratory {
         }
     }
 
-    // answers a line, or nothing where it is a script's first; what a loss of power would leave then is known
+    // answers a line, or `None` if it is a script's first; what a loss of power would leave then is known
     fn answer(&mut self, line: Line) -> Option<LabReply>
         ensures { MatchOption result (following_line (Some line) ≡ None)
             (λ reported. (following_line (Some line) ≡ Some line)
@@ -91,7 +91,7 @@ impl Laboratory {
         reported
     }
 
-    // the reply to a line, or nothing where it is a script's first
+    // the reply to a line, or `None` if it is a script's first
     fn reply(&mut self, line: Line) -> Option<LabReply>
         ensures { MatchOption result (following_line (Some line) ≡ None)
             (λ reported. (following_line (Some line) ≡ Some line)
@@ -130,7 +130,7 @@ impl Laboratory {
         }
     }
 
-    // makes steps of a hive's flush until one is not told as `more`
+    // makes steps of a hive's flush until one is not answered with `more`
     fn flush_whole(&mut self, hive: u8) -> ReplyLine
         ensures reported { IsFlushedWhole (script_of self.old.interpreter) hive result
             (script_of self.new.interpreter) }
@@ -146,7 +146,7 @@ impl Laboratory {
         ReplyLine::StepMore
     }
 
-    // the power goes, and what is left is opened; where that is refused, nothing has changed
+    // the power goes, and what is left is opened; if that is refused, nothing has changed
     fn crash(&mut self, tear: Tear) -> LabReply
         ensures { Crashes tear (lab_state_of self.old) result (lab_state_of self.new) }
     {
@@ -167,7 +167,7 @@ impl Laboratory {
     }
 }
 
-// whether a step is told to leave more
+// whether the reply to a step is `more`
 fn is_more(reported: &ReplyLine) -> bool
     ensures { (result ≡ true) ↔ (reported.now ≡ ReplyLine.StepMore) }
 {

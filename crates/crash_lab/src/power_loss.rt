@@ -1,4 +1,4 @@
-//! What opens behind a loss of power.
+//! What opens after a loss of power.
 ghost use Rattle.std.specs.Prelude.{◌≡◌, ◌≢◌, IfOk, IfErr};
 ghost use Rattle.refusals.specs.declared.refusal.Refusal.TheVariants.{DiskFault, NoMemory};
 ghost use Rattle.crash_lab.specs.LabStates.{files_of, nothing_asked};
@@ -11,7 +11,7 @@ use refusals::Refusal;
 use script_runner::{make_journal_room, open_store};
 use std::alloc::{AllocError, Global};
 
-/// A store that was opened behind a loss of power.
+/// A store that was opened after a loss of power.
 #[derive(Drop)]
 pub(crate) struct Reopened {
     /// The store, with session 0 open.
@@ -22,9 +22,10 @@ pub(crate) struct Reopened {
     pub device: Device,
 }
 
-/// The store that opens where the power goes now, and what was not synced is torn so. The disk itself stays as it is.
+/// The store that opens if the power goes now, and what was not synced is torn by this tear. The disk itself stays as
+/// it is.
 ///
-/// Refused for want of memory, and with a refusal that tells of the files where those that are left recover nothing.
+/// Refused for lack of memory, and with a refusal of the files only if those that are left recover nothing.
 pub(crate) fn open_after_crash(
     alloc: Global,
     disk: &MemDisk,
@@ -47,7 +48,7 @@ pub(crate) fn open_after_crash(
     }
 }
 
-// why nothing opens: a device of which nothing was asked fails only where it finds no memory
+// why nothing opens: a device of which nothing was asked fails only if it finds no memory
 fn opening_refusal(why: Refusal) -> Refusal
     ensures memory { why ≡ DiskFault → result ≡ NoMemory }
     ensures same { (why ≢ DiskFault) → result ≡ why }

@@ -1,4 +1,4 @@
-//! What a line of a laboratory is answered, and its text.
+//! The reply to a line of a laboratory, and its text.
 ghost use Rattle.std.specs.Prelude.{◌≡◌, OnOk, IfOk};
 ghost use Rattle.std.specs.Io.KnownBytes.{Appends};
 ghost use Rattle.crash_lab.specs.Experiments.{is_refused, lab_reply_text, trees_text};
@@ -10,15 +10,15 @@ use std::io;
 use std::io::Write;
 use tree_printer::write_tree;
 
-/// What a line of a laboratory is answered.
+/// The reply to a line of a laboratory.
 #[derive(Drop)]
 pub(crate) enum LabReply {
-    /// A reply of one line, as any script's.
+    /// A reply of one line, such as any script's.
     OneLine {
         /// The reply.
         reported: ReplyLine,
     },
-    /// A store was opened behind a loss of power; its trees are told.
+    /// A store was opened after a loss of power; its trees are written.
     Opened {
         /// The number of its last change.
         number: u64,

@@ -46,7 +46,8 @@ module _ {T Op : Type 0} (r : Rules T Op) (most hives : ℕ) where
     higher = omega (arith, fits.higher, low);
   }
 
-  -- where a hive stands, what the journal spells above it is what it lacks of the durable elements
+  -- what the journal decodes to above a hive's number is what the hive lacks of the durable
+  -- elements
   lacks : (s : State T Op) → InvariantHolds r most hives s → (i : ℕ) → i < hives
       → ops_on i (above (s.files i).now.1 s.journal.now) ≡ ops_in s.life i (s.files i).now.1 s.durable
   lacks s kept i lt =

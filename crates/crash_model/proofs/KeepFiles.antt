@@ -35,7 +35,7 @@ pub only_leaves : {X : Type 0} (s x : X) → Leaves (record { now = s; next = No
 only_leaves s x (inl p) = p
 only_leaves s x (inr p) = absurd (none-some x p)
 
--- an element that names a hive isn't above the number of that hive, where all is held
+-- an element that names a hive isn't above the number of that hive, if the hive has all elements
 pub last_named : {Op : Type 0} (hives : ℕ) (e : Element Op) (es : List (Element Op)) → AllByRecursion (NamesHive hives) (e ∷ es)
     → (i : ℕ) × (i < hives) × ((n : ℕ) → ops_on i (drop n (e ∷ es)) ≡ [] → length (e ∷ es) ≤ n)
 last_named hives e [] all = (all.0.0, all.0.1, λ n h. at n h)
@@ -51,7 +51,7 @@ last_named hives e (f ∷ es) all = let l = last_named hives f es all.1 in (l.0,
     at i low (suc n) h = omega (arith, low n h)
 
 module _ {T Op : Type 0} (r : Rules T Op) (most hives : ℕ) (life : Life T Op) (durable : ℕ) (journal : Choice (Content Op)) (files : ℕ → Choice (T × ℕ)) (engine : EngineFits r most hives life durable journal files) where
-  -- hives that go on: begun flushes, ended flushes
+  -- hives that continue: begun flushes, ended flushes
   pub keep_files : (new : ℕ → Choice (T × ℕ))
       → ((i : ℕ) → i < hives → (files i).now.1 ≤ (new i).now.1)
       → ((i : ℕ) → i < hives → (x : T × ℕ) → Leaves (new i) x → HiveFits r life durable i x)
@@ -160,7 +160,7 @@ module _ {T Op : Type 0} (r : Rules T Op) (most hives : ℕ) (life : Life T Op) 
             ∙ forward r most hives life durable engine.fits i lt durable (top durable s) engine.fits.from_opened old_fits.holds_durable);
       }
 
-  -- a trim begins, where each hive holds what the journal has of it
+  -- a trim begins, if each hive has what the journal has of it
   pub keep_trim : (e : Element Op) (es : List (Element Op)) → journal.now.elements ≡ e ∷ es
       → ((i : ℕ) → i < hives → ops_on i (above (files i).now.1 journal.now) ≡ [])
       → EngineFits r most hives life durable (record { now = journal.now; next = Some nothing }) files

@@ -12,7 +12,7 @@ use Rattle.crash_model.proofs.Lists.{le_or_le, take_nil, drop_nil, seg_none, all
 use Rattle.crash_model.proofs.Replays.{ops_on-append, replay_on, applied-append}
 use Rattle.crash_model.proofs.KeepFiles.{only_leaves}
 
--- what was known stands where it stood
+-- the known elements stay at their numbers
 pub part_grows : {T Op : Type 0} (life : Life T Op) (e : Element Op) (lo hi : ℕ) → hi ≤ last_number life
     → elements_in (with_accepted life e) lo hi ≡ elements_in life lo hi
 part_grows life e lo hi a = ap (drop (lo - life.base)) (ap (take (hi - life.base)) (sym (append_assoc life.opened life.accepted (e ∷ []))) ∙ take-append-le (hi - life.base) (known_elements life) (e ∷ []) (omega (arith, a, length-append life.opened life.accepted)))

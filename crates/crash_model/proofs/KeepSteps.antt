@@ -22,7 +22,7 @@ pending_part s m a = sym (part_accepted s.life s.durable (s.durable + m) a (omeg
     ∙ (let p : (s.durable + m) - opened_number s.life ≡ (s.durable - opened_number s.life) + m = omega (arith, a) in rw p (drop-take (s.durable - opened_number s.life) m s.life.accepted)))
 
 module _ {T Op : Type 0} (r : Rules T Op) (most hives : ℕ) where
-  -- the same hives, told one by one
+  -- the same hives, stated one by one
   same_files : (life : Life T Op) (durable : ℕ) (journal : Choice (Content Op)) (old new : ℕ → Choice (T × ℕ))
       → EngineFits r most hives life durable journal old → AllStay hives old new → EngineFits r most hives life durable journal new
   same_files life durable journal old new engine same = keep_files r most hives life durable journal old engine new
@@ -149,7 +149,7 @@ module _ {T Op : Type 0} (r : Rules T Op) (most hives : ℕ) where
         trees = λ i lt. ap (λ (l : Life T Op). l.trees i) step.life ∙ same.1 i lt ∙ ap (λ n. tree_at r old.life n i) (sym (step.durable ∙ same.0));
       }
 
-  -- where all is durable, an opening finds all
+  -- if all is durable, an opening finds all
   pub reopens_quiet : (old new : State T Op) → InvariantHolds r most hives old → old.durable ≡ last_number old.life → Reopens r most hives old new
       → (new.durable ≡ old.durable) × ((i : ℕ) → i < hives → new.life.trees i ≡ tree_at r old.life (last_number old.life) i)
   reopens_quiet old new engine all step = let g = reopens_goes old new engine step in

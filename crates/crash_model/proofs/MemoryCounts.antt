@@ -1,4 +1,4 @@
--- What a hive has in memory may count as on its way.
+-- What a hive has in memory may count as under way.
 use Rattle.std.proofs.Common.{◌≡◌, ◌⊎◌, inl, inr, ℕ, ◌<◌, ◌≤◌, refl, ◌∙◌, ap, sym, subst, arith, Some}
 use Rattle.std.proofs.lemmas.Option.{none-some, same_Some}
 use Rattle.crash_model.specs.Changes.{Rules}
@@ -18,7 +18,7 @@ left_with_memory file memory own x (inl p) = inl p
 left_with_memory file memory (inl none) x (inr p) = absurd (none-some x (sym none ∙ p))
 left_with_memory file memory (inr some) x (inr p) = inr (sym some ∙ p)
 
--- what stands after a flush step is what stood, or the memory
+-- what is durable after a flush step is what was durable before, or the memory
 durable_after_step : {T : Type 0} (memory : T × ℕ) (answer : Answer) (file written : Choice (T × ℕ)) → IsOfMemory file memory
     → HiveSays memory answer file written → (written.now ≡ file.now) ⊎ (written.now ≡ memory)
 durable_after_step memory Idle file written own says = absurd says
@@ -51,7 +51,7 @@ module _ {T Op : Type 0} (r : Rules T Op) (most hives : ℕ) where
           → HiveFits r old.life old.durable i x × ((old.files i).now.1 ≤ x.1)
       both i lt x left = two_fit old.life old.durable i (with_memory (old.files i) (memory i)) (old.files i).now (memory i) refl (kept.hive_fits i lt (old.files i).now (inl refl)) (step.fits i lt).fits (step.fits i lt).higher x left
 
-  -- one hive with another memory, or with its memory standing
+  -- one hive with another memory, or with its memory durable
   one_memory : (old new : State T Op) → InvariantHolds r most hives old → (hive : ℕ) (x m : T × ℕ) → new.files hive ≡ record { now = x; next = Some m }
       → new.life ≡ old.life → new.durable ≡ old.durable → new.journal ≡ old.journal → OthersStay hives hive old.files new.files
       → (hive < hives → HiveFits r old.life old.durable hive x × HiveFits r old.life old.durable hive m × (x.1 ≤ m.1) × ((old.files hive).now.1 ≤ x.1)) → InvariantHolds r most hives new
@@ -63,7 +63,7 @@ module _ {T Op : Type 0} (r : Rules T Op) (most hives : ℕ) where
       (λ lt. omega (arith, (fits lt).3, ap (λ (c : Choice (T × ℕ)). c.now.1) is))
       (λ lt y left. let f = fits lt in two_fit old.life old.durable hive (new.files hive) x m is f.0 f.1 f.2 y left))))
 
-  -- what memory counts as on its way fits
+  -- what memory counts as under way fits
   memory_fits : (s : State T Op) → InvariantHolds r most hives s → (hive : ℕ) → hive < hives → (file : Choice (T × ℕ)) (memory : T × ℕ)
       → s.files hive ≡ with_memory file memory → MemoryFits r s hive memory × HiveFits r s.life s.durable hive file.now
   memory_fits s kept hive lt file memory is = (

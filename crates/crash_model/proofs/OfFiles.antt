@@ -25,7 +25,8 @@ module _ {T Op : Type 0} (r : Rules T Op) (decodes : List ℕ → Content Op →
   last_of files held all below [] n h = (h.0, h.1, ((held h.0).0, subst (λ k. holds (files (1 + 2 * h.0)) (files (2 + 2 * h.0)) ((held h.0).0, k)) h.2 (all h.0 h.1)))
   last_of files held all below (e ∷ es) n h = h
 
-  -- files that spell something and hold these trees and numbers recover what is recovered from them
+  -- files that decode to some content and to these trees and numbers recover what is recovered from
+  -- them
   pub files_recover : (files : ℕ → List ℕ) (journal : Content Op) (held : ℕ → T × ℕ) (n : ℕ) (trees : ℕ → T) → decodes (files 0) journal
       → ((i : ℕ) → i < hives → holds (files (1 + 2 * i)) (files (2 + 2 * i)) (held i)) → Recovers r most hives journal held n trees → FilesRecover r decodes holds most hives files n trees
   files_recover files journal held n trees told all p = record {
@@ -36,7 +37,7 @@ module _ {T Op : Type 0} (r : Rules T Op) (decodes : List ℕ → Content Op →
     each = λ i lt. record { held = held i; holds_it = all i lt; not_above = p.not_above i lt; replayed = p.tree i lt; allowed = p.allowed i lt };
   }
 
-  -- files that spell and hold what may be left recover one number
+  -- files that decode to what may be left recover one number
   pub files_prefix : (s : State T Op) → InvariantHolds r most hives s → (journal_leaves : List ℕ → Type 0) → JournalOn decodes s.journal journal_leaves
       → (primary log : ℕ → List ℕ → Type 0) → ((i : ℕ) → i < hives → HiveOn holds (s.files i) (primary i) (log i))
       → (files : ℕ → List ℕ) → journal_leaves (files 0) → ((i : ℕ) → i < hives → primary i (files (1 + 2 * i)) × log i (files (2 + 2 * i)))

@@ -10,7 +10,7 @@ use Rattle.crash_model.specs.Invariant.{IsPrefix, LifeFits, JournalFits, HiveFit
 use Rattle.crash_model.proofs.Lists.{seg_split, seg_past, drop_nil, second_nil, le_or_le}
 use Rattle.crash_model.proofs.Replays.{ops_on-append, replay_on, replay_middle}
 
--- the part is split at a number between
+-- the part is split at a number within it
 pub part_split : {T Op : Type 0} (life : Life T Op) (lo mid hi : ℕ) → lo ≤ mid → mid ≤ hi
     → elements_in life lo hi ≡ elements_in life lo mid ++ elements_in life mid hi
 part_split life lo mid hi a b = seg_split (known_elements life) (lo - life.base) (mid - life.base) (hi - life.base) (omega (arith, a)) (omega (arith, b))
@@ -27,7 +27,7 @@ part_accepted life lo hi a b =
     let q : hi - life.base ≡ length life.opened + (hi - opened_number life) = omega (arith, a, b) in
     rw p rw q (seg_past life.opened life.accepted (lo - opened_number life) (hi - opened_number life))
 
--- the operations between two places
+-- the operations between two numbers
 pub ops_halves : {Op : Type 0} (i : ℕ) (es : List (Element Op)) (l h : ℕ) → l ≤ h
     → ops_on i (take h es) ≡ ops_on i (take l es) ++ ops_on i (drop l (take h es))
 ops_halves i es l h b = ap (ops_on i) (seg_split es 0 l h (omega arith) b) ∙ ops_on-append i (take l es) (drop l (take h es))
@@ -41,12 +41,12 @@ forward_in r i es t l h b legal = rw (ops_halves i es l h b) (replay_middle r (o
     whole = ap (ops_on i) (sym (take-append-drop h es)) ∙ ops_on-append i (take h es) (drop h es) ∙ ap (λ (os : List _). os ++ ops_on i (drop h es)) (ops_halves i es l h b)
 
 module _ {T Op : Type 0} (r : Rules T Op) (most hives : ℕ) (life : Life T Op) (durable : ℕ) (fits : LifeFits r most hives life durable) where
-  -- from the trees at one number on to a later
+  -- from the trees at one number to those at a later
   pub forward : (i : ℕ) → i < hives → (lo hi : ℕ) → opened_number life ≤ lo → lo ≤ hi
       → replay r (ops_in life i lo hi) (tree_at r life lo i) ≡ Some (tree_at r life hi i)
   forward i lt lo hi a b = rw (part_accepted life lo hi a b) (forward_in r i life.accepted (life.trees i) (lo - opened_number life) (hi - opened_number life) (omega (arith, b)) (fits.legal i lt))
 
--- what is held lower is held higher
+-- if no operation above a lower number is lacked, none above a higher one is
 pub covered_from : {T Op : Type 0} (life : Life T Op) (i k0 k hi : ℕ) → k0 ≤ k → k ≤ hi → ops_in life i k0 hi ≡ [] → ops_in life i k hi ≡ []
 covered_from life i k0 k hi a b h = second_nil (ops_in life i k0 k) (ops_in life i k hi) (sym (ops_split life i k0 k hi a b) ∙ h)
 

@@ -1,4 +1,4 @@
--- Replaying a front, and then the rest.
+-- Replaying a prefix, and then the rest.
 use Rattle.std.proofs.Common.{◌≡◌, ℕ, List, [], ◌∷◌, ◌++◌, refl, ◌∙◌, ap, sym, append_assoc, Option, Some, None, Bool, true, false, cond}
 use Rattle.std.proofs.lemmas.Option.{none-some, same_Some}
 use Rattle.crash_model.specs.Changes.{Rules, Element, on_hive, ops_on, replay, applied}
@@ -26,11 +26,11 @@ module _ {T Op : Type 0} (r : Rules T Op) where
   applied-append [] ys t = refl
   applied-append (x ∷ xs) ys t = applied-append xs ys (r.apply x t)
 
-  -- what stands behind a front is legal where the front leads
+  -- what follows a prefix is legal on the result of the prefix
   pub replay_back : (xs ys : List Op) (t u : T) → replay r (xs ++ ys) t ≡ Some u → replay r ys (applied r xs t) ≡ Some u
   replay_back xs ys t u h = sym (replay_on xs ys t (applied r xs t) (replay_front xs ys t u h)) ∙ h
 
-  -- of three parts that are legal together, the second is, from where the first leads
+  -- of three parts that are legal together, the second is, on the result of the first
   pub replay_middle : (xs ys zs : List Op) (t u : T) → replay r ((xs ++ ys) ++ zs) t ≡ Some u
       → replay r ys (applied r xs t) ≡ Some (applied r (xs ++ ys) t)
   replay_middle xs ys zs t u h = replay_back xs ys t (applied r (xs ++ ys) t) (replay_front (xs ++ ys) zs t u h)

@@ -83,7 +83,7 @@ accepted_three_kept =
     (with_change_kept (with_change created (change 0 1)) (change 1 2) (omega arith) (names_second 2)
     (with_change_kept created (change 0 1) (omega arith) (names_first 1) (fresh marks 3 2 (omega arith) (λ i. []) (λ i lt. refl))))
 
--- a store that was opened at n, where the journal spells these elements and the hives hold this
+-- a store that was opened at n, if the journal decodes to these elements and the hives have these trees and numbers
 abbrev opened_with : ℕ → List (Element ℕ) → (ℕ → List ℕ × ℕ) → State (List ℕ) ℕ
 opened_with n es held = opened_state n (λ i. applied marks (ops_on i (above (held i).1 (record { below = 0; elements = es }))) (held i).0) (record { below = 0; elements = es }) held
 
@@ -121,11 +121,12 @@ two_left : (files : ℕ → Choice (List ℕ × ℕ)) (held : ℕ → List ℕ �
     → Leaves (files i) (held i)
 two_left files held = each_of_two (λ i. Leaves (files i) (held i))
 
--- no number of a hive is the last one's, where both are lower
+-- no number of a hive is the last one's, if both are lower
 too_low : (held : ℕ → List ℕ × ℕ) (n : ℕ) → (held 0).1 < n → (held 1).1 < n → (l : (i : ℕ) × (i < 2) × ((held i).1 ≡ n)) → ⊥
 too_low held n a b l = let lt = each_of_two (λ i. (held i).1 < n) a b l.0 l.1 in omega (arith, lt, l.2)
 
--- The second hive flushes change 2, which is not durable, under number 3. A crash leaves the flush and no journal: change 1 is nowhere.
+-- The second hive flushes change 2, which is not durable, under number 3. A crash leaves the flush and no journal:
+-- change 1 is nowhere.
 abbrev flushing_pending : State (List ℕ) ℕ
 flushing_pending = with_files accepted_three (pair (settled ([], 0)) (under_way ([], 0) (2 ∷ [], 3)))
 
@@ -141,7 +142,8 @@ flushes_pending = (
     broken : IsPrefix marks 3 2 flushing_pending.life 0 nothing (pair ([], 0) (2 ∷ [], 3)) → ⊥
     broken p = let e : 0 ≡ 2 = same_length flushing_pending.life 0 nothing (pair ([], 0) (2 ∷ [], 3)) p 3 0 (omega arith) (omega (arith, p.2, p.3.not_above 1 (omega arith))) in omega (arith, e)
 
--- The first hive flushes changes 1 and 3 under number 1. A crash leaves the flush and the journal: change 3 is replayed twice.
+-- The first hive flushes changes 1 and 3 under number 1. A crash leaves the flush and the journal: change 3 is replayed
+-- twice.
 abbrev flushing_under_less : State (List ℕ) ℕ
 flushing_under_less = with_files (opened_with 3 three (λ i. ([], 0))) (pair (under_way ([], 0) (3 ∷ 1 ∷ [], 1)) (settled ([], 0)))
 
@@ -157,7 +159,8 @@ flushes_under_less = (
     broken : IsPrefix marks 3 2 flushing_under_less.life 3 (record { below = 0; elements = three }) (pair (3 ∷ 1 ∷ [], 1) ([], 0)) → ⊥
     broken p = let e : 3 ≡ 2 = same_length flushing_under_less.life 3 (record { below = 0; elements = three }) (pair (3 ∷ 1 ∷ [], 1) ([], 0)) p 3 0 (omega arith) (omega (arith, p.1, p.2)) in omega (arith, e)
 
--- The first hive has its changes, the second lacks change 2, and the trim begins. A crash leaves no journal: change 2 is nowhere.
+-- The first hive has its changes, the second lacks change 2, and the trim begins. A crash leaves no journal: change 2
+-- is nowhere.
 abbrev after_one : State (List ℕ) ℕ
 after_one = opened_with 3 three (pair (3 ∷ 1 ∷ [], 3) ([], 0))
 
@@ -173,7 +176,8 @@ trims_after_one = (
     broken : IsPrefix marks 3 2 after_one.life 3 nothing (pair (3 ∷ 1 ∷ [], 3) ([], 0)) → ⊥
     broken p = let e : 0 ≡ 1 = same_length after_one.life 3 nothing (pair (3 ∷ 1 ∷ [], 3) ([], 0)) p 3 1 (omega arith) (omega (arith, p.1, p.2)) in omega (arith, e)
 
--- The first hive has change 1, the only one that names it, the second lacks changes 2 and 3, and the trim begins. A crash leaves no journal: the greatest number is 1, and 3 was durable.
+-- The first hive has change 1, the only one that names it, the second lacks changes 2 and 3, and the trim begins. A
+-- crash leaves no journal: the greatest number is 1, and 3 was durable.
 abbrev by_first : State (List ℕ) ℕ
 by_first = opened_with 3 late_three (pair (1 ∷ [], 1) ([], 0))
 
@@ -193,7 +197,8 @@ trims_by_first = (
     broken : IsPrefix marks 3 2 by_first.life 3 nothing (pair (1 ∷ [], 1) ([], 0)) → ⊥
     broken p = too_low (pair (1 ∷ [], 1) ([], 0)) p.0 (omega (arith, p.1)) (omega (arith, p.1)) p.3.last
 
--- The first hive has change 1, the second's flush of changes 2 and 3 is on its way, and the trim begins. A crash leaves neither the flush nor the journal: changes 2 and 3 are nowhere.
+-- The first hive has change 1, the second's flush of changes 2 and 3 is under way, and the trim begins. A crash leaves
+-- neither the flush nor the journal: changes 2 and 3 are nowhere.
 abbrev before_flush : State (List ℕ) ℕ
 before_flush = opened_with 3 late_three (pair (1 ∷ [], 3) ([], 0))
 
@@ -225,7 +230,8 @@ trims_by_memory = (
     broken : IsPrefix marks 3 2 by_memory.life 3 nothing (pair (1 ∷ [], 3) ([], 0)) → ⊥
     broken p = let e : 0 ≡ 2 = same_length by_memory.life 3 nothing (pair (1 ∷ [], 3) ([], 0)) p 3 1 (omega arith) (omega (arith, p.1, p.2)) in omega (arith, e)
 
--- A batch of changes 2 and 3 begins, and change 1 is pending. A crash leaves the batch: the number is 3, and change 1 is nowhere.
+-- A batch of changes 2 and 3 begins, and change 1 is pending. A crash leaves the batch: the number is 3, and change 1
+-- is nowhere.
 abbrev skipping : Content ℕ
 skipping = record { below = 1; elements = change 1 2 ∷ change 0 3 ∷ [] }
 
@@ -257,7 +263,8 @@ counts_early = (
     broken : IsPrefix marks 3 2 counting_early.life 3 nothing (λ i. ([], 0)) → ⊥
     broken p = too_low (λ i. ([], 0)) p.0 (omega (arith, p.1)) (omega (arith, p.1)) p.3.last
 
--- Both hives have changes 1 and 2. The empty change 3 becomes durable, and each hive has all that names it, so a trim begins. A crash leaves no journal: the greatest number is 2, and 3 was durable.
+-- Both hives have changes 1 and 2. The empty change 3 becomes durable, and each hive has all that names it, so a trim
+-- begins. A crash leaves no journal: the greatest number is 2, and 3 was durable.
 abbrev two_flushed : State (List ℕ) ℕ
 two_flushed = opened_with 2 (change 0 1 ∷ change 1 2 ∷ []) (λ i. (pair (1 ∷ []) (2 ∷ []) i, 2))
 

@@ -19,12 +19,12 @@ abbrev pub after_elements : {T Op : Type 0} → Rules T Op → List (Element Op)
 after_elements rules [] ts = ts
 after_elements rules (e ∷ es) ts = after_elements rules es (after_element rules e ts)
 
--- An operation is legal where its hive is there, and on the tree of that hive.
+-- An operation is legal if its hive is there, and it is legal on that hive's tree.
 abbrev pub legal_there : {T Op : Type 0} → Rules T Op → Op → Option T → Bool
 legal_there rules o None = false
 legal_there rules o (Some t) = rules.legal o t
 
--- An element's operations in order, or nothing where one is not legal when its turn comes.
+-- An element's operations in order, or nothing if one is not legal when its turn comes.
 abbrev pub run_element : {T Op : Type 0} → Rules T Op → Element Op → List T → Option (List T)
 run_element rules [] ts = Some ts
 run_element rules (p ∷ ps) ts =

@@ -5,8 +5,7 @@ use Rattle.crash_model.specs.Promises.{Content, Choice, top, Answer, Answer.Idle
 use Rattle.crash_model.specs.Invariant.{HiveFits, State}
 use Rattle.crash_model.specs.Steps.{pending_elements, OthersStay, AllStay, MayTrim}
 
--- The durable number after a call of the journal: at Done that up to which the journal carries, and else as
--- it was.
+-- The durable number after a call of the journal: at Done the number of the journal's last element, and else as it was.
 abbrev pub durable_after : {Op : Type 0} → Answer → ℕ → Choice (Content Op) → ℕ
 durable_after Done durable journal = top durable journal.now
 durable_after Idle durable journal = durable
@@ -22,7 +21,7 @@ pub record JournalStep {T Op : Type 0} (hives : ℕ) (answer : Answer) (old new 
   pub durable : new.durable ≡ durable_after answer old.durable new.journal
   pub files : AllStay hives old.files new.files
 
--- The engine makes a trim step of the journal; it judges where the step begins a trim.
+-- The engine makes a trim step of the journal; it checks that a trim may begin.
 pub record TrimStep {T Op : Type 0} (hives : ℕ) (answer : Answer) (old new : State T Op) : Type 0 where
   pub may : old.journal.next ≡ None → ((e : Element Op) × (es : List (Element Op))
       × (old.journal.now.elements ≡ e ∷ es)) × MayTrim hives old
@@ -31,8 +30,8 @@ pub record TrimStep {T Op : Type 0} (hives : ℕ) (answer : Answer) (old new : S
   pub durable : new.durable ≡ durable_after answer old.durable new.journal
   pub files : AllStay hives old.files new.files
 
--- What hive i has in memory fits: its tree and number might as well be left by a crash, and the number is not
--- below that of what stands.
+-- What hive i has in memory fits: its tree and number might as well be left by a crash, and the number is not below the
+-- durable content's.
 pub record MemoryFits {T Op : Type 0} (rules : Rules T Op) (s : State T Op) (i : ℕ) (memory : T
     × ℕ) : Type 0 where
   pub fits : HiveFits rules s.life s.durable i memory

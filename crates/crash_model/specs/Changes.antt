@@ -2,10 +2,9 @@
 -- left open.
 use Rattle.std.specs.Prelude.{◌≡◌, ℕ, List, [], ◌∷◌, ◌++◌, Bool, eqb, if◌then◌else◌, Option, Some, None}
 
--- What the law takes from outside: what an operation (with the moment of its change) makes of a tree, on
--- which trees it is legal, and which trees a hive may have: `allows i n t` says that hive i may have the tree
--- t after the change numbered n. That is asked beyond what replaying asks; where nothing more is asked, it is
--- always true.
+-- What the law takes from outside: what an operation (with the moment of its change) makes of a tree, on which trees it
+-- is legal, and which trees a hive may have: `allows i n t` says that hive i may have the tree t after the change
+-- numbered n. That is required in addition to what replaying requires; if nothing more is required, it is always true.
 pub record Rules (T Op : Type 0) : Type 0 where
   pub apply : Op → T → T
   pub legal : Op → T → Bool
@@ -25,8 +24,7 @@ abbrev pub ops_on : {Op : Type 0} → ℕ → List (Element Op) → List Op
 ops_on i [] = []
 ops_on i (e ∷ es) = on_hive i e ++ ops_on i es
 
--- Replaying operations on a tree gives the tree that they lead to, if each is legal where its turn comes, and
--- else nothing.
+-- Replaying operations on a tree gives the tree that they lead to, if each is legal in its turn, and else nothing.
 abbrev pub replay : {T Op : Type 0} → Rules T Op → List Op → T → Option T
 replay r [] t = Some t
 replay r (o ∷ os) t = if r.legal o t then replay r os (r.apply o t) else None
@@ -36,6 +34,6 @@ abbrev pub applied : {T Op : Type 0} → Rules T Op → List Op → T → T
 applied r [] t = t
 applied r (o ∷ os) t = applied r os (r.apply o t)
 
--- The operations are legal on the tree, each where its turn comes.
+-- The operations are legal on the tree, each in its turn.
 abbrev pub AreLegal : {T Op : Type 0} → Rules T Op → List Op → T → Type 0
 AreLegal r os t = replay r os t ≡ Some (applied r os t)

@@ -25,14 +25,14 @@ pub record Reopens {T Op : Type 0} (rules : Rules T Op) (most hives : ℕ) (old 
   pub journal : new.journal ≡ settled decoded
   pub files : AllStay hives (λ i. settled (held i)) new.files
 
--- The new life begins at a number that is not below the old durable one and not above the last accepted one,
+-- The new life begins at a number that is not below the old durable one and not above the last accepted one. It begins
 -- with the old life's trees after that number.
 pub record LifeContinues {T Op : Type 0} (rules : Rules T Op) (hives : ℕ) (old new : State T Op) : Type 0 where
   pub no_loss : old.durable ≤ new.durable
   pub no_more : new.durable ≤ last_number old.life
   pub trees : (i : ℕ) → i < hives → new.life.trees i ≡ tree_at rules old.life new.durable i
 
--- A step of the protocol, a call in which memory counts as on its way, or a call that changes nothing.
+-- A step of the protocol, a call in which memory counts as under way, or a call that changes nothing.
 abbrev pub Moves : {T Op : Type 0} → Rules T Op → ℕ → ℕ → State T Op → State T Op → Type 0
 Moves {T = T} rules most hives s t = Step rules most hives s t ⊎ ((memory : ℕ → T × ℕ) × Remembers rules hives memory s t)
     ⊎ Absorbs rules hives s t ⊎ ((answer : Answer) × MemoryStep hives answer s t) ⊎ (t ≡ s)
@@ -43,7 +43,7 @@ Runs rules most hives s [] = Unit {0}
 Runs rules most hives s (t ∷ ts) = (Moves rules most hives s t ⊎ Reopens rules most hives s t)
     × Runs rules most hives t ts
 
--- In such a list, each opening goes on from the state before it.
+-- In such a list, each opening continues from the state before it.
 abbrev pub OpeningsContinue : {T Op : Type 0} → Rules T Op → ℕ → ℕ → State T Op → List (State T Op) → Type 0
 OpeningsContinue rules most hives s [] = Unit {0}
 OpeningsContinue rules most hives s (t ∷ ts) = (Moves rules most hives s t ⊎ LifeContinues rules hives s t)

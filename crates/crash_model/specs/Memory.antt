@@ -1,4 +1,4 @@
--- What a hive has in memory, counted as on its way to its files at all times.
+-- What a hive has in memory, counted as under way to its files at all times.
 use Rattle.std.specs.Prelude.{◌≡◌, ◌⊎◌, ℕ, ◌<◌, ◌≤◌, Some, None}
 use Rattle.crash_model.specs.Changes.{Rules, replay}
 use Rattle.crash_model.specs.Promises.{Choice, under_way, Answer, HiveSays}
@@ -7,15 +7,15 @@ use Rattle.crash_model.specs.Invariant.{State}
 use Rattle.crash_model.specs.Steps.{OthersStay, AllStay}
 use Rattle.crash_model.specs.Calls.{MemoryFits}
 
--- A hive's choice with what it has in memory counted as on its way, whether or not a flush has begun.
+-- A hive's choice with what it has in memory counted as under way, whether or not a flush has begun.
 abbrev pub with_memory : {X : Type 0} → Choice X → X → Choice X
 with_memory file memory = under_way file.now memory
 
--- What is on its way to a hive's files, if anything, is what it has in memory.
+-- What is under way to a hive's files, if anything, is what it has in memory.
 abbrev pub IsOfMemory : {X : Type 0} → Choice X → X → Type 0
 IsOfMemory file memory = (file.next ≡ None) ⊎ (file.next ≡ Some memory)
 
--- From here on what each hive has in memory counts as on its way; it fits.
+-- From here on what each hive has in memory counts as under way; it fits.
 pub record Remembers {T Op : Type 0} (rules : Rules T Op) (hives : ℕ) (memory : ℕ → T
     × ℕ) (old new : State T Op) : Type 0 where
   pub fits : (i : ℕ) → i < hives → MemoryFits rules old i (memory i)
@@ -42,8 +42,8 @@ pub record Absorbs {T Op : Type 0} (rules : Rules T Op) (hives : ℕ) (old new :
   pub journal : new.journal ≡ old.journal
   pub others : OthersStay hives hive old.files new.files
 
--- A flush step of a hive whose memory counts as on its way: the files' own choice moves as the step says, and
--- the memory goes on counting.
+-- A flush step of a hive whose memory counts as under way: the files' own choice changes as the step says, and the
+-- memory still counts.
 pub record MemoryStep {T Op : Type 0} (hives : ℕ) (answer : Answer) (old new : State T Op) : Type 0 where
   pub hive : ℕ
   pub memory : T × ℕ

@@ -10,13 +10,12 @@ pub record Boundary (T Op : Type 0) : Type 0 where
   pub clock : ℕ
   pub state : State T Op
 
--- A crash at moment k may leave bytes of file f where a test says so.
+-- A crash at moment k may leave bytes of file f if a test says so.
 abbrev pub LeavesBy : (ℕ → ℕ → List ℕ → Bool) → ℕ → ℕ → List ℕ → Type 0
 LeavesBy test k f c = IsTrue (test k f c)
 
--- All is in order at the boundary: the engine's invariant holds, and at the boundary's moment the promises of
--- the journal and of each hive do, where `may_leave k f c` says that a crash at moment k may leave the bytes c
--- of file f.
+-- All is in order at the boundary: the engine's invariant holds, and at the boundary's moment the promises of the
+-- journal and of each hive hold. `may_leave k f c` says that a crash at moment k may leave the bytes c of file f.
 pub record InOrder {T Op : Type 0} (rules : Rules T Op) (decodes : List ℕ → Content Op → Type 0)
     (holds : List ℕ → List ℕ → T × ℕ → Type 0) (most hives : ℕ) (may_leave : ℕ → ℕ → List ℕ → Type 0)
     (b : Boundary T Op) : Type 0 where
@@ -39,7 +38,7 @@ abbrev pub end_of : {T Op : Type 0} → Boundary T Op → List (Boundary T Op) �
 end_of b [] = b.clock
 end_of b (c ∷ cs) = end_of c cs
 
--- Something is so at one of these boundaries.
+-- Something holds at one of these boundaries.
 abbrev pub AtSome : {T Op : Type 0} → (Boundary T Op → Type 0) → List (Boundary T Op) → Type 0
 AtSome P [] = ⊥
 AtSome P (b ∷ bs) = P b ⊎ AtSome P bs

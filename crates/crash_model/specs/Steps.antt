@@ -18,13 +18,12 @@ OthersStay hives i old new = (j : ℕ) → j < hives → (j ≡ i) ⊎ (new j �
 abbrev pub AllStay : {X : Type 0} → ℕ → (ℕ → X) → (ℕ → X) → Type 0
 AllStay hives old new = (j : ℕ) → j < hives → new j ≡ old j
 
--- A trim may begin: each hive, by what surely stands of it, has every operation on it that the journal
--- spells.
+-- A trim may begin: the durable content of each hive has every operation on it that the journal decodes to.
 abbrev pub MayTrim : {T Op : Type 0} → ℕ → State T Op → Type 0
 MayTrim hives s = (i : ℕ) → i < hives → ops_on i (above (s.files i).now.1 s.journal.now) ≡ []
 
--- A hive begins a flush of these operations: the tree that they make of what stands is on its way, under the
--- number `upto`.
+-- A hive begins a flush of these operations: the tree that they make of the durable one is under way, under the number
+-- `upto`.
 abbrev pub BeginsFlush : {T Op : Type 0} → Rules T Op → List Op → ℕ → Choice (T × ℕ) → Choice (T × ℕ) → Type 0
 BeginsFlush {T = T} rules ops upto old new = (t : T) × (old.next ≡ None)
     × (replay rules ops old.now.0 ≡ Some t) × (new ≡ under_way old.now (t, upto))
@@ -50,7 +49,7 @@ pub record Batches {T Op : Type 0} (hives : ℕ) (old new : State T Op) : Type 0
   pub journal : BeginsBatch (old.durable + 1) (pending_elements old) old.journal new.journal
   pub files : AllStay hives old.files new.files
 
--- A batch or a trim ends; the durable number is then the last one spelled, where there is one, and else as it
+-- A batch or a trim ends; the durable number is then that of the last decoded element, if there is one, and else as it
 -- was.
 pub record EndsJournalWrite {T Op : Type 0} (hives : ℕ) (old new : State T Op) : Type 0 where
   pub life : new.life ≡ old.life
@@ -58,7 +57,7 @@ pub record EndsJournalWrite {T Op : Type 0} (hives : ℕ) (old new : State T Op)
   pub durable : new.durable ≡ top old.durable new.journal.now
   pub files : AllStay hives old.files new.files
 
--- A trim begins, of a journal that spells something, where it may.
+-- A trim begins, of a journal that decodes to an element, if it may.
 pub record Trims {T Op : Type 0} (hives : ℕ) (old new : State T Op) : Type 0 where
   pub decodes : (e : Element Op) × (es : List (Element Op)) × (old.journal.now.elements ≡ e ∷ es)
   pub may : MayTrim hives old
@@ -86,8 +85,7 @@ pub record HiveFlushEnds {T Op : Type 0} (hives : ℕ) (old new : State T Op) : 
   pub file : Ends (old.files hive) (new.files hive)
   pub files : OthersStay hives hive old.files new.files
 
--- All is durable, and the accepted elements are counted among the opened ones, so that the history may be let
--- go.
+-- All is durable, and the accepted elements are counted among the opened ones, so the history may be discarded.
 pub record Folds {T Op : Type 0} (rules : Rules T Op) (hives : ℕ) (old new : State T Op) : Type 0 where
   pub all_durable : old.durable ≡ last_number old.life
   pub life : new.life ≡ folded_life rules old.life

@@ -1,16 +1,16 @@
-//! The law of one prefix: why a store of several hives stands, after any crash, for one prefix of its
+//! The law that a crash leaves one prefix: after any crash, a store of several hives recovers one prefix of its
 //! accepted changes.
 //!
-//! Accepted changes are numbered over the life of a store. They reach the disk twice: first in one journal,
-//! in batches, then in the files of each hive, each hive at its own pace; a trim empties the journal once
-//! each hive has what it spells. A crash leaves of the journal what stands of it or what was on its way
-//! there, and the same of each hive, **independently of one another**. The law says that from all that may be
-//! left exactly one number is recovered, which is not below the durable number and not above the last
-//! accepted one, and that the recovered trees are those after that number.
+//! Accepted changes are numbered over the life of a store. They reach the disk twice: first in one journal, in batches,
+//! then in the files of each hive, each hive at its own pace. A trim empties the journal once each hive has what it
+//! decodes to. A crash leaves of the journal the durable content or what was under way, and the same of each hive,
+//! **independently of one another**. The law says that from all that may be left exactly one number is recovered. It is
+//! not below the durable number and not above the last accepted one, and the recovered trees are those after that
+//! number.
 //!
-//! There is no code here, and no byte: trees, operations, what bytes spell and hold, and what a crash may
-//! leave of a file are given from outside. Each law is the contract of a function with an empty body; the
-//! files of `specs/` have the words:
+//! There is no code here, and no byte. Trees, operations, what bytes decode to, and what a crash may leave of a file
+//! are given from outside. Each law is the contract of a function with an empty body. The files of `specs/` have the
+//! words:
 //!
 //! - `Changes`, `AllHives`: elements (accepted changes), and what replaying them makes of one tree or of all;
 //! - `Promises`: what the journal and the hive files promise of the disk, and what each of their calls says.
@@ -21,7 +21,7 @@
 //! - `Files`, `Moments`: the same said of files, and of each moment of a run;
 //! - `WrongProtocols`: nine protocols that are nearly right, and how each breaks.
 //!
-//! `docs/HEADLINE.md` tells all of it in plain words, with examples.
+//! `docs/HEADLINE.md` explains all of it in plain words, with examples.
 #![tactic(auto)]
 
 ghost use Rattle.std.specs.Prelude.{[], ◌≡◌, ◌≤◌, ◌<◌, ◌+◌, ◌∷◌, ◌*◌, ◌⊎◌, ◌↔◌, ℕ, Some, None, Bool, IsTrue, List, Option, slice_get, option_map};
@@ -42,11 +42,11 @@ ghost use Rattle.crash_model.specs.WrongProtocols.{marks, Breaks, FlushesPending
 
 /// One prefix is recovered, and only one.
 ///
-/// - `exists`: where an engine's invariant holds, take whatever a crash may leave of the journal, and
+/// - `exists`: if an engine's invariant holds, take whatever a crash may leave of the journal, and
 ///   independently of each hive. From these some number is recovered that is not below the durable one and
 ///   not above the last accepted one, with each hive's tree after that number.
-/// - `only`: from the same journal and the same held trees and numbers no second number is recovered, and no
-///   other tree of a hive that is there. This needs no invariant.
+/// - `only`: from the same journal and the same stored trees and numbers no second number is recovered, and no
+///   other tree of a hive of the store. This needs no invariant.
 pub fn one_prefix<T, Op>()
     ensures exists { (r : Rules T Op) (most hives : ℕ) (state : State T Op) →
         InvariantHolds r most hives state →
@@ -65,12 +65,12 @@ pub fn one_prefix<T, Op>()
 ///   flush, ending one, and folding the history keep it.
 /// - `reopens`: after a crash, an opening at any number and trees that are recovered has it again; it begins
 ///   at a number that is not below the durable one and not above the last one, with the old trees after it.
-/// - `quiet`: where every accepted change is durable, an opening finds just that number and the trees of now,
-///   whatever was on its way. So a created store is opened at 0, on the created trees.
+/// - `quiet`: if every accepted change is durable, an opening finds just that number and the trees of now,
+///   whatever was under way. So a created store is opened at 0, on the created trees.
 /// - `begins`: whatever is recovered, from a journal whose elements each name a hive, begins a life that has
 ///   it.
 /// - `created`: a created store has it, so it is not empty: the trees are any that are allowed at number 0, the
-///   journal spells nothing, and each hive holds its tree and 0.
+///   journal decodes to no element, and each hive stores its tree and 0.
 pub fn kept<T, Op>()
     ensures step { (r : Rules T Op) (most hives : ℕ) (old new : State T Op) →
         InvariantHolds r most hives old → Step r most hives old new → InvariantHolds r most hives new }
@@ -91,14 +91,14 @@ pub fn kept<T, Op>()
         InvariantHolds r most hives (opened_state 0 trees nothing (λ i. (trees i, 0))) }
 {}
 
-/// Over any list of moves of an engine, crashes and openings, in any order. A move is a step of the protocol, a
-/// call with a hive's memory (that it begins to count as on its way, that it absorbs, or a flush step of it), or a
-/// call that changes nothing.
+/// Over any list of moves of an engine, crashes and openings, in any order. A move is a step of the protocol, a call
+/// with a hive's memory, or a call that changes nothing. A call with a hive's memory lets it begin to count as under
+/// way, lets it absorb, or makes a flush step of it.
 ///
 /// - `keeps`: each state has the invariant;
-/// - `safe`: whatever a crash leaves in any state stands for one prefix;
+/// - `safe`: whatever a crash leaves in any state recovers one prefix;
 /// - `continues`: each life that opens begins at a number that is not below the durable one of the life before
-///   it and not above its last one, with that life's trees after the number;
+///   it and not above its last one. It has that life's trees after the number;
 /// - `rises`: no durable number is below an earlier one, so nothing that was durable is ever lost.
 pub fn lives<T, Op>()
     ensures keeps { (r : Rules T Op) (most hives : ℕ) (s : State T Op) → InvariantHolds r most hives s →
@@ -113,20 +113,20 @@ pub fn lives<T, Op>()
         (ts : List (State T Op)) → Runs r most hives s ts → OnlyRises (s ∷ ts) }
 {}
 
-/// What the calls of the journal and of a hive's files promise is enough for the engine, at each of their
-/// answers, refusals among them.
+/// What the calls of the journal and of a hive's files promise is enough for the engine, at each of their answers,
+/// refusals among them.
 ///
 /// - `journal`, `trim`, `flusher`: an engine's call of a batch step, a trim step or a flush step keeps the
 ///   invariant.
-/// - `may_follow`: the pending elements may be handed to the journal: what stands of it ends at the durable number,
+/// - `may_follow`: the pending elements may be handed to the journal: its durable content ends at the durable number,
 ///   and there is room for their numbers.
-/// - `trim_test`: a trim may begin exactly where no hive, by what surely stands of it, lacks an operation of
-///   a durable element.
-/// - `last_naming`: a hive lacks nothing exactly where its number is not below that of the last element that
+/// - `trim_test`: a trim may begin exactly if no hive, by its durable content, lacks an operation of a durable
+///   element.
+/// - `last_naming`: a hive lacks nothing exactly if its number is not below that of the last element that
 ///   names it; so this test and the flusher's may compare numbers.
-/// - `may_absorb`: the operations that a hive is to absorb, up to any number that is not below its own and not
-///   above the durable one, are legal on what it has in memory.
-/// - `absorb`: what a hive has in memory goes on fitting as it absorbs the elements up to such a number.
+/// - `may_absorb`: the operations that a hive is to absorb are legal on what it has in memory. They go up to any number
+///   that is not below the hive's own and not above the durable one.
+/// - `absorb`: what a hive has in memory still fits once it absorbs the elements up to such a number.
 pub fn clauses_suffice<T, Op>()
     ensures journal { (r : Rules T Op) (most hives : ℕ) (answer : Answer) (old new : State T Op) →
         InvariantHolds r most hives old → JournalStep hives answer old new → InvariantHolds r most hives new }
@@ -150,11 +150,11 @@ pub fn clauses_suffice<T, Op>()
         replay r (ops_in s.life i memory.1 upto) memory.0 ≡ Some t → MemoryFits r s i (t, upto) }
 {}
 
-/// What a hive has in memory may count as on its way to its files at all times: an engine that keeps its
-/// invariant in this form need not speak of its hives' memory beside it, for then accepted changes, batches,
-/// trims and folds keep what memory needs as well.
+/// What a hive has in memory may count as under way to its files at all times. An engine that keeps its invariant in
+/// this form doesn't mention its hives' memory separately: accepted changes, batches, trims and folds then keep what
+/// memory needs as well.
 ///
-/// - `leaves`: nothing that a crash may leave of a hive's files is lost from sight by it.
+/// - `leaves`: everything that a crash may leave of a hive's files is still considered.
 /// - `remembers`: memory that fits may begin to count.
 /// - `absorbs`: a hive may absorb, up to any number that is not below its memory's and not above the durable
 ///   one.
@@ -187,11 +187,11 @@ pub fn hive_by_hive<T, Op>()
         replay r (on_hive i e) t ≡ Some (applied r (on_hive i e) t) }
 {}
 
-/// The same of files, whatever the journal's bytes may spell and a hive's two files may hold, as long as
-/// bytes spell and hold one thing at most.
+/// The same of files, whatever the journal's bytes may decode to and a hive's two files may store, as long as bytes
+/// decode to one thing at most.
 ///
-/// - `exists`: where the invariant holds, files that spell and hold what a crash may leave recover some
-///   number between the durable and the last one, with the trees after it.
+/// - `exists`: if the invariant holds, files that decode to what a crash may leave recover some number between
+///   the durable and the last one, with the trees after it.
 /// - `only`: the same files recover no second number and no other trees.
 pub fn of_files<T, Op>()
     ensures exists { (r : Rules T Op) (decoded : List ℕ → Option (Content Op))
@@ -207,14 +207,13 @@ pub fn of_files<T, Op>()
         (n ≡ m) × ((i : ℕ) → i < hives → ts i ≡ us i) }
 {}
 
-/// Each moment of a run: each event makes at most one device call, and the invariant and the promises hold at
-/// each boundary between two events. Take the files that a crash leaves at any moment from the start to the
-/// end, each for itself.
+/// Each moment of a run: each event makes at most one device call, and the invariant and the promises hold at each
+/// boundary between two events. Take the files that a crash leaves at any moment from the start to the end, each for
+/// itself.
 ///
-/// - `some`: that moment is the moment of some boundary, and the files stand for one prefix of the state
-///   there.
-/// - `every`: they do so at every boundary of that moment, the last one among them, so that no event answered
-///   before the crash is passed over.
+/// - `some`: that moment is the moment of some boundary, and the files are one prefix of the state there.
+/// - `every`: they are so at every boundary of that moment, the last one among them. So each event answered
+///   before the crash counts.
 pub fn each_moment<T, Op>()
     ensures some { (r : Rules T Op) (decoded : List ℕ → Option (Content Op))
         (held : List ℕ → List ℕ → Option (T × ℕ)) (most hives : ℕ) (test : ℕ → ℕ → List ℕ → Bool)
@@ -234,19 +233,18 @@ pub fn each_moment<T, Op>()
         FilesPrefix r (DecodesBy decoded) (HoldsBy held) most hives c.state files) bs }
 {}
 
-/// Nine protocols that are nearly right break the law, each on a store of two hives with at most three
-/// changes. Each clause gives a state that has the invariant and one wrong step from it (in `empty_element`,
-/// right steps behind it), after which a crash may leave what stands for no prefix; `replays_what_is_held` is
-/// about an opening.
+/// Nine protocols that are nearly right break the law, each on a store of two hives with at most three changes. Each
+/// clause gives a state that has the invariant and one wrong step from it (in `empty_element`, right steps after it).
+/// After that step a crash may leave what is no prefix. `replays_what_is_held` is about an opening.
 ///
 /// - `absorbs_pending`: a hive flushes what is not durable, under its number.
 /// - `trims_after_one`, `trims_by_first`, `trims_by_memory`: a trim begins once one hive has what the journal
-///   spells of it; once those have it that the first spelled element names; once each has it, be it by a
-///   flush that is on its way.
+///   decodes to of it; once the hives that the first element names have it; once each has it, even if only by a
+///   flush that is under way.
 /// - `empty_element`: an element with no operation is accepted.
-/// - `replays_what_is_held`: an opening replays all spelled elements, on what hives hold of them already.
+/// - `replays_what_is_held`: an opening replays all decoded elements, on hives that already store some of them.
 /// - `flushes_under_less`: a hive flushes the durable elements, under a lower number.
-/// - `batch_skips`: a batch begins behind the first pending element.
+/// - `batch_skips`: a batch begins after the first pending element.
 /// - `counts_early`: elements count as durable when their batch begins.
 pub fn wrong_protocols()
     ensures absorbs_pending { Breaks (FlushesPending marks 2) }

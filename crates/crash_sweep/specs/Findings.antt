@@ -1,4 +1,4 @@
--- What an opening behind a power cut tells.
+-- What an opening after a power cut finds.
 use Rattle.std.specs.Prelude.{◌≡◌, ◌⊎◌, ℕ, ◌<◌, ◌≤◌, List}
 use Rattle.refusals.specs.declared.refusal.Refusal.TheVariants.{DiskFault}
 use Rattle.disk_model.specs.FileState.{FileState}
@@ -22,6 +22,6 @@ FindingIsRight bounds files (Outside number) = Opens files number × ((number < 
 FindingIsRight bounds files (OtherTrees number) = Opens files number × (bounds.low ≤ number) × (number ≤ bounds.high)
 FindingIsRight bounds files (Nothing why) = (why ≡ DiskFault) ⊎ IsNoStore (Unit {0}) files why
 
--- a power cut with this tear, of files in these states, leaves files of which a finding tells
+-- a power cut with this tear, of files in these states, leaves files for which a finding is right
 abbrev pub CrashGivesFinding : Tear → NumberRange → (ℕ → FileState) → Finding → Type 0
 CrashGivesFinding tear bounds state finding = (left : ℕ → FileState) × ((f : ℕ) → IsCrashOf tear (state f) (left f)) × FindingIsRight bounds (seen_in left) finding

@@ -1,4 +1,4 @@
-//! What opens behind a power cut, and whether that may be.
+//! What opens after a power cut, and whether that may be.
 ghost use Rattle.std.specs.Prelude.{◌≡◌, ◌≢◌, ℕ, List, IfOk};
 ghost use Rattle.refusals.specs.declared.refusal.Refusal.TheVariants.{NoMemory};
 ghost use Rattle.disk_model.specs.declared.tear.Tear.TheVariants.{Old, New, Torn};
@@ -13,7 +13,7 @@ use script_runner::open_store;
 use std::alloc::{AllocError, Global};
 use std::sync::Arc;
 
-/// The numbers between which what opens has to be, themselves among them.
+/// The bounds of the number that opens, both included.
 #[derive(Clone, Copy, Debug, PartialEq, Eq)]
 pub(crate) struct NumberRange {
     /// The last change that was acknowledged before the cut.
@@ -22,7 +22,7 @@ pub(crate) struct NumberRange {
     pub high: u64,
 }
 
-/// What opens behind a cut.
+/// What opens after a cut.
 #[derive(Clone, Copy, Debug, PartialEq, Eq)]
 pub(crate) enum Finding {
     /// A number within the bounds, with the trees after that change.
@@ -54,7 +54,7 @@ impl Finding {
     }
 }
 
-/// What opens behind a cut with each tear.
+/// What opens after a cut with each tear.
 #[derive(Clone, Copy, Debug, PartialEq, Eq)]
 pub(crate) struct TearFindings {
     /// With what was synced last.
@@ -66,24 +66,24 @@ pub(crate) struct TearFindings {
 }
 
 impl TearFindings {
-    /// The findings, in the order in which a row tells them.
+    /// The findings, in the order of a row.
     pub(crate) fn each(&self) -> [Finding; 3] {
         [self.old, self.new, self.torn]
     }
 }
 
-/// One cut of the power: behind which device call, what opens with each tear, and the bounds.
+/// One cut of the power: after which device call, what opens with each tear, and the bounds.
 #[derive(Clone, Copy, Debug, PartialEq, Eq)]
 pub(crate) struct SweepRow {
     /// What the call did.
     pub change: FileChange,
     /// What opens.
     pub found: TearFindings,
-    /// Between which numbers that has to be.
+    /// The bounds of the numbers that open.
     pub bounds: NumberRange,
 }
 
-/// What opens of a disk behind a cut with each tear. Refused for want of memory alone.
+/// What opens of a disk after a cut with each tear. Refused only for lack of memory.
 pub(crate) fn findings_per_tear(
     alloc: Global,
     disk: &MemDisk,
@@ -104,7 +104,7 @@ pub(crate) fn findings_per_tear(
     })
 }
 
-// what opens behind a cut with this tear
+// what opens after a cut with this tear
 fn opening_behind(
     alloc: Global,
     disk: &MemDisk,
@@ -122,7 +122,7 @@ fn opening_behind(
     }
 }
 
-// what is found where files recover this number and these trees
+// what is found if files recover this number and these trees
 fn finding_of(number: u64, trees: &Trees, history: &TreeHistory, bounds: NumberRange) -> Finding
     ensures { (files : ℕ → List ℕ) → Opens files number → FindingIsRight bounds files result }
 {
@@ -139,7 +139,7 @@ fn finding_of(number: u64, trees: &Trees, history: &TreeHistory, bounds: NumberR
     }
 }
 
-// what is found where nothing opens, but for want of memory
+// what is found if nothing opens; lack of memory is an error
 fn nothing_for(refusal: Refusal) -> Result<Finding, AllocError>
     ensures { IfOk result (λ finding.
         (finding ≡ Finding.Nothing refusal) × (refusal ≢ NoMemory)) }

@@ -3,7 +3,8 @@ use crate::same_trees::are_same;
 use reg_tree::Trees;
 use std::alloc::{AllocError, Global};
 
-/// The trees after each number of accepted changes, none among them. Those after one change share with those before it all that stays.
+/// The trees after each number of accepted changes, from 0 on. The trees after a change share what stays with those
+/// before it.
 #[derive(Drop)]
 pub(crate) struct TreeHistory {
     after: Vec<Trees>,
@@ -17,7 +18,7 @@ impl TreeHistory {
         Ok(TreeHistory { after })
     }
 
-    /// Keeps the trees after the change of this number, where they aren't kept.
+    /// Keeps the trees after the change of this number, if they aren't kept yet.
     pub(crate) fn keep(
         &mut self,
         alloc: Global,

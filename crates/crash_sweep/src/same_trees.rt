@@ -2,7 +2,7 @@
 use reg_tree::{Tree, Trees, Value};
 use reg_tree_parts::{Key, Node, Values};
 
-/// Whether the hives have the same trees: the same keys and values, with all that they hold, names as they are spelled.
+/// Whether the hives have the same trees: the same keys and values with all their data, and names in the same spelling.
 pub(crate) fn are_same(mine: &Trees, theirs: &Trees) -> bool {
     mine.len() == theirs.len() && (0..mine.len()).all(|hive| is_same_in(mine, theirs, hive as u8))
 }
@@ -19,7 +19,7 @@ fn is_same_tree(mine: &Tree, theirs: &Tree) -> bool {
     is_same_node(mine.root(), theirs.root())
 }
 
-// whether two keys hold the same, and so do the keys below them
+// whether two keys have the same content, and so do the keys below them
 fn is_same_node(mine: &Node, theirs: &Node) -> bool {
     if mine.subkey_count() != theirs.subkey_count() || !is_same_key(mine.key(), theirs.key()) {
         return false;
@@ -33,7 +33,7 @@ fn is_same_node(mine: &Node, theirs: &Node) -> bool {
     true
 }
 
-// whether two keys hold the same, whatever stands below them
+// whether two keys have the same content, whatever is below them
 fn is_same_key(mine: &Key, theirs: &Key) -> bool {
     mine.name().units() == theirs.name().units()
         && mine.class() == theirs.class()

@@ -7,7 +7,7 @@ use std::io;
 pub(crate) enum SweepError {
     /// Memory was refused.
     NoMemory,
-    /// A write of what is told failed.
+    /// A write of the output failed.
     Unwritten(io::Error),
 }
 

@@ -8,12 +8,13 @@ use std::alloc::Global;
 use std::io;
 use std::io::{BufRead, Write};
 
-/// Runs a script over a store of its own in memory, cuts the power behind each device call with each tear, opens what is left, and
-/// writes a table of the numbers that open; each row as soon as it is found. No more of the script is held than one line.
+/// Runs a script over a store of its own in memory, cuts the power after each device call with each tear, and opens
+/// what is left. Writes a table of the numbers that open, each row as soon as it is found. Only one line of the script
+/// is in memory at a time.
 ///
-/// The lines are those of [`play`](script_runner::play), and the steps those of [`run`](script_runner::run).
-/// The status is clean where each opening gives a number from the last acknowledged change to the last accepted one, with the
-/// trees after that, and no line was refused.
+/// The lines are those of [`play`](script_runner::play), and the steps those of [`run`](script_runner::run). The status
+/// is clean if each opening gives a number from the last acknowledged change to the last accepted one, with its trees,
+/// and no line was refused.
 ///
 /// `Err` says that a write failed, which ends the sweep.
 pub fn sweep<R: BufRead, W: Write>(
@@ -55,6 +56,6 @@ fn swept<R: BufRead, W: Write>(
             return Ok(wrong(writer, number)?);
         }
     }
-    // a script of so many lines isn't read on
+    // a script of so many lines isn't read further
     Ok(end(writer, EndOfScript::Broken)?)
 }

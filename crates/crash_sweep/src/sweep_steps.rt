@@ -1,4 +1,4 @@
-//! A run of a script whose power is cut behind each device call.
+//! A run of a script whose power is cut after each device call.
 use crate::finding::{NumberRange, SweepRow, findings_per_tear};
 use crate::history::TreeHistory;
 use crate::sweep_error::SweepError;
@@ -14,7 +14,7 @@ use std::io::Write;
 use std::sync::Arc;
 use store_model::{Event, Reply};
 
-/// A run of a script, and the table of what opens behind each of its device calls.
+/// A run of a script, and the table of what opens after each of its device calls.
 pub(crate) struct Run {
     alloc: Global,
     interpreter: Interpreter<WatchedMemDisk>,
@@ -26,7 +26,7 @@ pub(crate) struct Run {
 }
 
 impl Drop for Run {
-    // one drop for all that own a run, whose proofs see no more of it than that
+    // one drop for all that own a run, whose proofs see no more of it than this contract
     fn drop(self) {
         let Run {
             alloc: _,
@@ -40,14 +40,14 @@ impl Drop for Run {
     }
 }
 
-/// The run of the script whose first line these bytes are, or nothing where they are no such line. The calls that make its store are
-/// not swept.
+/// The run of the script whose first line these bytes are, or `None` if they are no such line. The calls that make its
+/// store are not swept.
 pub(crate) fn begun(alloc: Global, bytes: &[u8]) -> Result<Option<Run>, SweepError> {
     let plan = Arc::new(alloc, Plan::new())?;
     let Some(engine) = begin_on(alloc, bytes, plan)? else {
         return Ok(None);
     };
-    // what was just made opens, but for want of memory
+    // what was just made opens, except for lack of memory
     match open_store(alloc, WatchedMemDisk::new(engine.into_disk())) {
         Ok((engine, _)) => Ok(Some(Run::new(alloc, engine)?)),
         Err(_) => Err(SweepError::NoMemory),
@@ -69,8 +69,8 @@ impl Run {
         })
     }
 
-    /// Takes the line of this number, cutting the power behind each call that it makes; whether it is understood. The reply is told
-    /// where the line waits for the device, or is refused.
+    /// Takes the line of this number, and cuts the power after each call that it makes. Answers whether the line is
+    /// understood. The reply is written if the line waits for the device or is refused.
     pub(crate) fn take<W: Write>(
         &mut self,
         bytes: &[u8],
@@ -94,7 +94,7 @@ impl Run {
         Ok(true)
     }
 
-    // the line's reply, and whether it waits for the device; nothing where the line is not one of this run
+    // the line's reply, and whether it waits for the device; `None` if the line is not one of this run
     fn answer<W: Write>(
         &mut self,
         line: Line,
@@ -124,7 +124,7 @@ impl Run {
         Ok(())
     }
 
-    // keeps the trees after a change that a reply tells
+    // keeps the trees after a change that a reply reports
     fn keep(&mut self, told: &ReplyLine) -> Result<(), SweepError> {
         match told {
             ReplyLine::Created { number, .. } | ReplyLine::Accepted { number } => {
@@ -198,7 +198,7 @@ impl Run {
         }
     }
 
-    // makes a step; where it is refused the power is cut, and why is answered
+    // makes a step; if it is refused the power is cut, and the refusal is answered
     fn step<W: Write>(
         &mut self,
         event: Event,
@@ -213,7 +213,7 @@ impl Run {
         }
     }
 
-    // cuts the power, where a device call was made since the last cut
+    // cuts the power, if a device call was made since the last cut
     fn cut<W: Write>(&mut self, writer: &mut W) -> Result<(), SweepError> {
         let disk = self.interpreter.engine().disk();
         let Some(change) = disk.last() else {
@@ -237,7 +237,7 @@ impl Run {
         Ok(())
     }
 
-    // moves all changes into the hives and frees the journal's room, where much of that is used
+    // moves all changes into the hives and frees the journal's room, if much of that is used
     fn free_room<W: Write>(&mut self, writer: &mut W) -> Result<(), SweepError> {
         if frees_room(self.interpreter.engine()) {
             self.run_until_idle(writer)?;
@@ -259,8 +259,8 @@ impl Run {
         Ok(None)
     }
 
-    /// Ends the run behind the script's last line: all changes are made durable and moved into the hives, the journal's room is
-    /// freed, and the table's sum is told.
+    /// Ends the run after the script's last line: all changes are made durable and moved into the hives, the journal's
+    /// room is freed, and the table's sum is written.
     pub(crate) fn finish<W: Write>(&mut self, writer: &mut W) -> Result<Status, SweepError> {
         let told = self.flush(writer)?;
         self.table.write_waiting(writer)?;

@@ -1,4 +1,4 @@
-//! The table of a sweep: a row for each cut, in which neighbours that tell the same are one.
+//! The table of a sweep: a row for each cut. Neighbouring rows that say the same are one row.
 use crate::finding::{Finding, NumberRange, SweepRow};
 use crate::watched_disk::{ChangeKind, FileChange};
 use file_disk::FileName;
@@ -8,7 +8,7 @@ use std::io::Write;
 /// How many openings there are of each cut.
 const TEARS: u64 = 3;
 
-/// A table that is being written: the rows that wait to be written as one, and how many were added.
+/// A table that is being written: the rows that wait to be written as one row, and how many were added.
 #[derive(Drop)]
 pub(crate) struct SweepTable {
     waiting: Option<Rows>,
@@ -16,7 +16,7 @@ pub(crate) struct SweepTable {
     outside: u64,
 }
 
-/// Cuts behind neighbouring calls that tell the same.
+/// Cuts after neighbouring calls that say the same.
 #[derive(Clone, Copy)]
 struct Rows {
     first: u64,
@@ -34,7 +34,7 @@ impl SweepTable {
         }
     }
 
-    /// Adds the row of the cut behind the next call, and writes those that wait where it tells something else than they do.
+    /// Adds the row of the cut after the next call. Writes the waiting rows if it says something else than they do.
     pub(crate) fn add<W: Write>(&mut self, row: SweepRow, writer: &mut W) -> io::Result<()> {
         self.cuts = self.cuts.saturating_add(1);
         for finding in &row.found.each() {
@@ -118,7 +118,7 @@ fn write_change<W: Write>(writer: &mut W, change: FileChange) -> io::Result<()> 
     write!(writer, "  {verb:<5} {name}{blank}")
 }
 
-// writes what opens; what doesn't have to is marked
+// writes what opens; what must not open is marked
 fn write_finding<W: Write>(writer: &mut W, finding: Finding) -> io::Result<()> {
     match finding {
         Finding::Within { number } => write!(writer, "  {number:>8}"),

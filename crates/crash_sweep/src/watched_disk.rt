@@ -1,4 +1,4 @@
-//! A disk in memory that tells which change of a file was made last.
+//! A disk in memory that reports which change of a file was made last.
 ghost use Rattle.std.specs.Prelude.{◌≡◌};
 
 use disk_model::{Disk, Failed, MemDisk};
@@ -8,13 +8,13 @@ use disk_model::{Disk, Failed, MemDisk};
 pub(crate) enum ChangeKind {
     /// Bytes are written.
     Write,
-    /// The file is made so long.
+    /// The file gets a given length.
     Cut,
-    /// What was written and cut is made to last.
+    /// What was written and cut is made durable.
     Sync,
 }
 
-/// One device call that changes a file, or makes its changes last.
+/// One device call that changes a file, or makes its changes durable.
 #[derive(Clone, Copy, Debug, PartialEq, Eq)]
 pub(crate) struct FileChange {
     /// What is done.

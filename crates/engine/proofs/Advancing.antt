@@ -88,7 +88,7 @@ few_in now (Broken ahead) = omega arith
 few_left : (journal : Journal) → steps_left journal ≤ 5
 few_left journal = few_in journal.on_device journal.phase
 
--- what is on its way is nothing in a trim alone, where the device hasn't failed
+-- only in a trim is the content without elements under way, if the device hasn't failed
 trims_in : (now : Extent) (p : Phase) → ((view_in_phase now p).phase ≡ phase.Phase.Broken → ⊥) → (view_in_phase now p).choice.next ≡ Some nothing → (view_in_phase now p).phase ≡ phase.Phase.TrimWritten
 trims_in now AtRest broken e = absurd (none-some nothing e)
 trims_in now (BodyWritten batch) broken e = absurd (told_some batch.ahead batch.some e)
@@ -106,17 +106,17 @@ module _ (m : Machine) (base : ℕ) (opened : List Element) (old new : Journal) 
   abbrev Nears : Machine → Type 0
   Nears t = NearsDurable m (steps_left old) t (steps_left new)
 
-  -- fewer steps are left, and no change is durable no more
+  -- fewer steps are left, and each durable change stays durable
   fewer : (t : Machine) → last_number t ≡ last_number m → m.durable ≤ t.durable → steps_left new + 1 ≡ steps_left old → Nears t
   fewer t last rises one = record { few = few_left old; nearer = inr (omega (arith, one)); falls = omega (arith, one, last, rises) }
 
-  -- a batch that stands
+  -- a batch that is durable
   stands : Settles → HasPending m → journals.BatchIsDurable old new → (t : Machine) → last_number t ≡ last_number m → t.durable ≡ top m.durable (choice_of new).now → Nears t
   stands law some (one, ends) t last durable =
       let up : m.durable < top m.durable (choice_of new).now = law m base opened (choice_of old) (choice_of new) hives kept (λ trims. let is = ap steps_in (trims_at old works trims) in omega (arith, is, one)) ends in
       record { few = few_left old; nearer = inl (omega (arith, up, durable)); falls = omega (arith, up, durable, last, one, some, few_left new) }
 
-  -- nothing that was on its way stands, where a step isn't the last one
+  -- if a step isn't the last one, what was under way isn't durable
   not_ended : {X : Type 0} → ((choice_of old).next ≡ None) ⊎ (choice_of new ≡ choice_of old) → Ends (choice_of old) (choice_of new) → X
   not_ended (inl none) (x, was, is) = absurd (none-some x (sym none ∙ was))
   not_ended (inr same) (x, was, is) = absurd (none-some x (sym (ap (λ (c : Choice (Content TimedOp)). c.next) is) ∙ ap (λ (c : Choice (Content TimedOp)). c.next) same ∙ was))
@@ -137,7 +137,7 @@ module _ (m : Machine) (base : ℕ) (opened : List Element) (old new : Journal) 
     | inr last ↦ stands law some last (after_step m (choice_of old) (choice_of new) (Ok progress.Done)) refl refl
   ]
 
-  -- the step behind the first one of a trim
+  -- the step after the first one of a trim
   trimmed_by : Frees → (come : Result Progress Refusal) → come ≡ Ok progress.Done → Ends (choice_of old) (choice_of new) → IsTrimming (choice_of old) → HasTrimmed m (reply_to come) (after_step m (choice_of old) (choice_of new) come) (choice_of new)
   trimmed_by law come done (x, was, is) trims =
       let frees = law m base opened (choice_of old) (choice_of new) hives kept trims (x, was, is) in
@@ -148,7 +148,7 @@ module _ (m : Machine) (base : ℕ) (opened : List Element) (old new : Journal) 
   made_done (Ok p) done made = done
   made_done (Err why) done made = absurd (not_made (reply.Refused why) why refl made)
 
--- where something was handed in
+-- if something was handed in
 pub nearer_where : (X Y : Type 0) (come : Result Progress Refusal) (count : ℕ) → OnOk come ((0 < count) ⊎ Y → X) → 0 < count → OnOk come X
 nearer_where X Y (Ok p) count nearer some = nearer (inl some)
 nearer_where X Y (Err why) count nearer some = tt
@@ -219,7 +219,7 @@ module _ {D : Type 0} (s : Parts D) (sound : IsSound s) (free : s.store.machine.
       said (Ok progress.More) other = inr (λ e. cc)
       said (Err why) other = inr (λ e. cc)
 
--- a trim that may not be made is none that is halfway
+-- a trim that may not be made isn't under way
 pub idle_comes_on : {D : Type 0} (s : Parts D) → IsTrimmed s.store.machine s.base (changes_of s.decoded.value) (choice_of s.journal) (map view_of s.hives.items) → StepAdvances event.TrimStep (reply_to (Ok progress.Idle)) s s
 idle_comes_on s none = record {
   nears_durable = λ is _ _. absurd (not_journal is);
@@ -310,7 +310,7 @@ takes_at hives k old new was then is at there lt result upto durable tree files 
     told (Ok u) e = ap (λ (x : TreeMap × ℕ). x.1) e ∙ same
     told (Err why) e = tt
 
--- a hive that was at rest has taken in what is durable before
+-- a hive that was at rest has absorbed what is durable before
 pub from_rest : (number : ℕ) (answer : Reply) (was mid then : HiveFile) → (file_choice was).next ≡ None → file_choice mid ≡ file_choice was → (memory_of mid).1 ≡ number → StepsOn (memory_of mid).1 answer mid then → StepsOn number answer was then
 from_rest number answer was mid then rests same taken (inl begins) = inl (record {
   rests = rests;
@@ -323,18 +323,18 @@ from_rest number answer was mid then rests same taken (inl begins) = inl (record
 from_rest number answer was mid then rests same taken (inr (inl on)) = absurd (none-some (memory_of mid) (sym rests ∙ sym (ap (λ (c : Choice (TreeMap × ℕ)). c.next) same) ∙ on.was))
 from_rest number answer was mid then rests same taken (inr (inr ends)) = absurd (none-some (memory_of mid) (sym rests ∙ sym (ap (λ (c : Choice (TreeMap × ℕ)). c.next) same) ∙ ends.was))
 
--- where something is on its way to the files nothing begins
+-- if something is under way to the files nothing begins
 pub from_busy : (number other : ℕ) (answer : Reply) (was then : HiveFile) → ((file_choice was).next ≡ None → ⊥) → StepsOn other answer was then → StepsOn number answer was then
 from_busy number other answer was then not_idle (inl begins) = absurd (not_idle begins.rests)
 from_busy number other answer was then not_idle (inr on) = inr on
 
 -- What is seen of hives
 
--- of one that stays
+-- of a hive that stays
 pub seen_same : {V : Type 0} (view : HiveFile → V) (new old : List HiveFile) (i : ℕ) → slice_get new i ≡ slice_get old i → slice_get (map view new) i ≡ slice_get (map view old) i
 seen_same view new old i same = slice_get-map view new i ∙ ap (option_map view) same ∙ sym (slice_get-map view old i)
 
--- of one that makes a step
+-- of a hive that makes a step
 pub steps_seen : (old new : List HiveFile) (i number : ℕ) (answer : Reply) (was then : HiveView) (before after : FlushView) → slice_get (map view_of old) i ≡ Some was → slice_get (map flush_of old) i ≡ Some before → slice_get (map view_of new) i ≡ Some then → slice_get (map flush_of new) i ≡ Some after
     → ((x y : HiveFile) → slice_get old i ≡ Some x → slice_get new i ≡ Some y → StepsOn number answer x y) → FlushesOn number answer was then before after
 steps_seen old new i number answer was then before after at before_at there after_at steps =

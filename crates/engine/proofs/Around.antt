@@ -14,7 +14,7 @@ pub as_many : {A B : Type 0} (f : A → B) (rows : List A) (count number : ℕ) 
 as_many f rows count number is are = is ∙ sym are ∙ sym (length-map rows f)
 
 module _ (m : Machine) (base : ℕ) (opened : List Element) (hives : List HiveView) (after next count : ℕ) (many : count ≡ length hives) where
-  -- none behind, and none up to there
+  -- none after it, and none up to it
   pub none_around : AreFlushed m base opened hives next count → AreFlushed m base opened hives 0 next → AreFlushed m base opened hives 0 (length hives)
   none_around rest first i low high = elim (cases_lt i next) [
     | inl less ↦ first i low less
@@ -22,7 +22,7 @@ module _ (m : Machine) (base : ℕ) (opened : List Element) (hives : List HiveVi
   ]
 
   module _ (behind : (j : ℕ) → j < count → after < j → next ≤ j) (before : (j : ℕ) → j < next → j ≤ after) (from : (j : ℕ) → j < count → next ≤ j → after < j) where
-    -- one behind
+    -- one after it
     pub found_behind : (i : ℕ) → (next ≤ i) × (i < count) × (HiveIsFlushed m base opened hives i → ⊥) × AreFlushed m base opened hives next i → IsNextAround m base opened hives after i
     found_behind i (low, high, works, flushed) = record {
       there = omega (arith, many, high);
@@ -33,7 +33,7 @@ module _ (m : Machine) (base : ℕ) (opened : List Element) (hives : List HiveVi
       ];
     }
 
-    -- one up to there, where there is none behind
+    -- one up to it, if there is none after it
     pub found_around : next ≤ count → AreFlushed m base opened hives next count → (i : ℕ) → (i < next) × (HiveIsFlushed m base opened hives i → ⊥) × AreFlushed m base opened hives 0 i → IsNextAround m base opened hives after i
     found_around within rest i (low, works, flushed) = record {
       there = omega (arith, many, low, within);
@@ -47,7 +47,7 @@ module _ (m : Machine) (base : ℕ) (opened : List Element) (hives : List HiveVi
       ];
     }
 
--- what follows from what a clause says where there is nothing
+-- what follows from a clause if there is nothing
 pub none_then : {A P Q : Type 0} (r : Option A) → IfNone r P → (P → Q) → IfNone r Q
 none_then None p f = f p
 none_then (Some a) p f = tt

@@ -1,4 +1,4 @@
--- An engine's parts go on by an event.
+-- An engine's parts answer an event.
 use Rattle.std.proofs.Common.{◌≡◌, ◌⊎◌, inl, inr, ℕ, ◌+◌, ◌<◌, refl, sym, ◌∙◌, ap, subst, arith, Result, Ok, Err, slice_get}
 use Rattle.refusals.specs.declared.refusal.Refusal.{Refusal}
 use Rattle.std.proofs.lemmas.Bool.{true≢false}
@@ -45,7 +45,8 @@ works_else (Ok come) old new failed other = failed
 works_else (Err DiskFault) old new failed other = absurd (other refl)
 works_else (Err _) old new failed other = failed
 
--- A step that needs no device leaves the disk: an idle one does, and one that is refused for another reason than the device.
+-- A step that needs no device leaves the disk: an idle one does, and one that is refused for another reason than the
+-- device.
 
 told_refused : (come : Result Progress Refusal) (why : Refusal) → reply_to come ≡ Refused why → come ≡ Err why
 told_refused (Ok progress.Idle) why told = absurd cc
@@ -77,7 +78,7 @@ refused_still says (Ok p) a b old new said no_change why is other = absurd (apar
     apart : ◌≡◌ {A = Result Progress Refusal} (Ok p) (Err why) → ⊥
     apart same = cc
 
--- a step of a trim, which is never idle or refused for want of memory
+-- a step of a trim, which is never idle or refused for lack of memory
 pub trim_still : {D : Type 0} (come : Result Progress Refusal) (a b : Choice (Content TimedOp)) (old new : D) → Says TrimSays come a b → (come ≡ Err Faulted → new ≡ old) → (come ≡ Err Faulted) ⊎ ((come ≡ Err NoMemory) ⊎ (come ≡ Ok progress.Idle)) → new ≡ old
 trim_still come a b old new said no_change (inl faulted) = no_change faulted
 trim_still come a b old new said no_change (inr (inl hungry)) = absurd (subst (λ r. Says TrimSays r a b) hungry said)
@@ -114,7 +115,7 @@ module _ {D : Type 0} (states : D → ℕ → ℕ → FileState) (clock failures
     hives_stay = λ i no. refl;
   }
 
-  -- a hive has taken something in before
+  -- a hive has absorbed something before
   pub behind : (old mid new : Parts D) → mid ≡ record old { hives = mid.hives } → ((state : ℕ → FileState) → AreOnDisk old.journal old.hives.items state → AreOnDisk mid.journal mid.hives.items state)
       → ((i : ℕ) → (event ≡ FlusherStep i → ⊥) → slice_get mid.hives.items i ≡ slice_get old.hives.items i)
       → PartsStep states clock failures is_faithful event answer mid new → PartsStep states clock failures is_faithful event answer old new
@@ -137,7 +138,7 @@ module _ {D : Type 0} (states : D → ℕ → ℕ → FileState) (clock failures
         hives_stay = λ i no. on.hives_stay i no ∙ others i no;
       }
 
--- a step that was refused for want of memory
+-- a step that was refused for lack of memory
 pub hungry : {D : Type 0} (states : D → ℕ → ℕ → FileState) (clock failures : D → ℕ) (is_faithful : D → Type 0) (hive : ℕ) (parts : Parts D) (why : Refusal) → IsSound parts → why ≡ NoMemory → PartsStep states clock failures is_faithful (FlusherStep hive) (reply_to (Err why)) parts parts
 hungry states clock failures is_faithful hive parts why sound is =
     subst (λ w. PartsStep states clock failures is_faithful (FlusherStep hive) (reply_to (Err w)) parts parts) (sym is) (stays states clock failures is_faithful (FlusherStep hive) (Refused NoMemory) parts sound (inl (inr refl, refl)) (λ e. cc))

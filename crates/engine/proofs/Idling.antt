@@ -1,4 +1,4 @@
--- Where a step has nothing to do.
+-- When a step has nothing to do.
 use Rattle.std.proofs.Common.{◌≡◌, ◌↔◌, inl, inr, ℕ, ◌-◌, ◌<◌, ◌≤◌, true, List, [], ◌∷◌, length, map, drop, refl, sym, ◌∙◌, ap, subst, arith, Some, None, Result, Ok, Err, slice_get}
 use Rattle.std.proofs.lemmas.Option.{none-some, same_Some}
 use Rattle.std.proofs.lemmas.List.{length-drop, length-map}
@@ -103,7 +103,7 @@ pub trim_idles : (m : Machine) (base : ℕ) (opened : List Element) (journal new
     → (come ≡ Ok progress.Idle) ↔ IsTrimmed m base opened journal hives
 trim_idles m base opened journal new hives come may says = (λ e. absurd (subst (λ r. Says TrimSays r journal new) e says), λ none. absurd (not_both m base opened journal hives may none))
 
--- what is on its way, where no trim is and the device has not failed, has a change
+-- what is under way has a change, if no trim is under way and the device has not failed
 pub told_some : (s : Extent) → 0 < length (journals.content_of s).elements → Some (journals.content_of s) ≡ Some nothing → ⊥
 told_some s some e = omega (arith, some, ap (λ (x : Content TimedOp). length x.elements) (same_Some (journals.content_of s) nothing e))
 
@@ -152,7 +152,7 @@ module _ (m : Machine) (base : ℕ) (opened : List Element) (numbers : List ℕ)
     λ flushed. exact.1 (subst (λ (v : HiveView). HasAll m base opened i v) (same_Some flushed.hive (view_of hive) (sym flushed.there ∙ view_at hives i hive there)) flushed.has),
   )
 
--- where something is on its way to a hive's files there is something to do
+-- if something is under way to a hive's files there is something to do
 pub flush_goes_on : {Rests : Type 0} (m : Machine) (base : ℕ) (opened : List Element) (hives : List HiveFile) (i : ℕ) (hive : HiveFile) → slice_get hives i ≡ Some hive → ((file_choice hive).next ≡ None → ⊥) → (Rests → ⊥)
     → Rests ↔ HiveIsFlushed m base opened (map view_of hives) i
 flush_goes_on m base opened hives i hive there not_idle not = (λ e. absurd (not e), λ flushed. absurd (not_idle (ap (λ (v : HiveView). v.files.next) (same_Some (view_of hive) flushed.hive (sym (view_at hives i hive there) ∙ flushed.there)) ∙ flushed.rests)))

@@ -87,7 +87,7 @@ module _ (s : StoreView) (base : ℕ) (opened : List Element) (old : Journal) (h
       → Step s.machine event.TrimStep (reply_to result) (after_step s.machine (choice_of old) (choice_of new) result) × IsConsistent (after_step s.machine (choice_of old) (choice_of new) result) base opened (choice_of new) (map view_of hives)
   trim_goes law new result free may broken says = law s.machine base opened (choice_of old) (choice_of new) (map view_of hives) result a.kept free may (λ f. a.journal_works free (broken.0 f)) says
 
--- where something is spelled the last number is that of the last change
+-- if the content has elements the last number is that of the last change
 pub top_same : (d : ℕ) (s : Content TimedOp) → 0 < top 0 s → top d s ≡ top 0 s
 top_same d s some = by_list s.below s.elements some
   where
@@ -112,7 +112,7 @@ step_accepted m old new (Err why) = refused_accepted m why
 settled_within : (m t : Machine) (base : ℕ) (opened : List Element) (old new : Choice (Content TimedOp)) (hives : List HiveView) (result : Result Progress Refusal) → IsConsistent (after_step m old new result) base opened new hives → t ≡ after_step m old new result → t.durable ≤ last_number m
 settled_within m t base opened old new hives result kept is = omega (arith, kept.kept.within.known, ap (λ (x : Machine). x.durable) is, step_before m old new result, ap (λ (l : List Element). length l) (step_accepted m old new result))
 
--- A call of the journal, and what the store is told behind it
+-- A call of the journal, and what the store does after it
 module _ {D : Type 0} (states : D → ℕ → ℕ → FileState) (clock failures : D → ℕ) (is_faithful : D → Type 0) (e : Event) (steps : (e ≡ event.JournalStep) ⊎ (e ≡ event.TrimStep)) where
   pub journal_goes_on : (s : Parts D) (new : Journal) (disk : D) (store : StoreView) (last_changes : LastChangePerHive) (come : Result Progress Refusal) (used : ℕ) → IsSound s → s.store.machine.faulted ≡ false
       → Step s.store.machine e (reply_to come) (after_step s.store.machine (choice_of s.journal) (choice_of new) come)
@@ -151,7 +151,7 @@ module _ {D : Type 0} (states : D → ℕ → ℕ → FileState) (clock failures
         hives_stay = λ i no. refl;
       }
 
--- a trim may begin where each hive's number is not below that of the last change that names it
+-- a trim may begin if each hive's number is not below that of the last change that names it
 pub may_begin : (m : Machine) (base : ℕ) (opened : List Element) (journal : Choice (Content TimedOp)) (hives : List HiveFile) (numbers : List ℕ) → AreLastNaming m base opened numbers → length numbers ≡ length hives → journal.next ≡ None → ¬ (top 0 journal.now ≡ 0)
     → ((i number : ℕ) (hive : HiveFile) → slice_get hives i ≡ Some hive → slice_get numbers i ≡ Some number → number ≤ (file_choice hive).now.1) → MayTrim m base opened journal (map view_of hives)
 may_begin m base opened journal hives numbers last_changes named rests some have =

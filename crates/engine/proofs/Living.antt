@@ -1,4 +1,4 @@
--- Lives go on from one another.
+-- Lives continue from one another.
 use Rattle.std.proofs.Common.{◌≡◌, inl, inr, ℕ, ◌-◌, ◌≤◌, Bool, true, false, List, [], ◌∷◌, length, take, refl, sym, ◌∙◌, ap, subst, arith}
 use Rattle.reg_tree.specs.Maps.{TreeMap}
 use Rattle.reg_tree.specs.Sequences.{after_elements}
@@ -29,7 +29,7 @@ OneRecovered = (files : ℕ → List ℕ) (a b : Store) (n m : ℕ) (ts us : Lis
 rests_as : (bytes : List ℕ) → Leaves (at_rest bytes) bytes
 rests_as bytes = record { no_shorter = omega arith; no_longer = omega arith; kept = λ p lt none. refl }
 
--- A file that was synced, or is as it was
+-- A file that was synced, or is as it was before
 
 module _ (hives : ℕ) (state end : ℕ → FileState) (seen : ReadsSafely hives state) (kept : (f : ℕ) → IsSyncedOrSame (state f) (end f)) where
   -- what a read gives is still what a crash may leave
@@ -63,7 +63,7 @@ module _ (hives : ℕ) (state end : ℕ → FileState) (seen : ReadsSafely hives
 
 -- The next life's files
 
--- all that may be left of them may have been left of those before, and so may what a read gives
+-- all that may be left of the next files may have been left of those before, and so may what a read gives
 next_left : (hives : ℕ) (life : Life) (next : ℕ → FileState) → IsNext hives life next → (files : ℕ → List ℕ) → LeavesHonest (IsPrimaryOf hives) next files → LeavesHonest (IsPrimaryOf hives) (end_of life) files
 next_left hives life next (inl (left, was, is)) files there =
     let same : (f : ℕ) → files f ≡ left f = λ f. left_at_rest (left f) (files f) (subst (λ (s : FileState). Leaves s (files f)) (is f) (there.0 f)) in (

@@ -24,7 +24,7 @@ use Rattle.engine.specs.LastChangePerHive.{AreLastNaming}
 known : Machine → ℕ → List Element → List (law.Element TimedOp)
 known m base opened = take (m.durable - base) (known_elements (life_of m base opened))
 
--- where the durable changes stay, so do the last ones
+-- if the durable changes stay, so do the last ones
 pub naming_stays : (m t : Machine) (base : ℕ) (opened : List Element) (numbers : List ℕ) → take (t.durable - base) (known_elements (life_of t base opened)) ≡ take (m.durable - base) (known_elements (life_of m base opened))
     → AreLastNaming m base opened numbers → AreLastNaming t base opened numbers
 naming_stays m t base opened numbers same last i k is =

@@ -1,4 +1,4 @@
--- An engine's parts stay sound where the store in memory alone goes on.
+-- An engine's parts stay sound if only the store in memory changes.
 use Rattle.std.proofs.Common.{◌≡◌, ◌⊎◌, ℕ, true, List, map, refl, sym, ap, subst, arith}
 use Rattle.reg_tree.specs.declared.element.Element.{Element}
 use Rattle.crash_model.specs.Promises.{Choice, Content}
@@ -29,7 +29,7 @@ EventsKeep = (old new : Machine) (base : ℕ) (opened : List Element) (journal :
 abbrev pub Settle : Type 0
 Settle = (old new : Machine) (event : Event) (reply : Reply) → InvariantHolds old → is_not_step event ≡ true → Step old event reply new → JournalStateStays old new ⊎ AcceptsOneChange old new
 
--- a calm event
+-- an event that makes no step
 pub non_step_keeps : {D : Type 0} → EventsKeep → Settle → (s : Parts D) (t : StoreView) (e : Event) (r : Reply) → IsSound s → is_not_step e ≡ true → Step s.store.machine e r t.machine → t.retained ≡ s.store.retained → IsSound (record s { store = t })
 non_step_keeps keep mark_durable s t e r sound non_step step hand =
     let kept = sound.holds.kept in
@@ -41,7 +41,7 @@ non_step_keeps keep mark_durable s t e r sound non_step step hand =
       retained = retained_at_non_step s.store t s.base (changes_of s.decoded.value) s.opened.items s.hives.items kept.begun kept.kept.within.known how hand sound.retained;
     }
 
--- the store is told nothing of what an engine keeps
+-- the store changes nothing of an engine's invariant
 pub told_keeps : {D : Type 0} (s : Parts D) (t : StoreView) → IsSound s → t.machine ≡ s.store.machine → t.retained ≡ s.store.retained → IsSound (record s { store = t })
 told_keeps s t sound same hand = record {
   holds = told_sound s.store t s.base (changes_of s.decoded.value) s.journal s.hives.items same sound.holds;
@@ -50,7 +50,7 @@ told_keeps s t sound same hand = record {
   retained = hand_steps s.store t s.base (changes_of s.decoded.value) s.opened.items s.hives.items (ap (λ (m : Machine). m.before) same) (ap (λ (m : Machine). m.accepted) same) (omega (arith, ap (λ (m : Machine). m.durable) same)) hand sound.retained;
 }
 
--- an event that may accept a change is calm
+-- an event that may accept a change makes no step
 pub accepting_is_not_step : (e : Event) → may_accept e ≡ true → is_not_step e ≡ true
 accepting_is_not_step event.JournalStep accepts = absurd cc
 accepting_is_not_step (event.FlusherStep hive) accepts = absurd cc

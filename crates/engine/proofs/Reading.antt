@@ -1,4 +1,4 @@
--- What a read gives of the files, as long as the device hasn't failed, or where no flush is on its way.
+-- What a read gives of the files, as long as the device hasn't failed, or if no flush is under way.
 use Rattle.std.proofs.Common.{◌≡◌, ◌⊎◌, inl, inr, ℕ, true, false, List, length, take, refl, sym, ◌∙◌, ap, subst, None, Some, slice_get}
 use Rattle.std.proofs.lemmas.Bool.{true≢false}
 use Rattle.std.proofs.lemmas.Option.{none-some}
@@ -20,7 +20,7 @@ use Rattle.commit_journal.specs.declared.journal.Journal.{Journal}
 use Rattle.engine_invariant.specs.Prefixes.{AreOnDisk, IsPrimaryOf}
 use Rattle.engine_invariant.proofs.StoreReads.{reads_left}
 
--- A hive with no flush on its way, and no repair left, has its primary file at rest
+-- A hive with no flush under way, and no repair left, has its primary file at rest
 rests_in : (at : FlushStage) (T : Type 0) (stands : TreeDecoder T) (work : FlushState T) (total : ℕ) (now memory : TreeMap × ℕ) (primary log : FileState) → IsFlushing at → (choice_at at now memory).next ≡ None → files_match_phase stands work (phase_in total at) primary log
     → primary ≡ at_rest primary.synced
 rests_in stage.AtRest T stands work total now memory primary log whole rests on = on.rest

@@ -1,4 +1,4 @@
--- The changes that an engine has at hand.
+-- The changes that an engine retains.
 use Rattle.std.proofs.Common.{◌≡◌, ◌⊎◌, inl, inr, ℕ, ◌+◌, ◌-◌, ◌≤◌, min, max, List, [], ◌++◌, length, get_or, take, drop, refl, sym, ◌∙◌, ap, subst, arith, Some, Result, Ok, Err, slice_get}
 use Rattle.std.specs.Prelude.{slice_set, OnOk, OnErr}
 use Rattle.std.proofs.lemmas.Option.{slice_get_within, slice_get-get_or}
@@ -30,7 +30,7 @@ use Rattle.engine.specs.RetainedChanges.{RetainsWhatHivesLack, HaveUpTo}
 use Rattle.engine.specs.LastChangePerHive.{AreLastNaming}
 use Rattle.engine.proofs.Namings.{known_stays}
 
--- an opening: those are at hand that it kept
+-- an opening: the changes that it kept are retained
 pub hand_opens : (store : StoreView) (base below : ℕ) (decoded kept : List Element) (hives : List HiveFile) → store.machine.before ≡ base + length decoded → store.machine.durable ≡ store.machine.before → store.retained ≡ store.machine.before
     → opening.RetainsWhatHivesLack base decoded below kept hives → RetainsWhatHivesLack store base decoded kept hives
 hand_opens store base below decoded kept hives begun durable hand found = record {
@@ -44,7 +44,7 @@ hand_opens store base below decoded kept hives begun durable hand found = record
       ∙ found.held i hive is;
 }
 
--- where what is known stays, so does what is at hand
+-- if what is known stays, so does what is retained
 pub hand_stays : (s t : StoreView) (base : ℕ) (decoded opened : List Element) (hives : List HiveFile) → t.machine.before ≡ s.machine.before → s.machine.durable ≤ t.machine.durable → t.retained ≡ s.retained
     → ((hi : ℕ) → hi ≤ s.machine.durable → take (hi - base) (known_elements (life_of t.machine base decoded)) ≡ take (hi - base) (known_elements (life_of s.machine base decoded))) → RetainsWhatHivesLack s base decoded opened hives → RetainsWhatHivesLack t base decoded opened hives
 hand_stays s t base decoded opened hives before up hand same a = record {
@@ -89,7 +89,7 @@ hand_takes s base decoded opened hives k old new is more a = record {
     own (inl same) = ap (λ (x : TreeMap × ℕ). ops_in (life_of s.machine base decoded) k x.1 a.gone) same ∙ a.lacked k old is
     own (inr above) = ap (ops_on k) (seg_none (known_elements (life_of s.machine base decoded)) ((memory_of new).1 - base) (a.gone - base) (omega (arith, above, a.high)))
 
--- more are let go, which no hive lacks
+-- more changes are discarded, which no hive lacks
 pub hand_lets_go : (s t : StoreView) (base : ℕ) (decoded old new : List Element) (hives : List HiveFile) (numbers : List ℕ) (number : ℕ) → s.machine.before ≡ base + length decoded → t.machine ≡ s.machine → t.retained ≡ max s.retained number
     → new ≡ drop (length old - min (length old) (s.machine.before - number)) old → number ≤ s.machine.durable → length numbers ≡ length hives → AreLastNaming s.machine base decoded numbers → HaveUpTo number numbers hives
     → RetainsWhatHivesLack s base decoded old hives → RetainsWhatHivesLack t base decoded new hives
@@ -152,7 +152,7 @@ hand_flushes s t base decoded opened hives k old new come is same told hand a =
     flush_accepted m (Ok progress) = refl
     flush_accepted m (Err why) = refused_accepted m why
 
--- what a hive has in memory once it has taken something in, or nothing
+-- what a hive has in memory once it has absorbed something, or nothing
 pub taken_memory : (r : Result (Unit {0}) Refusal) (m : Machine) (old new : HiveFile) (durable : ℕ) (tree : TreeMap) → durable ≡ m.durable → OnOk r (memory_of new ≡ (tree, durable)) → OnErr r (new ≡ old) → (memory_of new ≡ memory_of old) ⊎ (m.durable ≤ (memory_of new).1)
 taken_memory (Ok u) m old new durable tree d ok err = inr (omega (arith, d, ap (λ (x : TreeMap × ℕ). x.1) ok))
 taken_memory (Err why) m old new durable tree d ok err = inl (ap (λ (h : HiveFile). memory_of h) err)

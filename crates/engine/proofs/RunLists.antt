@@ -1,4 +1,4 @@
--- A run of the machine goes on by one step.
+-- A run of the machine continues by one step.
 use Rattle.std.proofs.Common.{◌≡◌, suc, List, [], ◌∷◌, ◌++◌, length, refl, ap, subst}
 use Rattle.store_model.specs.Machine.{Machine}
 use Rattle.store_model.specs.Steps.{Step, Run}

@@ -43,7 +43,7 @@ non_step_sound s t base opened journal hives a kept how = record {
     faulted (inl x) = x.faulted
     faulted (inr x) = x.faulted
 
--- the store is told nothing of what an engine keeps
+-- the store changes nothing of an engine's invariant
 pub told_sound : (s t : StoreView) (base : ℕ) (opened : List Element) (journal : Journal) (hives : List HiveFile) → t.machine ≡ s.machine → AreSound s base opened journal hives → AreSound t base opened journal hives
 told_sound s t base opened journal hives same a = record {
   kept = subst (λ (m : Machine). IsConsistent m base opened (choice_of journal) (map view_of hives)) (sym same) a.kept;
@@ -54,7 +54,7 @@ told_sound s t base opened journal hives same a = record {
   hives_work = λ free. a.hives_work (sym (ap (λ (m : Machine). m.faulted) same) ∙ free);
 }
 
--- a machine told by the room that was used
+-- a machine by the room that was used
 pub settled_is : (m : Machine) (old new : Choice (Content TimedOp)) (used : ℕ) (result : Result Progress Refusal) → used ≡ 65 + room_of old.now.elements → after_mark_durable m new.now used result ≡ after_step m old new result
 settled_is m old new used (Ok progress.Done) e = let f : used - (65 + room_of new.now.elements) ≡ room_of old.now.elements - room_of new.now.elements = omega (arith, e) in ap (λ n. record m { durable = top m.durable new.now; room = m.room - n }) f
 settled_is m old new used (Ok progress.Idle) e = refl
@@ -114,7 +114,7 @@ journal_sound s t base opened old new hives result a free kept same broken is = 
 pub at_place : {H : Type 0} (hives : List H) (k : ℕ) (h : H) → k < length hives → h ≡ get_or hives k h → slice_get hives k ≡ Some h
 at_place hives k h lt e = slice_get_read hives (length hives) k h refl lt e
 
--- a hive that has taken something in, or made a step
+-- a hive that has absorbed something, or made a step
 pub hive_sound : (s t : StoreView) (base : ℕ) (opened : List Element) (journal : Journal) (hives : List HiveFile) (k : ℕ) (old new : HiveFile) → AreSound s base opened journal hives → slice_get hives k ≡ Some old
     → IsConsistent t.machine base opened (choice_of journal) (slice_set (map view_of hives) k (view_of new)) → hive_number new ≡ hive_number old → states.store_of new ≡ states.store_of old → HiveIsRepaired new
     → (t.machine.faulted ≡ false → (s.machine.faulted ≡ false) × ¬ (IsBroken new)) → AreSound t base opened journal (slice_set hives k new)

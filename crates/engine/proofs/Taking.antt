@@ -1,4 +1,4 @@
--- What a hive says of its steps, and what it takes in, is what the engine answers and keeps.
+-- What a hive says of its steps, and what it absorbs, is what the engine answers and keeps.
 use Rattle.std.proofs.Common.{◌≡◌, ◌⊎◌, ◌↔◌, inl, inr, ℕ, ◌+◌, ◌-◌, ◌≤◌, max, min, false, List, [], ◌++◌, length, map, take, drop, sym, ◌∙◌, ap, subst, arith, Some, None, Result, Ok, Err, slice_get}
 use Rattle.std.specs.Prelude.{slice_set, OnOk, OnErr}
 use Rattle.std.proofs.lemmas.List.{drop-drop, length-drop, drop-take, take_all}
@@ -79,7 +79,7 @@ module _ (s : StoreView) (base : ℕ) (opened : List Element) (journal : Journal
   lawful law es e = subst (λ n. ChangesAreLegalOn n es (memory_of old).0) (sym (a.placed.place k old is)) (subst (λ (os : List TimedOp). AreLegal tree_rules os (memory_of old).0) (sym e)
       (law s.machine base opened (choice_of journal) (map view_of hives) k (view_of old) a.kept (view_at hives k old is)).1)
 
-  -- what was taken in, or nothing
+  -- what was absorbed, or nothing
   pub taken : Takes → Flush → (new : HiveFile) (es : List Element) (durable : ℕ) (result : Result (Unit {0}) Refusal) → file_choice new ≡ file_choice old → (file_choice old).next ≡ None → durable ≡ s.machine.durable
       → ops_on k (timed_elements es) ≡ ops_on k (timed_elements (opened_above base opened (memory_of old).1 ++ accepted_above s.machine (memory_of old).1)) → OnOk result (memory_of new ≡ (tree_after_changes (hive_number old) es (memory_of old).0, durable)) → OnErr result (new ≡ old)
       → hive_number new ≡ hive_number old → states.store_of new ≡ states.store_of old → HiveIsRepaired new → (IsBroken new → IsBroken old) → AreSound s base opened journal (slice_set hives k new)

@@ -32,11 +32,11 @@ parts_view clock failures parts = record {
   failures = failures parts.disk;
 }
 
--- Over a disk of these states, this clock and these failures, the parts go on by an event with an answer. It is a step of the
--- machine, with at most one call of the device. The parts stay sound, and on the disk as they say, where they were and the disk
--- is faithful. The files are of the same store. The device has failed where the answer says so, and at no other answer. What the
--- journal spelled at the opening stays; the journal changes in a step of it or of a trim alone, and a hive in a step of its flush. The
--- disk stays where the answer is told without it.
+-- Over a disk of these states, this clock and these failures, the parts answer an event. It is a step of the machine,
+-- with at most one device call. If the parts were sound, and on the disk as they say, and the disk is faithful, they
+-- stay so. The files are of the same store. The device has failed if the answer says so, and at no other answer. What
+-- the journal decoded to at the opening stays. The journal changes only in a step of it or of a trim, and a hive only
+-- in a step of its flush. The disk stays if the answer needs no device.
 pub record PartsStep {D : Type 0} (states : D → ℕ → ℕ → FileState) (clock failures : D → ℕ) (is_faithful : D → Type 0)
     (event : Event) (answer : Reply) (old new : Parts D) : Type 0 where
   pub step : Step old.store.machine event answer new.store.machine
@@ -53,9 +53,9 @@ pub record PartsStep {D : Type 0} (states : D → ℕ → ℕ → FileState) (cl
   pub journal_stays : ¬ (event ≡ events.JournalStep) → ¬ (event ≡ events.TrimStep) → new.journal ≡ old.journal
   pub hives_stay : (i : ℕ) → ¬ (event ≡ events.FlusherStep i) → slice_get new.hives.items i ≡ slice_get old.hives.items i
 
--- How far a step that isn't refused brings an engine's parts. One of the journal brings what waits nearer to being durable. One of
--- a trim, where none is halfway and there is something to do, begins one; and the next step of either ends it. One of a hive's flush
--- begins a flush of what is durable, goes on with it, or ends it.
+-- How far a step that isn't refused brings an engine's parts. A step of the journal brings what waits nearer to being
+-- durable. A step of a trim begins one, if none is under way and there is something to do; and the next step of either
+-- ends it. A step of a hive's flush begins a flush of what is durable, continues it, or ends it.
 pub record StepAdvances {D : Type 0} (event : Event) (answer : Reply) (old new : Parts D) : Type 0 where
   pub nears_durable : event ≡ events.JournalStep → IsNotRefused answer → HasPending old.store.machine
       → NearsDurable old.store.machine (steps_left old.journal) new.store.machine (steps_left new.journal)

@@ -12,8 +12,8 @@ use Rattle.commit_journal.specs.Store.{Store}
 use Rattle.engine_invariant.specs.Prefixes.{IsPrefix, IsPrimaryOf, trees_after}
 use Rattle.recovery.specs.Recovered.{IsRecovered, seen_in}
 
--- A life of a store, up to some moment at which the files are in this state: it hasn't opened, since an opening was refused or was on
--- its way; or it has, at a number and trees, and its machine has come so far.
+-- A life of a store, up to some moment at which the files are in this state. Either it hasn't opened, since an opening
+-- was refused or was under way. Or it has, at a number and trees, and its machine has come so far.
 pub data Life : Type 0 where
   NeverOpened : (ℕ → FileState) → Life
   Opened : ℕ → List TreeMap → Machine → (ℕ → FileState) → Life
@@ -27,8 +27,8 @@ abbrev pub faulted_in : Life → Bool
 faulted_in (NeverOpened end) = false
 faulted_in (Opened number trees last end) = last.faulted
 
--- A machine that was opened at a number and trees, with some room, and faulted if the device failed in a repair, has come to this
--- one by events.
+-- A machine that was opened at a number and trees, with some room, and faulted if the device failed in a repair, has
+-- reached this one by events.
 pub record ReachedFromOpening (number : ℕ) (trees : List TreeMap) (last : Machine) : Type 0 where
   pub room : ℕ
   pub broken : Bool
@@ -36,24 +36,26 @@ pub record ReachedFromOpening (number : ℕ) (trees : List TreeMap) (last : Mach
   pub replies : List Reply
   pub run : Run (record (opened_machine (bounds_of trees) trees number [] 0) { room = room; faulted = broken }) events replies last
 
--- whatever a crash leaves of these files, with honest first sectors of the store's primary files, is a prefix of a machine's changes
+-- whatever a crash leaves of these files, with honest first sectors of the store's primary files, is a prefix of a
+-- machine's changes
 abbrev pub IsSafe : Store → Machine → (ℕ → FileState) → Type 0
 IsSafe store machine state = (files : ℕ → List ℕ) → LeavesHonest (IsPrimaryOf (length machine.opened)) state files → IsPrefix store machine files
 
--- what a read gives of the files of so many hives is what a crash may leave of them, with honest first sectors
+-- what a read gives of the files of `hives` hives is what a crash may leave of them, with honest first sectors
 abbrev pub ReadsSafely : ℕ → (ℕ → FileState) → Type 0
 ReadsSafely hives state = LeavesHonest (IsPrimaryOf hives) state (seen_in state)
 
--- A life on files that are in this state as it begins. Before it has opened, each file is as it was, or synced. It opens at what
--- the files recover, as they are read; and then what a crash leaves is a prefix of what it accepted since, and so is what a read gives
--- as long as the device hasn't failed.
+-- A life on files that are in this state as it begins. Before it has opened, each file is as it was, or synced. It
+-- opens at what the files recover, as they are read. Then what a crash leaves is a prefix of what it accepted since,
+-- and so is what a read gives as long as the device hasn't failed.
 abbrev pub IsLife : Store → (ℕ → FileState) → Life → Type 0
 IsLife store state (NeverOpened end) = (f : ℕ) → IsSyncedOrSame (state f) (end f)
 IsLife store state (Opened number trees last end) =
     IsRecovered (seen_in state) store number trees × ReachedFromOpening number trees last × IsSafe store last end × (last.faulted ≡ false → ReadsSafely (length last.opened) end)
 
--- Where a life has ended the next one begins: behind a crash on whatever that left, with honest first sectors; or, without one, on the
--- files as they are. If the device failed in the life, what a read gives of them has honest first sectors then.
+-- The next life begins where a life has ended. After a crash it begins on whatever that left, with honest first
+-- sectors. Without one it begins on the files as they are. If the device failed in the life, what a read gives of them
+-- has honest first sectors then.
 abbrev pub IsNext : ℕ → Life → (ℕ → FileState) → Type 0
 IsNext hives life next = ((left : ℕ → List ℕ) × LeavesHonest (IsPrimaryOf hives) (end_of life) left × ((f : ℕ) → next f ≡ at_rest (left f)))
     ⊎ ((faulted_in life ≡ true → ReadsSafely hives (end_of life)) × ((f : ℕ) → next f ≡ end_of life f))
@@ -63,7 +65,7 @@ abbrev pub AreLives : Store → (ℕ → FileState) → List Life → Type 0
 AreLives store state [] = ⊤
 AreLives store state (life ∷ lives) = IsLife store state life × ((next : ℕ → FileState) × IsNext store.hives life next × AreLives store next lives)
 
--- An opening goes on from a machine: at one of its numbers, not below the durable one, and at the trees after it.
+-- An opening continues from a machine: at one of its numbers, not below the durable one, and at the trees after it.
 pub record OpensFrom (machine : Machine) (number : ℕ) (trees : List TreeMap) : Type 0 where
   pub low : machine.durable ≤ number
   pub high : number ≤ last_number machine
@@ -75,7 +77,7 @@ FirstOpensAt number trees [] = ⊤
 FirstOpensAt number trees (NeverOpened end ∷ lives) = FirstOpensAt number trees lives
 FirstOpensAt number trees (Opened at found last end ∷ lives) = (at ≡ number) × (found ≡ trees)
 
--- Each life that opens goes on from the last one before it that did.
+-- Each life that opens continues from the last life before it that opened.
 abbrev pub EachLifeContinues : Machine → List Life → Type 0
 EachLifeContinues machine [] = ⊤
 EachLifeContinues machine (NeverOpened end ∷ lives) = EachLifeContinues machine lives

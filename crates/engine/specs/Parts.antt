@@ -21,8 +21,8 @@ use Rattle.engine.specs.RetainedChanges.{RetainsWhatHivesLack}
 use Rattle.engine.specs.LastChangePerHive.{AreLastNaming}
 use Rattle.engine.specs.declared.parts.Parts.{Parts}
 
--- The store in memory, the journal and the hives of an engine: all that an engine keeps; each hive has its place in the store,
--- and no repair left; and as long as the store isn't faulted the device has failed in no step.
+-- The store in memory, the journal and the hives of an engine: all of its invariant. Each hive has its number in the
+-- store, and no repair left. As long as the store isn't faulted the device has failed in no step.
 pub record AreSound (store : StoreView) (base : ℕ) (opened : List Element) (journal : Journal) (hives : List HiveFile) : Type 0 where
   pub kept : IsConsistent store.machine base opened (choice_of journal) (map view_of hives)
   pub placed : ArePlaced (store_of journal) hives
@@ -31,16 +31,17 @@ pub record AreSound (store : StoreView) (base : ℕ) (opened : List Element) (jo
   pub journal_works : store.machine.faulted ≡ false → ¬ (journals.IsBroken journal)
   pub hives_work : store.machine.faulted ≡ false → (i : ℕ) (hive : HiveFile) → slice_get hives i ≡ Some hive → ¬ (IsBroken hive)
 
--- An engine's parts are sound; of each hive it is known which durable change names it last; and each change that is pending or
--- that a hive lacks is at hand.
+-- An engine's parts are sound. For each hive it is known which durable change names it last. Each change that is
+-- pending or that a hive lacks is retained.
 pub record IsSound {D : Type 0} (parts : Parts D) : Type 0 where
   pub holds : AreSound parts.store parts.base (changes_of parts.decoded.value) parts.journal parts.hives.items
   pub last_changes : AreLastNaming parts.store.machine parts.base (changes_of parts.decoded.value) parts.last_changes.last.items
   pub named : length parts.last_changes.last.items ≡ length parts.hives.items
   pub retained : RetainsWhatHivesLack parts.store parts.base (changes_of parts.decoded.value) parts.opened.items parts.hives.items
 
--- The machine after a step of the journal or of a trim, behind which the journal spells this, and before which it had used so
--- much room: once it is done, what the journal carries is durable, and the room that it no longer uses is free.
+-- The machine after a step of the journal or of a trim, after which the journal decodes to `now`, and before which it
+-- had used `used` bytes of room. Once the step is done, what the journal has is durable, and the room that it no longer
+-- uses is free.
 abbrev pub after_mark_durable : Machine → Content TimedOp → ℕ → Result Progress Refusal → Machine
 after_mark_durable machine now used (Ok progress.Done) = record machine { durable = top machine.durable now; room = machine.room - (used - (65 + room_of now.elements)) }
 after_mark_durable machine now used (Ok progress.Idle) = machine

@@ -1,4 +1,4 @@
--- Which changes an engine has at hand.
+-- Which changes an engine retains.
 use Rattle.std.specs.Prelude.{◌≡◌, ◌⊎◌, ℕ, ◌-◌, ◌≤◌, max, List, [], drop, slice_get, Some}
 use Rattle.reg_tree.specs.declared.element.Element.{Element}
 use Rattle.crash_model.specs.Life.{ops_in}
@@ -7,8 +7,8 @@ use Rattle.hive_flush.specs.HiveStates.{memory_of}
 use Rattle.hive_flush.specs.declared.hive.HiveFile.{HiveFile}
 use Rattle.engine_invariant.specs.States.{life_of}
 
--- Up to some number, which is not above the durable one, changes were let go, since no hive lacks any of them in memory; at hand
--- are all others, of those that the journal spelled at the opening and of those accepted since.
+-- Up to some number, which is not above the durable one, changes were discarded, since no hive's memory lacks any of
+-- them. All others are retained, of those that the journal decoded to at the opening and of those accepted since.
 pub record RetainsWhatHivesLack (store : StoreView) (base : ℕ) (decoded opened : List Element) (hives : List HiveFile) : Type 0 where
   pub gone : ℕ
   pub low : base ≤ gone

@@ -21,7 +21,7 @@ use Rattle.engine_invariant.specs.Engines.{EngineView}
 use Rattle.engine_invariant.specs.States.{HiveView}
 use Rattle.engine_invariant.specs.Progress.{FlushView}
 
--- an event that stands prepared; and the change that will be accepted, if one will, with the trees that will be those of now then
+-- a prepared event; and the change that will be accepted, if one will, with the trees of now after it
 pub record Awaiting : Type 0 where
   pub event : Event
   pub next : Option (Element × List TreeMap)
@@ -29,10 +29,10 @@ pub record Awaiting : Type 0 where
 abbrev pub awaiting_of : Prepared → Awaiting
 awaiting_of prepared = record { event = prepared.event.value; next = change_to_accept prepared }
 
--- the machine; the disk; the store that the files are of; the changes that the journal spelled at the opening, and the number
--- below the first of them; what surely stands and what is on its way of the journal and of each hive, and the hive's memory; how
--- many steps of the journal are left, where changes wait and none is refused, until some are durable; each hive's flush; and the
--- event that stands prepared, if one does
+-- the machine; the disk; the store that the files are of; the changes that the journal decoded to at the opening, and
+-- the number before the first of them; the durable content and what is under way of the journal and of each hive, and
+-- the hive's memory; how many steps of the journal are left, if changes wait and none is refused, until some are
+-- durable; each hive's flush; and the prepared event, if there is one
 pub record Shown (D : Type 0) : Type 0 where
   pub machine : Machine
   pub disk : D

@@ -1,4 +1,4 @@
-//! The engine as its callers see it: what it keeps is in its type, so that no call asks for it.
+//! The engine as its callers see it: its type keeps the invariant, so no call asks for it.
 ghost use Rattle.std.specs.Prelude.{◌≡◌, ◌⊎◌, ◌↔◌, ◌+◌, ◌<◌, ◌≤◌, ◌^◌, [], ℕ, false, true, IfErr, IfNone, IfOk, IfSome, OnErr, OnOk, None, Some, is_some, length, map, replicate, slice_get};
 ghost use Rattle.refusals.specs.declared.refusal.Refusal.TheVariants.{NoMemory};
 ghost use Rattle.disk_model.specs.Call.{OneCall};
@@ -34,20 +34,20 @@ use std::snapshot::Snapshot;
 use store_model::{Event, Reply};
 use transactions::{Next, Prepared, Store};
 
-/// An engine over a disk, seen by contracts as its machine, its disk, and the store that its files are of.
+/// An engine over a disk. Contracts see it as its machine, its disk, and the store that its files are of.
 ///
-/// Where the disk is faithful, whatever a crash leaves of the files at any moment, with honest first sectors of the primary files,
-/// recovers one number, not below the durable one, and the trees after it.
+/// If the disk is faithful, whatever a crash leaves of the files at any moment recovers one number, not below the
+/// durable one, and the trees after it. That assumes honest first sectors of the primary files.
 ///
-/// An event that may accept a change may be made in two parts: [`prepare`](Engine::prepare) makes all that it grows, and
-/// [`finish`](Engine::finish) is the event and takes no memory. Any other event drops what stands prepared.
+/// An event that may accept a change may be made in two parts: [`prepare`](Engine::prepare) makes all that it grows,
+/// and [`finish`](Engine::finish) is the event and takes no memory. Any other event drops the prepared event.
 pub struct Engine<D: Disk> {
     parts: Parts<D>,
     prepared: Option<Prepared>,
 }
 
 impl<D: Disk + Drop> Drop for Engine<D> {
-    // one drop for all that own an engine, whose proofs see no more of it than that
+    // one drop for all that own an engine, whose proofs see no more of it than this contract
     fn drop(self) {
         let Engine {
             parts: _,
@@ -93,9 +93,9 @@ impl<D: Disk> Model for Engine<D> {
 }
 
 impl<D: Disk> Engine<D> {
-    /// An engine that goes on from an opened store, of which no repair is left.
+    /// An engine that continues from an opened store, of which no repair is left.
     ///
-    /// Refused for want of memory alone; the opened store is handed back then.
+    /// Refused with `NoMemory` alone; the opened store is handed back then.
     pub fn new(alloc: Global, opened: Opened<D>) -> Result<Engine<D>, (Refusal, Opened<D>)>
         requires whole { StoreIsRepaired opened }
         ensures machine { IfOk result (λ engine. engine.machine
@@ -134,15 +134,17 @@ impl<D: Disk> Engine<D> {
         })
     }
 
-    /// One event: a step of the machine, with at most one call of the device.
+    /// One event: a step of the machine, with at most one device call.
     ///
-    /// A crash before, within or after it leaves a prefix of the changes accepted before the event at the moment at which it
-    /// began, and of those accepted then at the moment at which it ended. A step is idle exactly where there is nothing to do.
+    /// A crash before, within or after it leaves a prefix: at the moment when the event began, of the changes accepted
+    /// before it; at the moment when it ended, of those accepted then. A step is idle exactly if there is nothing to
+    /// do.
     ///
-    /// A step of the journal that isn't refused brings what waits nearer to being durable. A trim that is begun is ended by the
-    /// next step of the journal or of a trim that isn't refused. A flush that begins with `p` dirty pages is done within
-    /// `2 * p + 7` of its steps that aren't refused. What an event doesn't step stays as it was. An event that makes no step,
-    /// an idle step, and one that is refused for another reason than the device leave the disk as it was.
+    /// A step of the journal that isn't refused brings what waits nearer to being durable. A trim under way is ended by
+    /// the next step of the journal or of a trim that isn't refused. A flush that begins with `p` dirty pages is done
+    /// within `2 * p + 7` of its steps that aren't refused. What an event doesn't step stays as it was. An event that
+    /// makes no step, an idle step, and a step that is refused for another reason than the device leave the disk as it
+    /// was.
     pub fn event(&mut self, event: Event) -> Reply
         ensures answers { EngineAnswers event result (engine_view D.clock D.failures self.old)
             (engine_view D.clock D.failures self.new) }
@@ -163,11 +165,11 @@ impl<D: Disk> Engine<D> {
         self.parts.event(event)
     }
 
-    /// Prepares an event that may accept a change: makes all that it grows. It tells the change that the event will accept and the
-    /// trees of now with that change applied, exactly where it will accept one. Nothing is accepted yet. What stood prepared
-    /// before is dropped.
+    /// Prepares an event that may accept a change: makes all that it grows. If the event will accept a change, and only
+    /// then, it answers that change and the trees of now with the change applied. Nothing is accepted yet. What was
+    /// prepared before is dropped.
     ///
-    /// Refused for want of memory alone; nothing stands prepared then.
+    /// Refused with `NoMemory` alone; nothing is prepared then.
     pub fn prepare(&mut self, event: Event) -> Result<Option<Next>, Refusal>
         requires accepts { may_accept event ≡ true }
         ensures prepared { IfOk result (λ next. self.new.prepared
@@ -184,8 +186,9 @@ impl<D: Disk> Engine<D> {
         Ok(next)
     }
 
-    /// Finishes the event that stands prepared: it is that event, and makes no call of the device. Takes no memory. Just the change
-    /// that was told has been accepted, as the next one, and the trees that were told are those of now; or none, where none was.
+    /// Finishes the prepared event: it is that event, and makes no device call. Takes no memory. If `prepare` answered
+    /// a change, just that change is accepted, as the next one, and the trees of now are those that it answered.
+    /// Otherwise no change is accepted.
     ///
     /// A crash before or after it leaves a prefix of the changes accepted then.
     pub fn finish(&mut self) -> Reply
@@ -211,12 +214,12 @@ impl<D: Disk> Engine<D> {
         self.parts.finish(prepared)
     }
 
-    /// A whole run: each event is answered as [`event`](Engine::event) answers it by itself, one after another. Each makes at most
-    /// one call of the device, so each moment of the run is that of some boundary between two events; and at each boundary, at its
-    /// own moment, whatever a crash leaves is a prefix of the changes accepted up to there. Each receipt is of a number that is
-    /// durable at the end.
+    /// A whole run: each event is answered as [`event`](Engine::event) answers it by itself, one after another. Each
+    /// makes at most one device call, so each moment of the run is that of some boundary between two events. At each
+    /// boundary, at its own moment, whatever a crash leaves is a prefix of the changes accepted up to there. Each
+    /// receipt is of a number that is durable at the end.
     ///
-    /// Refused, before any event, for want of memory alone.
+    /// Refused, before any event, with `AllocError` alone.
     pub fn run(&mut self, alloc: Global, events: Vec<Event>) -> Result<Vec<Reply>, AllocError>
         ensures answers { IfOk result (λ replies. AnswersInTurn
             (engine_view D.clock D.failures self.old) events.items replies.items
@@ -240,20 +243,20 @@ impl<D: Disk> Engine<D> {
         Ok(replies)
     }
 
-    /// A law: whatever a crash leaves of the files as they are recovers one number, not below the durable one, and the trees after
-    /// the accepted changes up to it.
+    /// A law: whatever a crash leaves of the files as they are recovers one number, not below the durable one, and the
+    /// trees after the accepted changes up to it.
     pub fn keeps_a_prefix(&self)
         ensures { D.faithful self.now.disk → IsSafeAt self.now.store
             (D.state_at self.now.disk) (D.clock self.now.disk) self.now.machine }
     {
         engine_invariant::laws::crashes_leave_prefixes();
-        // what the type keeps is known where a field is looked at
+        // what the type keeps is known once a field is read
         let _ = self.parts.store.durable(); // for the prover
     }
 
-    /// A law: as long as the device hasn't failed, or no flush is on its way, what a read gives of the files is of what a crash may
-    /// leave, and so recovers such a number too, as an opening finds it behind a life that is ended without a crash. If all is durable,
-    /// it is the last number and the trees of now.
+    /// A law of what a read gives of the files, as an opening finds them after a life that ended without a crash. As
+    /// long as the device hasn't failed, or if no flush is under way, a crash may leave the same. So it recovers such a
+    /// number too. If all is durable, it is the last number and the trees of now.
     pub fn reads_a_prefix(&self)
         ensures honest { D.faithful self.now.disk → IsReadable self.now.machine self.now.hives →
             LeavesHonest (IsPrimaryOf (length self.now.machine.opened))
@@ -271,7 +274,7 @@ impl<D: Disk> Engine<D> {
         engine_invariant::laws::crashes_leave_prefixes();
         engine_invariant::laws::quiet_ends_recover();
         hive_flush::laws::reads_are_honest();
-        // what the type keeps is known where a field is looked at
+        // what the type keeps is known once a field is read
         let _ = self.parts.store.durable(); // for the prover
     }
 
@@ -304,8 +307,7 @@ impl<D: Disk> Engine<D> {
         self.parts.has_pending()
     }
 
-    /// The next hive of whose flush a step has something to do, going round all hives from behind a place on; none where there is
-    /// none.
+    /// The next hive whose flush has something to do, after `after` and around all hives; `None` if there is none.
     pub fn hive_with_work(&self, after: u8) -> Option<u8>
         ensures some { IfSome result (λ hive. IsNextAround self.now.machine self.now.base
             self.now.opened self.now.hives after hive) }
@@ -331,7 +333,7 @@ impl<D: Disk> Engine<D> {
         }
     }
 
-    /// How many bytes of the journal's room are used: by what it spells, and by what is still to be written.
+    /// How many bytes of the journal's room are used: by what it decodes to, and by what is still to be written.
     pub fn room(&self) -> u64
         ensures { result ≡ self.now.machine.room }
     {
@@ -354,7 +356,7 @@ impl<D: Disk> Engine<D> {
     }
 }
 
-// the store in memory of what was found
+// the store in memory of the recovered store
 fn begun(alloc: Global, found: &RecoveredStore) -> Result<Store, AllocError>
     ensures machine { IfOk result (λ it. it.machine
         ≡ record (opened_machine (bounds_of found.now.trees) found.now.trees found.now.number [] 0)

@@ -22,7 +22,8 @@ use hive_flush::HiveFile;
 use refusals::Refusal;
 
 impl<D: Disk> Parts<D> {
-    /// A step of a hive's flush: the next call of one that is on its way, or the first of one of what the hive lacks.
+    /// A step of a hive's flush: the next call of the flush that is under way, or the first of a flush of what the hive
+    /// lacks.
     pub fn flusher_step(&mut self, hive: u8) -> Result<Progress, Refusal>
         requires sound { IsSound self.old }
         ensures continues { PartsStep D.state_at D.clock D.failures D.faithful
@@ -43,7 +44,7 @@ impl<D: Disk> Parts<D> {
         self.flush(place)
     }
 
-    // the first step of a flush of a hive at rest, where its files lack a durable change
+    // the first step of a flush of a hive at rest, if its files lack a durable change
     fn begin_flush(&mut self, place: usize) -> Result<Progress, Refusal>
         requires sound { IsSound self.old }
         requires works { self.old.store.machine.faulted ≡ false }
@@ -64,7 +65,7 @@ impl<D: Disk> Parts<D> {
         self.flush(place)
     }
 
-    // a hive at rest takes into memory what it lacks of the durable changes
+    // a hive at rest absorbs into memory the durable changes that it lacks
     fn absorb(&mut self, place: usize) -> Result<(), Refusal>
         requires sound { IsSound self.old }
         requires works { self.old.store.machine.faulted ≡ false }
@@ -97,7 +98,7 @@ impl<D: Disk> Parts<D> {
         self.hives[place].absorb(self.alloc, &self.opened[skipped..], accepted, durable)
     }
 
-    // one step of a hive's flush; behind the last one the changes that no hive lacks any more are let go
+    // one step of a hive's flush; after the last one the changes that no hive lacks any more are discarded
     fn flush(&mut self, place: usize) -> Result<Progress, Refusal>
         requires sound { IsSound self.old }
         requires works { self.old.store.machine.faulted ≡ false }
@@ -140,7 +141,7 @@ impl<D: Disk> Parts<D> {
         come
     }
 
-    /// Lets go of the durable changes that no hive lacks.
+    /// Discards the durable changes that no hive lacks.
     pub fn discard_flushed(&mut self)
         requires sound { IsSound self.old }
         ensures sound { IsSound self.new }
@@ -158,7 +159,7 @@ impl<D: Disk> Parts<D> {
     }
 }
 
-// keeps so many changes, the last ones, or all where there are no more
+// keeps the last `most` changes, or all if there are no more
 fn keep_last(changes: &mut Vec<EncodedChange>, most: usize)
     ensures { changes.new.items ≡ drop (length changes.old.items
         - min (length changes.old.items) most) changes.old.items }
@@ -169,7 +170,7 @@ fn keep_last(changes: &mut Vec<EncodedChange>, most: usize)
     changes.truncate(left);
 }
 
-// the greatest number up to which no hive can lack a durable change, as far as its number tells
+// the greatest number up to which, by the hives' numbers, no hive can lack a durable change
 fn flushed_by_all(hives: &[HiveFile], last: &[u64], durable: u64) -> u64
     requires many { length last.now ≡ length hives.now }
     ensures high { result ≤ durable }

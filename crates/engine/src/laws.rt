@@ -13,11 +13,12 @@ ghost use Rattle.engine_invariant.specs.Runs.{IsBoundary, RunsSafely};
 ghost use Rattle.recovery.specs.Recovered.{IsRecovered, seen_in};
 ghost use Rattle.engine.specs.Lives.{AreLives, EachLifeContinues, FirstOpensAt, IsLife, IsSafe, Life, Life.Opened, Life.NeverOpened, ReadsSafely};
 
-/// Of all lives of a store, one after another, each that opens does so at a number and the trees after it of the last one before
-/// that opened: not below what was durable there. A life may end anywhere: within an opening, within a repair, within an event or
-/// between two, by a crash or without one.
+/// Lives of a store, one after another. Each life that opens does so at a number and the trees after it of the last
+/// life before it that opened. The number is not below the durable one there. A life may end anywhere: within an
+/// opening, a repair or an event, or between two events, by a crash or without one.
 ///
-/// It begins with a machine of which whatever a crash leaves is a prefix, and what a read gives is of that, as of a store that was
+/// The lives begin with a machine. Whatever a crash leaves is a prefix of its changes, and what a read gives is too,
+/// such as of a created store.
 /// made.
 pub fn lives_go_on()
     ensures { (store : Store) (machine : Machine) (state : ℕ → FileState) (lives : List Life) →
@@ -27,8 +28,8 @@ pub fn lives_go_on()
     recovery::laws::one_is_recovered();
 }
 
-/// Of a store that was made of trees, as `recovery::create` tells it, the first life that opens does so at number 0 and at these
-/// trees; and each later one goes on from the last one before it that did.
+/// Of a store that was made of trees, as `recovery::create` promises, the first life that opens does so at number 0 and
+/// at these trees. Each later one continues from the last life before it that opened.
 pub fn made_stores_open_as_made()
     ensures { (store : Store) (trees : List TreeMap) (state : ℕ → FileState) (lives : List Life) →
         ((files : ℕ → List ℕ) → LeavesHonest (IsPrimaryOf (length trees)) state files →
@@ -41,11 +42,12 @@ pub fn made_stores_open_as_made()
 
 /// Each call says of its life what these lives ask.
 ///
-/// - `repairs`: a life that has opened and is being repaired, as `Opened::repair_step` and `Opened::keeps_what_was_found` tell.
-/// - `runs`: a life whose engine runs, as `Engine::run` tells at each moment of what a crash leaves; what a read gives then
-///   [`Engine::reads_a_prefix`](crate::Engine::reads_a_prefix) tells.
+/// - `repairs`: a life that has opened and is being repaired, as `Opened::repair_step` and
+///   `Opened::keeps_what_was_found` promise.
+/// - `runs`: a life whose engine runs. `Engine::run` promises at each moment what a crash leaves, and
+///   [`Engine::reads_a_prefix`](crate::Engine::reads_a_prefix) what a read gives then.
 ///
-/// Of a life that hasn't opened `open` tells it itself.
+/// For a life that hasn't opened, `open` itself promises it.
 pub fn calls_are_lives()
     ensures repairs { (store : Store) (state end : ℕ → FileState) (number room : ℕ) (failed : Bool)
         (trees : List TreeMap) → IsRecovered (seen_in state) store number trees →

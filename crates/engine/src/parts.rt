@@ -11,9 +11,9 @@ use transactions::Store;
 /// The parts of an engine.
 #[derive(Drop)]
 pub(crate) struct Parts<D> {
-    /// Where memory is had.
+    /// The allocator.
     pub alloc: Global,
-    /// The disk, on which file 0 is the journal's and the next ones the hives'.
+    /// The disk: file 0 is the journal's, and the hives' files follow.
     pub disk: D,
     /// The journal.
     pub journal: Journal,
@@ -21,14 +21,14 @@ pub(crate) struct Parts<D> {
     pub hives: Vec<HiveFile>,
     /// What answers each event that makes no step.
     pub store: Store,
-    /// The journal as it was opened, with the changes that it spelled, which are numbered from `base` + 1 on: known to contracts
-    /// alone.
+    /// The journal as it was opened, with the changes that it decoded to, numbered from `base` + 1 on. Contracts alone
+    /// know it.
     pub decoded: Snapshot<Journal>,
-    /// The number below the first of them.
+    /// The number before the first of these changes.
     pub base: u64,
-    /// Those of them that are at hand: the last ones.
+    /// Those of these changes that are retained: the last ones.
     pub opened: Vec<EncodedChange>,
-    /// Of each hive the last durable change that names it.
+    /// For each hive the last durable change that names it.
     pub last_changes: LastChangePerHive,
 }
 

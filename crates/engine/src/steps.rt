@@ -26,7 +26,7 @@ use store_model::{Event, Reply};
 use transactions::Prepared;
 
 impl<D: Disk> Parts<D> {
-    /// Any event: a step of the machine, with at most one call of the device.
+    /// Any event: a step of the machine, with at most one device call.
     pub fn event(&mut self, event: Event) -> Reply
         requires sound { IsSound self.old }
         ensures continues { PartsStep D.state_at D.clock D.failures D.faithful
@@ -44,7 +44,7 @@ impl<D: Disk> Parts<D> {
         }
     }
 
-    // a calm event, which makes no step
+    // an event that makes no step
     fn store_event(&mut self, event: Event) -> Reply
         requires non_step { is_not_step event ≡ true }
         requires sound { IsSound self.old }
@@ -103,7 +103,7 @@ impl<D: Disk> Parts<D> {
         Ok(())
     }
 
-    // a step of the journal: the next call of what is on its way, or the first of a batch of what is pending
+    // a step of the journal: the next call of what is under way, or the first of a batch of what is pending
     fn journal_step(&mut self) -> Result<Progress, Refusal>
         requires sound { IsSound self.old }
         ensures continues { PartsStep D.state_at D.clock D.failures D.faithful
@@ -126,7 +126,7 @@ impl<D: Disk> Parts<D> {
         come
     }
 
-    // a step of a trim: its second call, or its first where the hives have all that the journal spells
+    // a step of a trim: its second call, or its first if the hives have all that the journal decodes to
     fn trim_step(&mut self) -> Result<Progress, Refusal>
         requires sound { IsSound self.old }
         ensures continues { PartsStep D.state_at D.clock D.failures D.faithful
@@ -169,7 +169,7 @@ impl<D: Disk> Parts<D> {
         all_have(&self.hives, &self.last_changes.last)
     }
 
-    // takes in what a step of the journal or of a trim has come to, before which the journal had used so much room
+    // applies the result of a step of the journal or of a trim, before which the journal had used `used` bytes of room
     fn mark_durable(&mut self, come: Result<Progress, Refusal>, used: u64)
         requires works { self.old.store.machine.faulted ≡ false }
         requires room { used ≤ self.old.store.machine.room }
@@ -205,7 +205,7 @@ impl<D: Disk> Parts<D> {
         }
     }
 
-    /// Takes in what a step has come to that settles nothing: where the device has failed in it the store is faulted.
+    /// Applies the result of a step that makes nothing durable: if the device failed in it, the store is faulted.
     pub fn note_fault(&mut self, come: Result<Progress, Refusal>)
         requires works { self.old.store.machine.faulted ≡ false }
         ensures machine { self.new.store.machine ≡ after_flush self.old.store.machine come }
@@ -235,7 +235,7 @@ fn all_have(hives: &[HiveFile], last: &[u64]) -> bool
     true
 }
 
-// what a step is answered: how far it has come, or why it was refused
+// the reply to a step: how far it has come, or why it was refused
 fn reply_of_step(come: Result<Progress, Refusal>) -> Reply
     ensures { result ≡ reply_to come }
 {

@@ -17,7 +17,7 @@ impl<D> Parts<D> {
         self.store.durable() < self.store.last_number()
     }
 
-    /// The next hive that has something to flush, behind a place and around.
+    /// The next hive that has something to flush, after `after` and around.
     pub fn hive_with_work(&self, after: u8) -> Option<u8>
         requires sound { IsSound self.now }
         ensures some { IfSome result (λ hive. IsNextAround self.now.store.machine self.now.base
@@ -34,7 +34,7 @@ impl<D> Parts<D> {
         }
     }
 
-    // the first hive in these places that has something to flush
+    // the first hive from `from` to before `to` that has something to flush
     fn first_with_work(&self, from: u8, to: u8) -> Option<u8>
         requires sound { IsSound self.now }
         requires there { to ≤ length self.now.hives.items }
@@ -68,7 +68,7 @@ impl<D> Parts<D> {
     }
 }
 
-// the place behind another, of so many, or their end
+// the index after `after`, or `count` at the end
 fn place_behind(after: u8, count: u8) -> u8
     ensures within { result ≤ count }
     ensures behind { (j : ℕ) → j < count → after < j → result ≤ j }

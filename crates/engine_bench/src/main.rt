@@ -1,7 +1,8 @@
 //! Times an engine over the disk in memory, for `bench/engine`.
 //!
-//! Each line of standard input says what is timed; the processor time that it took is printed, in microseconds. The store of the
-//! first four is made before the clock is read: a thousand keys in each of two hives, the files of which have them.
+//! Each line of standard input says what is timed; the processor time that it took is printed, in microseconds. The
+//! store of the first four is made before the clock is read: a thousand keys in each of two hives, the files of which
+//! have them.
 //!
 //! | line | |
 //! |---|---|
@@ -9,9 +10,9 @@
 //! | `commits N` | N transactions of two such writes, one in each hive, each committed and journaled until its receipt |
 //! | `reads N` | N reads of such a value |
 //! | `held N` | N such writes; after each ten thousand they are journaled, all hives are flushed and the journal is trimmed |
-//! | `opening N BYTES` | opening a store of 16 hives whose journal spells N changes, each of a value of so many bytes; behind the time the bytes of the journal are printed |
+//! | `opening N BYTES` | opening a store of 16 hives whose journal decodes to N changes, each of a value of BYTES bytes; after the time the bytes of the journal are printed |
 //!
-//! The status is 0 where all was done, else 1.
+//! The status is 0 if all was done, else 1.
 #![tactic(auto)]
 
 mod openings;

@@ -1,4 +1,4 @@
-//! How long a store takes to be opened whose journal is full.
+//! How long it takes to open a store whose journal is full.
 use crate::stores::{change, data_of, filled, journal_all, setting};
 use disk_model::{Disk, MemDisk, Tear};
 use engine::Engine;
@@ -13,8 +13,8 @@ const HIVES: u8 = 16;
 // the journal's file
 const JOURNAL: u32 = 0;
 
-/// Times an opening of a store whose journal spells so many changes of values of so many bytes, round the hives, and prints it
-/// and the bytes of the journal.
+/// Times an opening of a store whose journal decodes to `changes` changes of values of `bytes` bytes, round the hives.
+/// Prints the time and the bytes of the journal.
 pub(crate) fn time<R: Print + CpuClock>(
     rt: &R,
     alloc: Global,
@@ -39,7 +39,7 @@ fn opened_in<R: CpuClock>(rt: &R, alloc: Global, disk: MemDisk) -> Result<u128, 
     }
 }
 
-// a disk with a store whose journal spells so many changes
+// a disk with a store whose journal decodes to `changes` changes
 fn journaled(alloc: Global, changes: u32, bytes: u32) -> Result<MemDisk, Fault> {
     let mut store = filled(alloc, HIVES)?;
     match spell(alloc, &mut store, changes, bytes) {
@@ -56,7 +56,7 @@ fn crashed(alloc: Global, store: &Engine<MemDisk>) -> Result<MemDisk, Fault> {
     }
 }
 
-// makes so many changes, and journals them
+// makes `changes` changes, and journals them
 fn spell(
     alloc: Global,
     store: &mut Engine<MemDisk>,

@@ -44,7 +44,7 @@ pub(crate) fn setting(alloc: Global, hive: u8, number: u32, data: &Data) -> Resu
     })
 }
 
-/// Data of so many bytes.
+/// Data of `bytes` bytes.
 pub(crate) fn data_of(alloc: Global, bytes: u32) -> Result<Data, Fault> {
     let zeros = vec![in alloc; 0u8; bytes as usize]?;
     Ok(Data::from_vec(zeros)?)
@@ -82,7 +82,7 @@ pub(crate) fn settle_all(store: &mut Engine<MemDisk>, hives: u8) -> Result<(), F
     Ok(())
 }
 
-/// A store of so many hives, each with a thousand keys, which its files have; the journal spells nothing.
+/// A store of `hives` hives, each with a thousand keys, which its files have; the journal decodes to no change.
 pub(crate) fn filled(alloc: Global, hives: u8) -> Result<Engine<MemDisk>, Fault>
     requires some { 1 ≤ hives }
     requires few { hives ≤ 16 }

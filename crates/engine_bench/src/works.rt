@@ -17,10 +17,10 @@ const HIVES: u8 = 2;
 // the bytes of each value
 const VALUE_BYTES: u32 = 16;
 
-// how many changes lie between two flushes
+// the number of changes between two flushes
 const A_FLUSH: u32 = 10_000;
 
-/// Times so much of a work, and prints it.
+/// Times `count` repetitions of a work, and prints the time.
 pub(crate) fn time<R: Print + CpuClock>(
     rt: &R,
     alloc: Global,
@@ -46,7 +46,7 @@ fn time_on<R: Print + CpuClock>(
     Ok(())
 }
 
-// makes so much of a work
+// makes `count` repetitions of a work
 fn make(alloc: Global, store: &mut Engine<MemDisk>, work: &str, count: u32) -> Result<(), Fault> {
     let data = data_of(alloc, VALUE_BYTES)?;
     match work {

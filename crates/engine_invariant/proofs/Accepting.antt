@@ -1,4 +1,4 @@
--- An event that makes no step keeps what the engine keeps.
+-- An event that makes no step keeps the invariant.
 use Rattle.std.proofs.Common.{◌≡◌, ◌⊎◌, inl, inr, ℕ, ◌+◌, ◌-◌, ◌<◌, ◌≤◌, true, List, [], ◌∷◌, ◌++◌, length, map, take, drop, refl, sym, ◌∙◌, ap, subst, arith, Some, slice_get}
 use Rattle.std.proofs.lemmas.List.{map-append, length-append, drop-append-le}
 use Rattle.refusals.specs.declared.limits.TheConstants.{GREATEST_NUMBER, MOST_JOURNAL_BYTES}
@@ -76,7 +76,7 @@ module _ (base : ℕ) (opened : List Element) (journal : Choice (Content TimedOp
   before_is old new (inl s) = s.before
   before_is old new (inr g) = g.before
 
-  -- what is pending stays, but for one change more
+  -- what is pending stays, except for one more change
   pending_same : (old new : Machine) → JournalStateStays old new → pending new ≡ pending old
   pending_same old new s = ap (λ n. drop (n - new.before) new.accepted) s.durable ∙ ap (λ n. drop (old.durable - n) new.accepted) s.before ∙ ap (drop (old.durable - old.before)) s.accepted
 

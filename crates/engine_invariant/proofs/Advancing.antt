@@ -1,4 +1,4 @@
--- Steps of the journal in a row make something durable; and where all is, what is recovered is what is there now.
+-- Steps of the journal in a row make something durable; and if all is durable, what is recovered is what is there now.
 use Rattle.std.proofs.Common.{◌≡◌, ◌⊎◌, inl, inr, ℕ, zero, suc, ◌+◌, ◌-◌, ◌<◌, ◌≤◌, List, length, take, refl, ◌∙◌, ap, subst, arith}
 use Rattle.std.proofs.lemmas.List.{take_all}
 use Rattle.std.proofs.lemmas.Bool.{cases_lt}
@@ -14,7 +14,7 @@ module _ (machines : ℕ → Machine) (left : ℕ → ℕ) (count : ℕ) (some :
   abbrev Settles : ℕ → Type 0
   Settles k = (machines 0).durable < (machines k).durable
 
-  -- behind so many steps some change is durable, or so many fewer are left
+  -- after k steps some change is durable, or k fewer are left
   record Nearer (k : ℕ) : Type 0 where
     last : last_number (machines k) ≡ last_number (machines 0)
     rises : (machines 0).durable ≤ (machines k).durable

@@ -1,4 +1,4 @@
--- The trees and changes of the project are those of the law.
+-- The trees and changes of the project are those of the crash model.
 use Rattle.std.proofs.Common.{◌≡◌, ℕ, zero, suc, ◌+◌, ◌-◌, ◌<◌, List, [], ◌∷◌, length, map, take, refl, sym, ◌∙◌, ap, subst, arith, Option, Some, None, Ok, true, cond, slice_get, option_map, IsTrue}
 use Rattle.std.specs.Prelude.{slice_set}
 use Rattle.std.proofs.lemmas.Option.{none-some, slice_get_within, slice_get-get_or, get_or_from_slice_get}
@@ -71,7 +71,7 @@ pub all_long : (ts : List TreeMap) (es : List Element) → length (after_element
 all_long ts [] = refl
 all_long ts (e ∷ es) = all_long (applied ts e.ops e.moment) es ∙ ops_long ts e.ops e.moment
 
--- The law's trees are the project's
+-- The crash model's trees are the project's
 
 pub number_is : (m : Machine) (base : ℕ) (opened : List Element) → m.before ≡ base + length opened → opened_number (life_of m base opened) ≡ m.before
 number_is m base opened e = omega (arith, e, length-map opened timed_element)
@@ -95,7 +95,7 @@ tree_of_is m base opened begun n i lt = get_or_from_slice_get (trees_after m n) 
 pub trees_at_last : (m : Machine) → trees_after m (last_number m) ≡ trees_now m
 trees_at_last m = ap (after_elements m.opened) (take_all (last_number m - m.before) m.accepted (omega arith))
 
--- What the machine finds legal is legal by the law
+-- What the machine finds legal is legal in the crash model
 
 legal_is : (ts : List TreeMap) (op : Op) (moment : ℕ) → legal ts op ≡ Ok Legal → legal_there tree_rules (moment, op) (slice_get ts (hive_of op)) ≡ true
 unfolding tree_rules
@@ -124,7 +124,7 @@ on_own h o ps = grind (arith, nat_tests)
 pub names : (ts : List TreeMap) (op : Op) (ops : List Op) (moment : ℕ) → AreLegalChanges ts (op ∷ ops) moment → NamesHive (length ts) (map (timed moment) (op ∷ ops))
 names ts op ops moment l = (hive_of op, there ts op l.0, (moment, op), on_hive (hive_of op) (map (timed moment) ops), on_own (hive_of op) (moment, op) (map (timed moment) ops))
 
--- and each of its operations is on a hive that is there
+-- each of its operations is on a hive of the store
 pub ops_there : (ts : List TreeMap) (ops : List Op) (moment : ℕ) → AreLegalChanges ts ops moment → AllByRecursion (λ op. hive_of op < length ts) ops
 ops_there ts [] moment l = tt
 ops_there ts (op ∷ ops) moment (first, rest) = (there ts op first, subst (λ n. AllByRecursion (λ op. hive_of op < n) ops) (one_long ts op moment) (ops_there (applied_one ts op moment) ops moment rest))

@@ -1,4 +1,4 @@
--- What a step has done that ended what was on its way to the journal.
+-- What a step has done that ended what was under way to the journal.
 use Rattle.std.proofs.Common.{◌≡◌, ◌⊎◌, inl, inr, ℕ, ◌+◌, ◌-◌, ◌<◌, ◌≤◌, List, [], ◌∷◌, ◌++◌, length, take, refl, ◌∙◌, ap, arith, Some}
 use Rattle.std.proofs.lemmas.List.{length-map, length-take, length-append}
 use Rattle.reg_tree.specs.declared.element.Element.{Element}
@@ -24,7 +24,7 @@ floor_on durable below [] (e ∷ es) = refl
 floor_on durable below (x ∷ xs) es = refl
 
 module _ (m : Machine) (base : ℕ) (opened : List Element) (old new : Choice (Content TimedOp)) (hives : List HiveView) (i : IsConsistent m base opened old hives) where
-  -- a batch of so many changes makes them durable
+  -- a batch of n changes makes them durable
   longer_top : (n : ℕ) → n ≤ length (timed_elements (pending m)) → top m.durable (record { below = floor m.durable old.now; elements = old.now.elements ++ take n (timed_elements (pending m)) }) ≡ m.durable + n
   longer_top n le =
       let ends = i.law.ends in

@@ -21,7 +21,7 @@ module _ (hives : ℕ → HiveView) (flushes : ℕ → FlushView) (numbers : ℕ
     ]
   ]
 
-  -- behind so many steps it is on its way
+  -- after k steps it is under way
   record Busy (k : ℕ) : Type 0 where
     memory : (hives k).memory ≡ (hives 1).memory
     next : (hives k).files.next ≡ Some (hives 1).memory

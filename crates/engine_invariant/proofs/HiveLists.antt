@@ -1,4 +1,4 @@
--- Hives of a list, and what the law sees of them.
+-- Hives of a list, and the crash model's view of them.
 use Rattle.std.proofs.Common.{◌≡◌, ◌≢◌, inl, inr, ℕ, zero, suc, ◌<◌, List, [], ◌∷◌, ◌++◌, length, map, refl, sym, ◌∙◌, ap, subst, arith, Option, Some, None, slice_get, option_map}
 use Rattle.std.specs.Prelude.{slice_set}
 use Rattle.std.proofs.lemmas.Bool.{cases_eq}
@@ -13,7 +13,7 @@ use Rattle.hive_flush.specs.declared.hive.HiveFile.{HiveFile}
 use Rattle.engine_invariant.specs.States.{HiveView}
 use Rattle.engine_invariant.specs.Prefixes.{AreOnDisk, view_of}
 
--- the entry at a place that is there
+-- the entry at an index of the list
 pub at_slot : {X : Type 0} (xs : List X) (i : ℕ) → i < length xs → (x : X) × (slice_get xs i ≡ Some x)
 at_slot xs i lt = elim ((slice_get_cases xs i).1) [ inl it ↦ (it.0, it.2) | inr past ↦ absurd (omega (arith, lt, past.0)) ]
 
@@ -41,7 +41,7 @@ get_other (h ∷ hs) zero (suc j) v ne = refl
 get_other (h ∷ hs) (suc i) zero v ne = refl
 get_other (h ∷ hs) (suc i) (suc j) v ne = get_other hs i j v (λ e. ne (ap suc e))
 
--- what holds of a new hive in the place of one and of all others
+-- what holds of a new hive at an index and of all others
 pub each_hive : (hives : List HiveFile) (k : ℕ) (old new : HiveFile) → slice_get hives k ≡ Some old → (P : ℕ → HiveFile → Type 0) → P k new → ((j : ℕ) (h : HiveFile) → j ≢ k → slice_get hives j ≡ Some h → P j h)
     → (j : ℕ) (h : HiveFile) → slice_get (slice_set hives k new) j ≡ Some h → P j h
 each_hive hives k old new is P own others j h at = elim (cases_eq j k) as (λ z. P j h) [
@@ -50,7 +50,7 @@ each_hive hives k old new is P own others j h at = elim (cases_eq j k) as (λ z.
   | inr ne ↦ others j h ne (sym (get_other hives k j new ne) ∙ at)
 ]
 
--- what holds of each entry and of one behind them
+-- what holds of each entry and of one more at the end
 pub each_pushed : {X : Type 0} (xs : List X) (last : X) (P : ℕ → X → Type 0) → ((i : ℕ) (x : X) → slice_get xs i ≡ Some x → P i x) → P (length xs) last
     → (i : ℕ) (x : X) → slice_get (xs ++ last ∷ []) i ≡ Some x → P i x
 each_pushed [] last P each its zero x is = subst (P 0) (same_Some last x is) its

@@ -1,4 +1,4 @@
--- What was told to be durable is durable from then on.
+-- What has a receipt is durable from then on.
 use Rattle.std.proofs.Common.{◌≡◌, ◌⊎◌, inl, inr, ℕ, ◌≤◌, List, [], ◌∷◌, refl, ap, subst, arith, Option}
 use Rattle.std.specs.List.{AllByRecursion}
 use Rattle.refusals.specs.declared.refusal.Refusal.{Refusal}
@@ -48,7 +48,7 @@ module _ (settle : Settle) (old new : Machine) (k : InvariantHolds old) where
   rises event.FlushAsk r s = non_step old new (settle old new event.FlushAsk r k refl s)
   rises (event.Acked number) r s = non_step old new (settle old new (event.Acked number) r k refl s)
 
--- A receipt is told by Acked alone, of a durable number
+-- Only Acked is answered with a receipt, of a durable number
 
 held_then : (old new : Machine) (e : Event) (n : ℕ) → Step old e (reply.Receipt n) new → n ≤ new.durable
 held_then old new (event.Acked number) n s = omega (arith, s.0, s.1, ap (λ (m : Machine). m.durable) s.2)

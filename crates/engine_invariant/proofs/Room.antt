@@ -1,4 +1,4 @@
--- The journal's room, counted over changes as the machine has them and as the law has them.
+-- The journal's room, counted over changes as the machine has them and as the crash model has them.
 use Rattle.std.proofs.Common.{◌≡◌, ℕ, ◌+◌, ◌≤◌, List, [], ◌∷◌, ◌++◌, length, map, take, refl, ◌∙◌, ap, arith}
 use Rattle.std.specs.List.{sum_by}
 use Rattle.std.proofs.lemmas.List.{map-append, length-map, take-append-le}

@@ -1,4 +1,4 @@
--- Runs go on by one event; and what is told at each moment of one.
+-- Runs continue by one event; and what holds at each moment of a run.
 use Rattle.std.proofs.Common.{◌≡◌, inl, inr, ℕ, suc, ◌≤◌, List, [], ◌∷◌, ◌++◌, length, refl, sym, ap, subst, arith}
 use Rattle.std.specs.Prelude.{⊤}
 use Rattle.std.proofs.lemmas.Bool.{cases_eq}

@@ -1,4 +1,4 @@
--- Steps of the journal, of a trim and of a flush keep what the engine keeps, and are steps of the machine.
+-- Steps of the journal, of a trim and of a flush keep the invariant, and are steps of the machine.
 use Rattle.std.proofs.Common.{◌≡◌, ◌⊎◌, inl, inr, ℕ, zero, suc, ◌+◌, ◌-◌, ◌<◌, ◌≤◌, false, Result, Ok, Err, List, [], ◌∷◌, ◌++◌, length, take, drop, refl, sym, ◌∙◌, ap, subst, arith, Option, Some, None, slice_get}
 use Rattle.std.proofs.lemmas.Option.{none-some, same_Some, slice_get-get_or}
 use Rattle.std.proofs.lemmas.List.{length-map, length-drop, drop-map, take-append-drop}
@@ -38,7 +38,7 @@ use Rattle.engine_invariant.proofs.Room.{room_append}
 not_faulted : (m : Machine) → m.faulted ≡ false → fault m ≡ None
 not_faulted m e = ap (λ b. refused_if b refusal.Faulted) e
 
--- dropping twice, and where a longer list begins
+-- dropping twice, and the beginning of a longer list
 drop_drop : {A : Type 0} (j k : ℕ) (l : List A) → drop k (drop j l) ≡ drop (j + k) l
 drop_drop {A = A} j k [] = ap (drop k) (drop_nil {A = A} j) ∙ drop_nil {A = A} k ∙ sym (drop_nil {A = A} (j + k))
 drop_drop zero k (x ∷ xs) = let e : k ≡ 0 + k = omega arith in ap (λ n. drop n (x ∷ xs)) e
@@ -87,7 +87,7 @@ module _ (keeps : Keeps) (m : Machine) (base : ℕ) (opened : List Element) (old
       let fit = i.fits (omega (arith, some, up, length-drop (d - m.before) m.accepted, length-drop (m.durable - m.before) m.accepted)) in
       omega (arith, fit, low)
 
-  -- what the engine keeps with another durable number, other room and another journal
+  -- the invariant with another durable number, other room and another journal
   consistent : (d r : ℕ) → m.durable ≤ d → r ≤ m.room → (e : Event) (p : Reply) → Step m e p (moved_to m d r) → law_kept.InvariantHolds tree_rules GREATEST_NUMBER (length m.opened) (state_of (moved_to m d r) base opened new hives)
       → ((next : Content TimedOp) → new.next ≡ Some next → (next ≡ nothing) ⊎ IsBatch (moved_to m d r) new.now next) → r ≡ 65 + room_of new.now.elements + room_of (timed_elements (pending (moved_to m d r)))
       → IsConsistent (moved_to m d r) base opened new hives
@@ -110,7 +110,7 @@ module _ (keeps : Keeps) (m : Machine) (base : ℕ) (opened : List Element) (old
   same_room : new.now ≡ old.now → m.room ≡ 65 + room_of new.now.elements + room_of (timed_elements (pending m))
   same_room e = i.room ∙ ap (λ (s : Content TimedOp). 65 + room_of s.elements + room_of (timed_elements (pending m))) (sym e)
 
-  -- a batch is on its way
+  -- a batch is under way
   batch_onward : BeginsBatch (m.durable + 1) (timed_elements (pending m)) old new → (next : Content TimedOp) → new.next ≡ Some next → (next ≡ nothing) ⊎ IsBatch m new.now next
   batch_onward (count, some, few, idle, is) next e =
       let told : next ≡ record { below = floor (m.durable + 1 - 1) old.now; elements = old.now.elements ++ take count (timed_elements (pending m)) } = same_Some next _ (sym e ∙ ap (λ (c : Choice (Content TimedOp)). c.next) is) in
@@ -127,7 +127,7 @@ module _ (keeps : Keeps) (m : Machine) (base : ℕ) (opened : List Element) (old
   begins_or_not (inl b) = (batch_onward b, ap (λ (c : Choice (Content TimedOp)). c.now) b.4)
   begins_or_not (inr e) = (same_onward e, ap (λ (c : Choice (Content TimedOp)). c.now) e)
 
-  -- What was on its way stands
+  -- What was under way is durable
 
   settled_onward : (d r : ℕ) → Ends old new → (next : Content TimedOp) → new.next ≡ Some next → (next ≡ nothing) ⊎ IsBatch (moved_to m d r) new.now next
   settled_onward d r (x, was, is) next e = absurd (none-some next (sym (ap (λ (c : Choice (Content TimedOp)). c.next) is) ∙ e))
@@ -176,7 +176,7 @@ module _ (keeps : Keeps) (m : Machine) (base : ℕ) (opened : List Element) (old
   Goes : Event → Result Progress Refusal → Type 0
   Goes e result = Step m e (reply_to result) (after_step m old new result) × IsConsistent (after_step m old new result) base opened new hives
 
-  -- the device failed in a step, which may have begun something: what stood stands
+  -- the device failed in a step, which may have begun something: the durable content stays
   broke : StepFails m (fault m) refusal.DiskFault (failed m)
   broke = inr (not_faulted m free, record { free = not_faulted m free; told = refl; failed = omega arith; next = refl })
 

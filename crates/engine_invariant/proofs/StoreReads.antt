@@ -1,4 +1,4 @@
--- What a crash leaves stands for a prefix, at each moment of an event.
+-- What a crash leaves is a prefix, at each moment of an event.
 use Rattle.std.proofs.Common.{◌≡◌, ℕ, ◌+◌, ◌*◌, ◌<◌, ◌≤◌, List, length, map, refl, sym, ◌∙◌, subst, arith, Option, Some, None, slice_get}
 use Rattle.std.proofs.lemmas.Option.{none-some, slice_get-get_or}
 use Rattle.refusals.specs.declared.limits.TheConstants.{GREATEST_NUMBER}
@@ -41,7 +41,7 @@ module _ (store : Store) (m : Machine) (base : ℕ) (opened : List Element) (jou
   abbrev holds : List ℕ → List ℕ → TreeMap × ℕ → Type 0
   holds = Holds store
 
-  -- the law's prefix is the machine's
+  -- the crash model's prefix is the machine's
   of_law : (files : ℕ → List ℕ) → FilesPrefix tree_rules decodes holds GREATEST_NUMBER (length m.opened) (state_of m base opened journal hives) files → IsPrefix store m files
   of_law files (n, low, high, found) = (
     n,
@@ -96,7 +96,8 @@ past_stays store old_states new_states clock past k m le safe = λ files left. s
     same_state : (a b : ℕ → FileState) → ((f : ℕ) → a f ≡ b f) → a ≡ b
     same_state a b each = λ i f. each f i
 
--- what a read gives of a store's files is what a crash may leave of them, with honest first sectors, where each hive's primary file shows one
+-- what a read gives of a store's files is what a crash may leave of them, with honest first sectors, if each hive's
+-- primary file shows one
 pub reads_left : (state : ℕ → FileState) (hives : List HiveFile) → ((f : ℕ) → IsSound (state f)) → ((i : ℕ) (hive : HiveFile) → slice_get hives i ≡ Some hive → IsHonest (state (primary_file i)) (state (primary_file i)).seen)
     → LeavesHonest (IsPrimaryOf (length hives)) state (λ f. (state f).seen)
 reads_left state hives sound honest = (

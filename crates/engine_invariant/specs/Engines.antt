@@ -1,4 +1,4 @@
--- What an engine answers to an event, and how it goes on.
+-- What an engine answers to an event, and its state after it.
 use Rattle.std.specs.Prelude.{◌≡◌, ◌⊎◌, ℕ, ◌+◌, ◌<◌, ◌≤◌, false, List, slice_get, Some}
 use Rattle.refusals.specs.declared.refusal.Refusal.{Refusal}
 use Rattle.refusals.specs.declared.refusal.Refusal.TheVariants.{DiskFault}
@@ -16,9 +16,10 @@ use Rattle.engine_invariant.specs.Idle.{IdlesExactly}
 use Rattle.engine_invariant.specs.Progress.{FlushView, FlushesOn, HasPending, HasTrimmed, IsNotRefused, IsTrimming, NearsDurable}
 use Rattle.engine_invariant.specs.States.{HiveView}
 
--- An engine at one moment: its machine; the changes that its journal spelled at the opening, and the number below the first of them;
--- what surely stands and what is on its way of the journal and of each hive; how many steps of the journal are left until some
--- change is durable; each hive's flush; and how many calls of the device were made, and how many of them failed.
+-- An engine at one moment: its machine; the changes that its journal decoded to at the opening, and the number before
+-- the first of them; the durable content and what is under way of the journal and of each hive; how many steps of the
+-- journal are left until some change is durable; each hive's flush; and how many device calls were made, and how many
+-- of them failed.
 pub record EngineView : Type 0 where
   pub machine : Machine
   pub base : ℕ
@@ -30,22 +31,23 @@ pub record EngineView : Type 0 where
   pub clock : ℕ
   pub failures : ℕ
 
--- An answer is told without the device: to an event that makes no step; that there is nothing to do; or a refusal, but that the
--- device failed.
+-- An answer needs no device: it is to an event that makes no step; or it says that there is nothing to do; or it is a
+-- refusal other than that the device failed.
 abbrev pub NeedsNoDevice : Event → Reply → Type 0
 NeedsNoDevice asked answer = (is_step asked ≡ false) ⊎ ((answer ≡ Stepped Idle) ⊎ ((why : Refusal) × (answer ≡ Refused why) × ¬ (why ≡ DiskFault)))
 
--- An engine answers an event, and goes on so.
+-- An engine answers an event, and then is in this state.
 --
 -- - `step`: it is a step of the machine.
--- - `later`, `one`: with at most one call of the device.
--- - `quiet`: with none, where the answer is told without the device. So an event that accepts a change makes none.
--- - `failed`, `works`: that the device failed is answered only where it did, in this event; and at any other answer it didn't.
--- - `idle`: a step is idle exactly where there is nothing to do, as long as the store isn't faulted.
--- - `nears_durable`: a step of the journal that isn't refused, where some change waits, brings it nearer to being durable.
+-- - `later`, `one`: with at most one device call.
+-- - `quiet`: with none, if the answer needs no device. So an event that accepts a change makes none.
+-- - `failed`, `works`: that the device failed is answered only if it did, in this event; and at any other answer it
+--   didn't.
+-- - `idle`: a step is idle exactly if there is nothing to do, as long as the store isn't faulted.
+-- - `nears_durable`: a step of the journal that isn't refused, if some change waits, brings it nearer to being durable.
 -- - `begins_trim`, `ends_trim`: a step of a trim begins one, and the next step of the journal or of a trim ends it.
--- - `flushes`: a step of a hive's flush begins one, goes on with it, or ends it.
--- - `life`: what the journal spelled at the opening stays.
+-- - `flushes`: a step of a hive's flush begins one, continues it, or ends it.
+-- - `life`: what the journal decoded to at the opening stays.
 -- - `journal_stays`, `hives_stay`: what an event doesn't step stays.
 pub record EngineAnswers (asked : Event) (answer : Reply) (old new : EngineView) : Type 0 where
   pub step : Step old.machine asked answer new.machine

@@ -16,7 +16,7 @@ abbrev pub held_if : Option HiveView → TreeMap × ℕ
 held_if None = (fresh_tree, 0)
 held_if (Some hive) = hive.files.now
 
--- what each hive's files hold
+-- the tree and number in each hive's files
 abbrev pub held_by : List HiveView → ℕ → TreeMap × ℕ
 held_by hives i = held_if (slice_get hives i)
 

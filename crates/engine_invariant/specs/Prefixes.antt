@@ -21,17 +21,17 @@ use Rattle.hive_flush.specs.declared.hive.HiveFile.{HiveFile}
 use Rattle.store_model.specs.Machine.{Machine, last_number}
 use Rattle.engine_invariant.specs.States.{HiveView, tree_of}
 
--- bytes of the journal's file spell this, in a store
+-- bytes of the journal's file decode to this, in a store
 abbrev pub JournalDecodesTo : Store → List ℕ → Content TimedOp → Type 0
 JournalDecodesTo store = DecodesBy (decoded (encodings store))
 
--- a primary file and a log hold this tree and number, in a store
+-- a primary file and a log decode to this tree and number, in a store
 abbrev pub Holds : Store → List ℕ → List ℕ → TreeMap × ℕ → Type 0
 Holds store = HiveFilesHold store.id
 
--- The files of a store, which has so many hives, recover a number and trees: the journal spells something, the number is its
--- last one, or else the greatest of a hive, and each hive's tree is the one that its files hold with the operations of the
--- changes above its own number applied in order, each legal.
+-- The files of a store with `hives` hives recover a number and trees. The journal decodes to some content, and the
+-- number is its last one, or else the greatest of a hive. Each hive's tree is the tree of its files with the operations
+-- of the changes above its own number applied in order, each legal.
 abbrev pub Recover : Store → ℕ → (ℕ → List ℕ) → ℕ → List TreeMap → Type 0
 Recover store hives files number trees = FilesRecover (rules store.hives) (JournalDecodesTo store) (Holds store) GREATEST_NUMBER hives files number (tree_of trees)
 
@@ -44,16 +44,16 @@ abbrev pub IsPrefix : Store → Machine → (ℕ → List ℕ) → Type 0
 IsPrefix store machine files = (n : ℕ) × (machine.durable ≤ n) × (n ≤ last_number machine)
     × Recover store (length machine.opened) files n (trees_after machine n)
 
--- the primary file of one of so many hives: the files of a store that have a first sector
+-- the primary file of one of the `hives` hives: the files of a store that have a first sector
 abbrev pub IsPrimaryOf : ℕ → ℕ → Type 0
 IsPrimaryOf hives f = (i : ℕ) × (i < hives) × (f ≡ primary_file i)
 
--- Whatever a crash at this moment leaves, with honest first sectors of the store's primary files, is a prefix of the machine's
--- changes.
+-- Whatever a crash at this moment leaves, with honest first sectors of the store's primary files, is a prefix of the
+-- machine's changes.
 abbrev pub IsSafeAt : Store → (ℕ → ℕ → FileState) → ℕ → Machine → Type 0
 IsSafeAt store states moment machine = (files : ℕ → List ℕ) → LeavesHonest (IsPrimaryOf (length machine.opened)) (states moment) files → IsPrefix store machine files
 
--- what the law sees of a hive
+-- the crash model's view of a hive
 abbrev pub view_of : HiveFile → HiveView
 view_of hive = record { files = states.file_choice hive; memory = states.memory_of hive }
 
@@ -66,7 +66,7 @@ pub record AreOnDisk (journal : Journal) (hives : List HiveFile) (state : ℕ �
   pub decodes : is_on (encodings_of journal) (journal_view journal) (state journal_file)
   pub each : (i : ℕ) (hive : HiveFile) → slice_get hives i ≡ Some hive → FilesMatchHive hive (state (primary_file i)) (state (log_file i))
 
--- each hive has the number of its place, and is of the store
+-- each hive has the number of its index, and is of the store
 pub record ArePlaced (store : Store) (hives : List HiveFile) : Type 0 where
   pub place : (i : ℕ) (hive : HiveFile) → slice_get hives i ≡ Some hive → hive_number hive ≡ i
   pub owner : (i : ℕ) (hive : HiveFile) → slice_get hives i ≡ Some hive → states.store_of hive ≡ store.id

@@ -21,34 +21,36 @@ IsNotRefused answer = (progress : Progress) × (answer ≡ Stepped progress)
 abbrev pub HasPending : Machine → Type 0
 HasPending machine = machine.durable < last_number machine
 
--- So many steps of the journal, none of them refused, make all accepted changes durable, where so many are left until the next of
--- them are.
+-- How many steps of the journal, none of them refused, make all accepted changes durable, if `left` are left until the
+-- next of them are.
 abbrev pub steps_to_all : Machine → ℕ → ℕ
 steps_to_all machine left = 5 * (last_number machine - machine.durable) + left
 
--- A step of the journal of which five at most were left makes changes durable, or leaves fewer; and so fewer are left until all are.
+-- A step of the journal with at most five left makes changes durable, or leaves fewer; so fewer are left until all are
+-- durable.
 pub record NearsDurable (old : Machine) (left : ℕ) (new : Machine) (left_then : ℕ) : Type 0 where
   pub few : left ≤ 5
   pub nearer : (old.durable < new.durable) ⊎ (left_then < left)
   pub falls : steps_to_all new left_then < steps_to_all old left
 
--- A step of the journal that was made, as it is told of.
+-- A step of the journal that was made, as its reply says.
 pub record IsJournalStep (old : Machine) (left : ℕ) (new : Machine) (left_then : ℕ) : Type 0 where
   pub progress : Progress
   pub step : Step old JournalStep (Stepped progress) new
   pub nears_durable : HasPending old → NearsDurable old left new left_then
 
--- A trim is halfway: that the journal spells nothing is on its way.
+-- A trim is under way: the content without elements is under way to the journal.
 abbrev pub IsTrimming : Choice (Content TimedOp) → Type 0
 IsTrimming journal = journal.next ≡ Some nothing
 
--- A trim is done: the journal spells nothing, and the room is that of the changes which are not durable.
+-- A trim is done: the journal decodes to no element, and the room is that of the changes that are not durable.
 pub record HasTrimmed (old : Machine) (answer : Reply) (new : Machine) (journal : Choice (Content TimedOp)) : Type 0 where
   pub told : answer ≡ Stepped Done
   pub frees : EndsTrim old Done new
   pub decodes : journal ≡ settled nothing
 
--- the flush of a hive: how many of its calls are left, or of a whole one where none is on its way; and how many pages it writes
+-- the flush of a hive: how many of its calls are left, or of a whole one if none is under way; and how many pages it
+-- writes
 pub record FlushView : Type 0 where
   pub left : ℕ
   pub pages : ℕ
@@ -56,7 +58,7 @@ pub record FlushView : Type 0 where
 abbrev pub flush_of : HiveFile → FlushView
 flush_of hive = record { left = steps_left hive; pages = dirty_pages hive }
 
--- A flush begins: what the hive has in memory, up to a number, is on its way to its files.
+-- A flush begins: what the hive has in memory, up to a number, is under way to its files.
 pub record BeginsFlush (number : ℕ) (answer : Reply) (old new : HiveView) (after : FlushView) : Type 0 where
   pub rests : old.files.next ≡ None
   pub told : answer ≡ Stepped More
@@ -65,7 +67,7 @@ pub record BeginsFlush (number : ℕ) (answer : Reply) (old new : HiveView) (aft
   pub few : after.left < 2 * after.pages + 7
   pub some : 0 < after.left
 
--- A flush goes on: fewer of its calls are left.
+-- A flush continues: fewer of its calls are left.
 pub record GoesOnFlushing (answer : Reply) (old new : HiveView) (before after : FlushView) : Type 0 where
   pub was : old.files.next ≡ Some old.memory
   pub told : answer ≡ Stepped More
@@ -74,19 +76,20 @@ pub record GoesOnFlushing (answer : Reply) (old new : HiveView) (before after : 
   pub falls : after.left < before.left
   pub some : 0 < after.left
 
--- A flush is done: what the hive has in memory stands in its files.
+-- A flush is done: what the hive has in memory is durable in its files.
 pub record EndsFlush (answer : Reply) (old new : HiveView) : Type 0 where
   pub was : old.files.next ≡ Some old.memory
   pub told : answer ≡ Stepped Done
   pub files : new.files ≡ settled old.memory
   pub memory : new.memory ≡ old.memory
 
--- A step of a hive's flush, that has something to do: it begins a flush of what is durable up to a number, goes on with it, or ends it.
+-- A step of a hive's flush that has something to do: it begins a flush of what is durable up to a number, continues it,
+-- or ends it.
 abbrev pub FlushesOn : ℕ → Reply → HiveView → HiveView → FlushView → FlushView → Type 0
 FlushesOn number answer old new before after =
     BeginsFlush number answer old new after ⊎ (GoesOnFlushing answer old new before after ⊎ EndsFlush answer old new)
 
--- In the first so many of some steps, of which the first one began a flush, that was done: what the hive had in memory then stands in
--- its files. These are the answers, and the hive before each step.
+-- Of some steps the first began a flush, and one of the first `count` ended it: what the hive had in memory then is
+-- durable in its files. These are the answers, and the hive before each step.
 abbrev pub HasFlushed : ℕ → (ℕ → Reply) → (ℕ → HiveView) → Type 0
 HasFlushed count answers hives = (k : ℕ) × (k < count) × (answers k ≡ Stepped Done) × ((hives (k + 1)).files ≡ settled (hives 1).memory)

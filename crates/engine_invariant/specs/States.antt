@@ -1,4 +1,4 @@
--- The engine's state as the law of one prefix sees it, and what an engine keeps.
+-- The engine's state as the crash model sees it, and what an engine keeps.
 use Rattle.std.specs.Prelude.{◌≡◌, ◌⊎◌, ℕ, ◌+◌, ◌<◌, ◌≤◌, List, ◌++◌, length, take, slice_get, slice_index_or, Option, Some, None}
 use Rattle.refusals.specs.declared.limits.TheConstants.{GREATEST_NUMBER, MOST_JOURNAL_BYTES}
 use Rattle.reg_tree.specs.Maps.{TreeMap}
@@ -31,8 +31,8 @@ counted (Some hive) = with_memory hive.files hive.memory
 abbrev pub files_in : List HiveView → ℕ → Choice (TreeMap × ℕ)
 files_in hives i = counted (slice_get hives i)
 
--- the life: the machine's opened trees and accepted changes, and the changes that the journal spelled at the opening, which
--- are numbered from `base` + 1 on
+-- the life: the machine's opened trees and accepted changes, and the changes that the journal decoded to at the
+-- opening, which are numbered from `base` + 1 on
 abbrev pub life_of : Machine → ℕ → List Element → Life TreeMap TimedOp
 life_of machine base opened = record {
   trees = tree_of machine.opened;
@@ -49,16 +49,17 @@ state_of machine base opened journal hives = record {
   files = files_in hives;
 }
 
--- A batch of the pending changes: so many of the first of them, behind what the journal spells.
+-- A batch of the pending changes: the first `count` of them, after what the journal decodes to.
 abbrev pub IsBatch : Machine → Content TimedOp → Content TimedOp → Type 0
 IsBatch machine now next = (count : ℕ) × (1 ≤ count) × (count ≤ length (pending machine))
     × (next ≡ record { below = floor machine.durable now; elements = now.elements ++ take count (timed_elements (pending machine)) })
 
--- What an engine keeps, but for the disk: what every machine keeps; its room within the limit where a change is pending, while a
--- journal that was opened may have used more; the law's invariant, with the hives' memory counted as on its way; that the life
--- begins where the machine does; as many hives as trees; that what is on its way to a hive's files is its memory; that what is
--- on its way to the journal is nothing, by a trim, or a batch of the pending changes; and that the machine's room is that of the
--- changes which the journal spells and of those pending.
+-- The invariant of an engine, without the disk. The machine has its invariant. Its room is within the limit if a change
+-- is pending, while a journal that was opened may have used more. The crash model's invariant holds, with the hives'
+-- memory counted as under way. The life begins where the machine does. There are as many hives as trees. What is under
+-- way to a hive's files is its memory. What is under way to the journal is the content without elements, by a trim, or
+-- a batch of the pending changes. The machine's room is that of the changes that the journal decodes to and of the
+-- pending ones.
 pub record IsConsistent (machine : Machine) (base : ℕ) (opened : List Element) (journal : Choice (Content TimedOp))
     (hives : List HiveView) : Type 0 where
   pub kept : InvariantHolds machine

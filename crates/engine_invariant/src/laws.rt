@@ -38,8 +38,8 @@ ghost use Rattle.engine_invariant.specs.Progress.{FlushView, FlushesOn, HasFlush
 
 use reg_tree::{Op, Tree};
 
-/// What an opening finds begins a life in which all is kept, whatever its bounds are: the machine is as it is opened, its room that of
-/// the changes which the journal spells.
+/// What an opening finds begins a life that has the invariant, whatever its bounds are. The machine is as it is opened,
+/// and its room is that of the changes that the journal decodes to.
 pub fn openings_begin()
     ensures { (bounds : StoreBounds) (trees : List TreeMap) (number failures base : ℕ)
         (opened : List Element) (journal : Choice (Content TimedOp)) (hives : List HiveView) →
@@ -50,7 +50,7 @@ pub fn openings_begin()
     store_model::laws::steps_keep_invariant();
 }
 
-/// A calm event, which makes no step, keeps all.
+/// An event that makes no step keeps the invariant.
 pub fn events_keep()
     ensures { (old new : Machine) (base : ℕ) (opened : List Element)
         (journal : Choice (Content TimedOp)) (hives : List HiveView)
@@ -62,8 +62,8 @@ pub fn events_keep()
     store_model::laws::only_steps_make_durable();
 }
 
-/// What is pending may be handed to the journal of a store with as many hives, where each change is short: the numbers go on
-/// from what it spells, each operation is on a hive that is there, and there is room.
+/// What is pending may be handed to the journal of a store with as many hives, if each change is short. The numbers
+/// continue from what the journal decodes to, each operation is on a hive of the store, and there is room.
 pub fn pending_may_be_handed()
     ensures { (machine : Machine) (base : ℕ) (opened : List Element)
         (journal : Choice (Content TimedOp)) (hives : List HiveView) →
@@ -75,9 +75,9 @@ pub fn pending_may_be_handed()
     crash_model::clauses_suffice::<Tree, (u64, Op)>();
 }
 
-/// A step of the journal, which is handed what is pending, keeps all and is a step of the machine, at each of its answers; and so
-/// does a step of a trim, where one may be made. What the journal carries is durable once a step is done; the room of changes
-/// that have left it is free then.
+/// A step of the journal, which is handed what is pending, keeps the invariant and is a step of the machine, at each of
+/// its answers. So does a step of a trim, if one may be made. What the journal has is durable once a step is done. The
+/// room of changes that have left it is free then.
 pub fn journal_steps_keep()
     ensures batch { (machine : Machine) (base : ℕ) (opened : List Element)
         (old new : Choice (Content TimedOp)) (hives : List HiveView)
@@ -97,13 +97,13 @@ pub fn journal_steps_keep()
     store_model::laws::steps_keep_invariant();
 }
 
-/// What a hive takes in and what its steps say.
+/// What a hive absorbs and what its steps say.
 ///
 /// - `lacks`: what a hive at rest lacks of the durable changes is legal on what it has in memory.
-/// - `above`: what a hive lacks above a number are the operations on it of the changes above that number, of those that the
-///   journal spelled at the opening and of those accepted since.
-/// - `takes`: a hive at rest may take that in.
-/// - `step`: a step of its flush keeps all and is a step of the machine, at each of its answers.
+/// - `above`: what a hive lacks above a number are the operations on it of the changes above that number. These changes
+///   are those that the journal decoded to at the opening and those accepted since.
+/// - `takes`: a hive at rest may absorb that.
+/// - `step`: a step of its flush keeps the invariant and is a step of the machine, at each of its answers.
 pub fn hive_steps_keep()
     ensures lacks { (machine : Machine) (base : ℕ) (opened : List Element)
         (journal : Choice (Content TimedOp)) (hives : List HiveView) (i : ℕ) (old : HiveView) →
@@ -134,8 +134,9 @@ pub fn hive_steps_keep()
     store_model::laws::steps_keep_invariant();
 }
 
-/// Where all is kept, and journal and hives are on the disk as they say, whatever a crash leaves at that moment, with honest first
-/// sectors, is a prefix of the machine's changes; and it stays so of that moment as the disk goes on.
+/// If the invariant holds, and journal and hives are on the disk as they say, whatever a crash leaves at that moment is
+/// a prefix of the machine's changes. That assumes honest first sectors, and stays so of that moment as the disk
+/// changes.
 pub fn crashes_leave_prefixes()
     ensures safe { (store : Store) (machine : Machine) (base : ℕ) (opened : List Element)
         (journal : Journal) (hives : List HiveFile) (states : ℕ → ℕ → FileState) (moment : ℕ) →
@@ -153,12 +154,12 @@ pub fn crashes_leave_prefixes()
 
 /// Runs whose boundaries are safe, each at its moment.
 ///
-/// - `continues`: such a run goes on by an event that the engine answers, behind which it is safe again, over a disk of which what
-///   was is as it was.
-/// - `answers`: a run of events that an engine answers in turn goes on by one more.
+/// - `continues`: such a run continues by an event that the engine answers. After it the run is safe again, over a disk
+///   whose history is unchanged.
+/// - `answers`: a run of events that an engine answers in turn continues by one more.
 /// - `runs`: each such run is a run of the machine, with as many answers as events.
-/// - `each_moment`: at each moment from its start to its end some boundary is of that moment; so what a crash leaves then is
-///   a prefix of the changes accepted up to there.
+/// - `each_moment`: at each moment from its start to its end some boundary is of that moment; so what a crash leaves
+///   then is a prefix of the changes accepted up to there.
 pub fn safe_runs_go_on()
     ensures continues { (store : Store) (was is : ℕ → ℕ → FileState) (old mid new : EngineView)
         (events : List Event) (replies : List Reply) (event : Event) (reply : Reply) →
@@ -182,8 +183,8 @@ pub fn safe_runs_go_on()
     crashes_leave_prefixes();
 }
 
-/// Each receipt that was told in a run is of a number that is durable at the run's end: no durable number falls, whatever was
-/// durable before.
+/// Each receipt that was answered in a run is of a number that is durable at the run's end: no durable number falls,
+/// whatever was durable before.
 pub fn receipts_are_durable()
     ensures { (old new : Machine) (events : List Event) (replies : List Reply) → InvariantHolds old →
         Run old events replies new →
@@ -193,10 +194,10 @@ pub fn receipts_are_durable()
     store_model::laws::only_steps_make_durable();
 }
 
-/// What a step has done that ended what was on its way to the journal, where all is kept.
+/// What a step has done that ended what was under way to the journal, if the invariant holds.
 ///
-/// - `settles`: a batch that stands has made changes durable.
-/// - `frees`: behind a trim that is done the room is that of the changes which are not durable.
+/// - `settles`: a batch that is durable has made changes durable.
+/// - `frees`: after a trim that is done the room is that of the changes that are not durable.
 pub fn ended_steps_effects()
     ensures settles { (machine : Machine) (base : ℕ) (opened : List Element)
         (old new : Choice (Content TimedOp)) (hives : List HiveView) →
@@ -208,8 +209,8 @@ pub fn ended_steps_effects()
         EndsTrim machine Done (after_step machine old new (Ok progress.Done)) }
 {}
 
-/// Six steps of the journal in a row, or more, none of which is refused, make changes durable where some are not: a trim that is
-/// halfway is ended by one, and a batch takes four.
+/// Six steps of the journal in a row, or more, none of which is refused, make changes durable if some are not: a trim
+/// that is under way is ended by one, and a batch takes four.
 pub fn six_steps_settle()
     ensures { (machines : ℕ → Machine) (left : ℕ → ℕ) (count : ℕ) → 6 ≤ count →
         HasPending (machines 0) →
@@ -218,8 +219,8 @@ pub fn six_steps_settle()
         (machines 0).durable < (machines count).durable }
 {}
 
-/// A flush that begins with so many dirty pages is done within twice as many steps and seven, none of which is refused; and its hive
-/// then has in its files each change that names it of those that were durable as it began.
+/// A flush that begins with `p` dirty pages is done within `2 * p + 7` steps, none of which is refused. Its hive's
+/// files then have each change that names the hive and was durable when the flush began.
 pub fn flushes_end()
     ensures { (hives : ℕ → HiveView) (flushes : ℕ → FlushView) (numbers : ℕ → ℕ)
         (answers : ℕ → Reply) → (hives 0).files.next ≡ None →
@@ -228,8 +229,8 @@ pub fn flushes_end()
         HasFlushed (2 * (flushes 1).pages + 7) answers hives × ((hives 1).memory.1 ≡ numbers 0) }
 {}
 
-/// Where all accepted changes are durable, whatever a crash leaves recovers the last number and the trees of now; and so do any files
-/// that are a prefix, such as those that a read gives.
+/// If all accepted changes are durable, whatever a crash leaves recovers the last number and the trees of now. So do
+/// any files that are a prefix, such as those that a read gives.
 pub fn quiet_ends_recover()
     ensures read { (store : Store) (machine : Machine) (files : ℕ → List ℕ) →
         IsPrefix store machine files → ¬ (HasPending machine) →

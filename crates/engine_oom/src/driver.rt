@@ -1,4 +1,4 @@
-//! An engine, and the events that may take memory: one that is refused it is made again.
+//! An engine, and the events that may take memory: an event that is refused memory is made again.
 use disk_model::MemDisk;
 use engine::Engine;
 use engine_tests::calls::{MOMENT, SESSION, ask, finish, prepare_write};
@@ -10,7 +10,7 @@ use store_model::{Event, Progress, Reply, Tx};
 use test_support::Fault;
 use uuid::Uuid;
 
-/// An engine, and what is on its way of it.
+/// An engine, and what is under way in it.
 #[derive(Drop)]
 pub(crate) struct EngineDriver {
     /// The engine.
@@ -19,9 +19,9 @@ pub(crate) struct EngineDriver {
     pub was_refused: bool,
     /// A transaction that is active.
     pub tx: Option<Tx>,
-    /// Whether a batch of the journal or a trim is on its way.
+    /// Whether a batch of the journal or a trim is under way.
     pub is_journaling: bool,
-    /// Whether a flush of hive 0 is.
+    /// Whether a flush of hive 0 is under way.
     pub is_flushing: bool,
 }
 
@@ -73,7 +73,7 @@ fn is_hungry(reply: &Reply) -> bool {
 }
 
 impl EngineDriver {
-    /// Nothing is on its way.
+    /// Nothing is under way.
     pub fn new(engine: Engine<MemDisk>, was_refused: bool) -> EngineDriver {
         EngineDriver {
             engine,
@@ -89,7 +89,7 @@ impl EngineDriver {
         self.engine.into_disk()
     }
 
-    // an event that may take memory: where it is refused it, it is made again
+    // an event that may take memory: if it is refused memory, it is made again
     fn asked(&mut self, alloc: Global, what: Ask) -> Result<Reply, Fault> {
         let reply = ask(&mut self.engine, event_of(alloc, what)?);
         if !is_hungry(&reply) {
@@ -167,7 +167,7 @@ impl EngineDriver {
         }
     }
 
-    /// Two changes, of which the first is durable. A batch of the second is on its way then, a flush of the first, and a
+    /// Two changes, of which the first is durable. A batch of the second is under way then, a flush of the first, and a
     /// transaction.
     pub fn begin_batch_and_flush(&mut self, alloc: Global) -> Result<(), Fault> {
         self.asked(alloc, Ask::Start)?;
@@ -189,7 +189,7 @@ impl EngineDriver {
     }
 }
 
-// what the finishing of a write is answered
+// the result of the finishing of a write
 fn finished(reply: Reply) -> Result<(), Fault> {
     match reply {
         Reply::Accepted { .. } => Ok(()),

@@ -1,12 +1,12 @@
-//! Makes a store on the disk in memory, opens it and lets an engine go on over it, for runs in which memory is refused.
+//! Makes a store on the disk in memory, opens it and runs an engine over it, for runs in which memory is refused.
 //!
-//! `tools/failalloc each` runs it once for each allocation, which is refused, and once for each with all later ones refused too.
-//! The disk takes its memory ahead. An event that is refused memory has changed nothing, and is made again. What takes none is
-//! then asked for wherever the store stands, with a batch, a flush or a trim on its way: the finishing of a prepared event, each
-//! step behind a first one, and whatever ends a transaction or a session.
+//! `tools/failalloc each` runs it once for each allocation, which is refused, and once for each with all later ones
+//! refused too. The disk takes its memory ahead. An event that is refused memory has changed nothing, and is made
+//! again. What takes no memory is then asked for in each state of the store, with a batch, a flush or a trim under way:
+//! the finishing of a prepared event, each step after a first one, and whatever ends a transaction or a session.
 //!
-//! The status is 0 where nothing was refused and all came as it should, 1 where memory was refused, 3 where a call was refused
-//! it twice, as where every allocation from one on is refused, and 2 where something else came.
+//! The status is 0 if nothing was refused and all came as it should, and 1 if memory was refused. It is 3 if a call was
+//! refused memory twice, such as if every allocation from one on is refused, and 2 if something else came.
 #![tactic(auto)]
 
 mod driver;
@@ -27,7 +27,7 @@ fn main(rt: HostRuntime) -> ExitCode {
     }
 }
 
-// an engine's life, and what is opened behind it: the status
+// an engine's life, and what is opened after it: the status
 fn status(alloc: Global) -> Result<u8, Fault> {
     let (engine, was_refused) = opening::made(alloc)?;
     let mut driver = EngineDriver::new(engine, was_refused);
@@ -40,7 +40,7 @@ fn status(alloc: Global) -> Result<u8, Fault> {
     }
 }
 
-// two stretches of a store's life, behind each of which stands what takes no memory
+// two stretches of a store's life, after each of which comes what takes no memory
 fn live(alloc: Global, driver: &mut EngineDriver) -> Result<(), Fault> {
     let first = driver.begin_batch_and_flush(alloc);
     driver.end()?;

@@ -1,4 +1,4 @@
-//! What takes no memory: an event that is refused it has failed.
+//! What takes no memory: an event that is refused memory has failed.
 use crate::driver::EngineDriver;
 use engine_tests::calls::{SESSION, ask};
 use refusals::Refusal;
@@ -9,7 +9,7 @@ use test_support::Fault;
 const MANY: u32 = 32;
 
 impl EngineDriver {
-    /// Ends what is on its way, wherever the store stands.
+    /// Ends what is under way, in any state of the store.
     pub fn end(&mut self) -> Result<(), Fault> {
         self.end_journaling()?;
         self.end_flush()?;
@@ -17,7 +17,7 @@ impl EngineDriver {
         self.look()
     }
 
-    /// Ends a batch or a trim that is on its way.
+    /// Ends a batch or a trim that is under way.
     pub fn end_journaling(&mut self) -> Result<(), Fault> {
         if self.is_journaling {
             self.is_journaling = false;
@@ -26,7 +26,7 @@ impl EngineDriver {
         Ok(())
     }
 
-    /// Ends a flush that is on its way.
+    /// Ends a flush that is under way.
     pub fn end_flush(&mut self) -> Result<(), Fault> {
         if self.is_flushing {
             self.is_flushing = false;
@@ -87,7 +87,7 @@ impl EngineDriver {
         }
     }
 
-    // an event that has nothing to tell
+    // an event whose reply has no content
     fn done(&mut self, event: Event) -> Result<(), Fault> {
         match ask(&mut self.engine, event) {
             Reply::Done => Ok(()),
@@ -95,7 +95,7 @@ impl EngineDriver {
         }
     }
 
-    // where a transaction stands
+    // checks the outcome of a transaction
     fn stands(&mut self, tx: Tx, wanted: Outcome) -> Result<(), Fault> {
         let session = SESSION;
         match ask(&mut self.engine, Event::Outcome { session, tx }) {

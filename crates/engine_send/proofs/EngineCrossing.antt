@@ -1,4 +1,4 @@
--- An engine may cross threads as its disk may, and so may a lock over it.
+-- An engine may cross threads if its disk may, and so may a lock over it.
 use denote.RattleType.{RattleType}
 use denote.Param.Send.{IsSend, IsSync, sendable}
 use Rattle.std.proofs.Crossing as std

@@ -1,9 +1,10 @@
 //! The law of crossing: which values of a store may be used by more than one thread.
 //!
-//! Sessions on threads of their own may share one engine behind a lock, and readers may share trees without one. Each law is
-//! proved of types alone, down to their last field, and for every disk that may be handed to another thread.
+//! Sessions on threads of their own may share one engine behind a lock, and readers may share trees without one. Each
+//! law is proved of types alone, down to their last field, and for every disk that may be handed to another thread.
 //!
-//! There is no code here that does anything. Each function hands its value to one that takes only what may cross threads.
+//! There is no code here that does anything. Each function hands its value to one that takes only what may cross
+//! threads.
 #![tactic(auto)]
 
 use disk_model::Disk;
@@ -19,7 +20,7 @@ fn shares<T: Sync>(_: &T) {}
 
 /// An engine may be handed to another thread if its disk may.
 ///
-/// So one thread may open a store and another go on with it.
+/// So one thread may open a store and another may continue with it.
 pub fn engine_is_sent<D: Disk + Send>(engine: &Engine<D>) {
     sends(engine);
 }

@@ -24,8 +24,8 @@ fn commit_key(
     commit(store, tx)
 }
 
-// Two keys in hive 0, which are journaled together and flushed; one in hive 1 and the commit of another there, which are journaled
-// together and flushed; and a third key in hive 0, which waits. Whatever is refused, the rest goes on.
+// Two keys in hive 0, which are journaled together and flushed; one in hive 1 and the commit of another there, which
+// are journaled together and flushed; and a third key in hive 0, which waits. Whatever is refused, the rest is done.
 fn run(alloc: Global, store: &mut Engine<MemDisk>) {
     let _ = create(store, alloc, 0, b'A');
     let _ = create(store, alloc, 0, b'B');
@@ -38,7 +38,7 @@ fn run(alloc: Global, store: &mut Engine<MemDisk>) {
     let _ = create(store, alloc, 0, b'E');
 }
 
-// what is opened behind so many of the batches
+// what is opened after each number of batches
 const BATCHES: [OpenedStore; 4] = [
     (0, *b"-----", *b"-----"),
     (2, *b"AB---", *b"-----"),
@@ -46,7 +46,7 @@ const BATCHES: [OpenedStore; 4] = [
     (5, *b"AB--E", *b"--CD-"),
 ];
 
-// what a crash with each tear leaves of the run, behind so many steps of its last batch
+// what a crash with each tear leaves of the run, after `steps` steps of its last batch
 fn last_batch(alloc: Global, steps: u32) -> Result<[OpenedStore; 3], Refusal> {
     let mut store = fresh(alloc, 2)?;
     run(alloc, &mut store);
@@ -72,8 +72,8 @@ fn the_last_batch_is_found_whole_or_not_at_all(rt: HostRuntime) -> Result<(), Fa
     Ok(())
 }
 
-// the last change that is acknowledged of the run, with its last batch, that is stopped at a call, and what a crash with each tear
-// leaves of it
+// the last acknowledged change of the run, with its last batch, that is stopped at a call, and what a crash with each
+// tear leaves of it
 fn stopped(alloc: Global, call: u64) -> Result<(u64, [OpenedStore; 3]), Refusal>
     requires { 1 ≤ call }
 {

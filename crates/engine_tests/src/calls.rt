@@ -1,6 +1,6 @@
 //! The calls of an engine, and of what makes and opens stores, by functions that promise next to nothing.
 //!
-//! What the calls themselves promise would stand beside each step of a test, though no test rests on it.
+//! The promises of the calls themselves would be stated at each step of a test, though no test relies on them.
 ghost use Rattle.std.specs.Prelude.{◌≡◌, ◌≤◌, IfOk, is_some, length, true};
 
 use disk_model::{MemDisk, Plan, Progress, Tear};
@@ -39,7 +39,7 @@ pub fn repair(store: &mut Opened<MemDisk>) -> Result<Progress, Refusal> {
     store.repair_step()
 }
 
-/// An engine over a store; the store is handed back where it is refused, with `Faulted` where a repair is left.
+/// An engine over a store; if it is refused the store is handed back, with `Faulted` if a repair is left.
 pub fn begin(
     alloc: Global,
     store: Opened<MemDisk>,
@@ -88,7 +88,7 @@ pub fn prepare_commit(engine: &mut Engine<MemDisk>, tx: Tx) -> Result<Option<Tre
     Ok(trees_of(next))
 }
 
-// the trees that will be those of now
+// the trees of now after the event
 fn trees_of(next: Option<Next>) -> Option<Trees> {
     match next {
         Some(Next { trees, change: _ }) => Some(trees),
@@ -96,7 +96,7 @@ fn trees_of(next: Option<Next>) -> Option<Trees> {
     }
 }
 
-/// Finishes what stands prepared.
+/// Finishes what is prepared.
 pub fn finish(engine: &mut Engine<MemDisk>) -> Reply
     requires { is_some engine.old.prepared ≡ true }
 {

@@ -10,7 +10,7 @@ use refusals::Refusal;
 use std::alloc::Global;
 use std::test::Fail;
 
-// what a crash with each tear leaves of a commit over two hives, behind so many steps of the journal
+// what a crash with each tear leaves of a commit over two hives, after `steps` steps of the journal
 fn committed(alloc: Global, steps: u32) -> Result<[OpenedStore; 3], Refusal> {
     let mut store = fresh(alloc, 2)?;
     create_all(&mut store, alloc, b"AB")?;
@@ -37,7 +37,7 @@ fn a_commit_over_two_hives_is_found_whole_or_not_at_all(rt: HostRuntime) -> Resu
     Ok(())
 }
 
-// the last change that is acknowledged of a run that is stopped at a call, and what a crash with each tear leaves of it
+// the last acknowledged change of a run that is stopped at a call, and what a crash with each tear leaves of it
 fn stopped(alloc: Global, call: u64) -> Result<(u64, [OpenedStore; 3]), Refusal>
     requires { 1 ≤ call }
 {
@@ -64,7 +64,7 @@ fn each_stop_leaves_a_prefix_with_each_acknowledged_change(rt: HostRuntime) -> R
     Ok(())
 }
 
-// an engine behind a run whose changes are all durable
+// an engine after a run whose changes are all durable
 fn quiet(alloc: Global) -> Result<Engine<MemDisk>, Refusal> {
     let mut store = fresh(alloc, 2)?;
     run(alloc, &mut store);

@@ -14,8 +14,8 @@ use uuid::Uuid;
 
 const MEBIBYTE: usize = 1_048_576;
 
-// the calls of a creation of two hives: a log is cut and synced, a primary file is cut, written, made longer, written and synced,
-// and the journal is cut, written and synced
+// the calls of a creation of two hives: a log is cut and synced, a primary file is cut, written, made longer, written
+// and synced, and the journal is cut, written and synced
 const CALLS: u64 = 2 * (2 + 5) + 3;
 
 // the number, the id and the number of hives of the store on a disk, and the keys of its hive 0
@@ -59,7 +59,7 @@ fn a_store_is_made_over_another_one(rt: HostRuntime) -> Result<(), Fail> {
     Ok(())
 }
 
-// what a creation is answered whose device fails at a call
+// the answer to a creation whose device fails at a call
 fn failing(alloc: Global, call: u64) -> Result<(), Refusal>
     requires { 1 ≤ call }
 {
@@ -99,7 +99,8 @@ fn heavy(alloc: Global) -> Result<Trees, Refusal> {
     Ok(Trees::new(alloc, 1)?.apply_ops(alloc, &ops, 1)?)
 }
 
-// why no store is made of a tree over the weight on a disk whose first call is to fail, and whether that call is still to come
+// why no store is made of a tree over the weight on a disk whose first call is to fail, and whether that call is still
+// to come
 fn refused(alloc: Global) -> Result<(Option<Refusal>, bool), Refusal> {
     let trees = heavy(alloc)?;
     let plan = Arc::new(alloc, Plan::new())?;

@@ -1,4 +1,4 @@
-//! Stores whose device fails in one call and goes on: they are opened again, without a crash.
+//! Stores whose device fails in one call and works again: they are opened again, without a crash.
 ghost use Rattle.std.specs.Prelude.{◌≤◌};
 
 use crate::calls::planned;
@@ -9,10 +9,10 @@ use refusals::Refusal;
 use std::alloc::Global;
 use std::test::Fail;
 
-// far behind the last call of any run
+// far after the last call of any run
 const NEVER: u64 = 1_000_000;
 
-// the disk on which a run met a fault at a call, if it made so many, and the last change that was acknowledged
+// the disk on which a run met a fault at a call, if it made so many calls, and the last acknowledged change
 fn faulted(alloc: Global, call: u64) -> Result<(MemDisk, u64), Refusal>
     requires { 1 ≤ call }
 {
@@ -24,14 +24,14 @@ fn faulted(alloc: Global, call: u64) -> Result<(MemDisk, u64), Refusal>
     Ok((store.into_disk(), acknowledged))
 }
 
-// what is opened of a disk, and then of it again behind a crash with each tear
+// what is opened of a disk, and then of it again after a crash with each tear
 fn found_again(alloc: Global, disk: MemDisk) -> Result<(OpenedStore, [OpenedStore; 3]), Refusal> {
     let store = opened(alloc, disk)?;
     let found = seen(alloc, &store)?;
     Ok((found, found_behind_crashes(alloc, store.disk())?))
 }
 
-// the last change that is acknowledged of such a run, and what is found of it
+// the last acknowledged change of such a run, and what is found of it
 fn told(alloc: Global, call: u64) -> Result<(u64, OpenedStore, [OpenedStore; 3]), Refusal>
     requires { 1 ≤ call }
 {

@@ -1,5 +1,5 @@
-//! Tests of a store over the disk in memory, from its making to its opening after a crash: what no clause says. Programs that run
-//! an engine take its calls from here.
+//! Tests of a store over the disk in memory, from its making to its opening after a crash: what no clause says.
+//! Programs that run an engine use its calls from here.
 #![tactic(auto)]
 
 #[cfg(test)]

@@ -1,7 +1,7 @@
 //! The room of a journal, asked of the engine directly: a script that fills it would be too long.
 //!
-//! It is 67,108,864 bytes: 65 at first, and 17 more than its text for each change. The key K, 63 values of a mebibyte and one of
-//! 1,045,272 bytes are all of it.
+//! It is 67,108,864 bytes: 65 at first, and 17 and the length of its encoding for each change. The key K, 63 values of
+//! a mebibyte and one of 1,045,272 bytes are all of it.
 use crate::calls::{SESSION, ask, left};
 use crate::stores::{
     MANY, begun, commit, create, engine, flush, fresh, is_acknowledged, journal, path, trim, write,
@@ -18,13 +18,13 @@ use store_model::{Event, Outcome, Reply, Tx};
 
 const MEBIBYTE: usize = 1_048_576;
 
-// the bytes of the value that fills the room behind 63 of a mebibyte
+// the bytes of the value that fills the room after 63 of a mebibyte
 const REST: usize = 1_045_272;
 
 // a value
 const V: u16 = 0x61;
 
-// what is refused for want of room
+// what is refused for lack of room
 const FULL: Result<u64, Refusal> = Err(Refusal::JournalFull);
 
 fn is_active(store: &mut Engine<MemDisk>, tx: Tx) -> bool {
@@ -35,7 +35,7 @@ fn is_active(store: &mut Engine<MemDisk>, tx: Tx) -> bool {
     }
 }
 
-// a value of so many bytes of the key K
+// a value of `count` bytes of the key K
 fn setting(alloc: Global, count: usize) -> Result<Op, Refusal> {
     let zeros = vec![in alloc; 0u8; count]?;
     Ok(Op::SetValue {
@@ -47,12 +47,12 @@ fn setting(alloc: Global, count: usize) -> Result<Op, Refusal> {
     })
 }
 
-// a write of so many bytes: its number
+// a write of `count` bytes: its number
 fn written(alloc: Global, store: &mut Engine<MemDisk>, count: usize) -> Result<u64, Refusal> {
     write(store, setting(alloc, count)?)
 }
 
-// fills a journal so far that it has room for one value of `REST` bytes more: the number of the last change
+// fills a journal until it has room for just one more value of `REST` bytes: the number of the last change
 fn fill(alloc: Global, store: &mut Engine<MemDisk>) -> Result<u64, Refusal> {
     let mut last = create(store, alloc, 0, b'K')?;
     for _turn in 0..63 {
@@ -72,8 +72,8 @@ fn a_change_that_the_journal_has_no_room_for_is_refused(rt: HostRuntime) -> Resu
     Ok(())
 }
 
-// Of a full journal whose changes are durable: what a change is answered behind a trim that may not be made, since the hive lacks what
-// the journal spells, behind the flush, and behind the trim.
+// The replies to a change, of a full journal whose changes are durable: after a trim that may not be made, since the
+// hive lacks what the journal decodes to; after the flush; and after the trim.
 fn freed(alloc: Global, store: &mut Engine<MemDisk>) -> [Result<u64, Refusal>; 3] {
     trim(store);
     let lacking = written(alloc, store, REST + 1);
@@ -94,7 +94,7 @@ fn a_trim_alone_frees_room(rt: HostRuntime) -> Result<(), Fail> {
     Ok(())
 }
 
-// a store that is opened behind a crash with a journal whose room is all used
+// a store that is opened after a crash with a journal whose room is all used
 fn full(alloc: Global) -> Result<Engine<MemDisk>, Refusal> {
     let mut store = fresh(alloc, 1)?;
     fill(alloc, &mut store)?;
@@ -113,8 +113,8 @@ fn what_an_opened_journal_spells_uses_its_room(rt: HostRuntime) -> Result<(), Fa
     Ok(())
 }
 
-// Of a store with a full journal and a transaction with a write: whether that is active behind a plain write that is refused and
-// behind its own commit that is, and what an empty commit is answered.
+// Of a store with a full journal and a transaction with a write: whether the transaction is active after a refused
+// plain write and after its own refused commit, and the reply to an empty commit.
 fn refused(alloc: Global, store: &mut Engine<MemDisk>) -> Result<(bool, bool, u64), Refusal> {
     let tx = begun(store)?;
     let empty = begun(store)?;

@@ -1,8 +1,8 @@
 //! Hives whose number isn't that of the journal's last change: what is opened of them.
 //!
-//! The number of a store is that of the last change that its journal spells, or else the greatest of a hive. A hive whose number
-//! is above the store's, or above the greatest of all numbers, is of no store; a change up to a hive's own number is not replayed
-//! on it.
+//! The number of a store is that of the last change that its journal decodes to, or else the greatest number of a hive.
+//! A hive whose number is above the store's, or above the greatest of all numbers, is of no store. A change up to a
+//! hive's own number is not replayed on it.
 use crate::calls::{left, open};
 use crate::stores::{MANY, create, engine, fresh, journal, keys, opened};
 use base_block::{AppliedNumber, BaseBlock};
@@ -24,7 +24,7 @@ fn renumber(disk: &mut MemDisk, hive: u8, number: u64) -> Result<(), Refusal> {
     Ok(())
 }
 
-// a disk with two hives and a journal that spells one change, the creation of A in hive 0, or none
+// a disk with two hives and a journal that decodes to one change, the creation of A in hive 0, or to none
 fn stored(alloc: Global, is_journaled: bool) -> Result<MemDisk, Refusal> {
     let mut store = fresh(alloc, 2)?;
     if is_journaled {
@@ -34,7 +34,7 @@ fn stored(alloc: Global, is_journaled: bool) -> Result<MemDisk, Refusal> {
     Ok(left(alloc, store.disk(), Tear::Old)?)
 }
 
-// the same, where the hives have these numbers
+// the same, if the hives have these numbers
 fn numbered(alloc: Global, is_journaled: bool, numbers: [u64; 2]) -> Result<MemDisk, Refusal> {
     let mut disk = stored(alloc, is_journaled)?;
     let [first, second] = numbers;
@@ -98,7 +98,7 @@ fn a_hive_above_the_stores_number_is_refused(rt: HostRuntime) {
     }
 }
 
-// the number of a change that is accepted behind these, and the one that is opened once it is journaled
+// the number of a change that is accepted after these, and the one that is opened once it is journaled
 fn next(alloc: Global, numbers: [u64; 2]) -> Result<(u64, u64), Refusal> {
     let mut store = engine(alloc, numbered(alloc, false, numbers)?)?;
     let accepted = create(&mut store, alloc, 0, b'A')?;
@@ -115,7 +115,7 @@ fn changes_go_on_behind_the_greatest_number_of_a_hive(rt: HostRuntime) {
         next(alloc, [GREATEST_NUMBER - 1, 0]),
         Ok((GREATEST_NUMBER, GREATEST_NUMBER))
     );
-    // behind the greatest of all numbers nothing is accepted
+    // after the greatest of all numbers nothing is accepted
     assert_eq!(&rt;
         next(alloc, [GREATEST_NUMBER, 0]),
         Err(Refusal::HistoryFull)

@@ -87,7 +87,7 @@ fn first_tree(store: &Opened<MemDisk>) -> Result<Tree, Refusal> {
     }
 }
 
-// the same disk, where hive 0 is made anew at number 0, with the key that the journal's change creates
+// the same disk, if hive 0 is made anew at number 0, with the key that the journal's change creates
 fn created_twice(alloc: Global) -> Result<MemDisk, Refusal> {
     let tree = first_tree(&opened(alloc, journaled(alloc)?)?)?;
     let mut disk = journaled(alloc)?;
@@ -103,8 +103,8 @@ fn a_change_that_is_not_legal_on_what_a_hive_holds_is_refused(rt: HostRuntime) -
     Ok(())
 }
 
-// why an opening is refused whose device fails at a call, and what is opened then of the disk that it hands back; nothing where it
-// makes no such call
+// why an opening is refused whose device fails at a call, and what is opened then of the disk that it hands back;
+// `None` if it makes no such call
 fn failing(alloc: Global, call: u64) -> Result<Option<(Refusal, OpenedStore)>, Refusal>
     requires { 1 ≤ call }
 {
@@ -150,7 +150,7 @@ fn unclean(alloc: Global, tear: Tear) -> Result<MemDisk, Refusal> {
 // what is opened of it
 const FLUSHED: OpenedStore = (1, *b"A----", *b"-B---");
 
-// opens and repairs a store as far as the device goes: the disk, and whether that was to the end
+// opens and repairs a store as far as the device works: the disk, and whether that was to the end
 fn tried(alloc: Global, disk: MemDisk) -> (MemDisk, bool) {
     match open(alloc, disk) {
         Ok(mut store) => {
@@ -161,7 +161,7 @@ fn tried(alloc: Global, disk: MemDisk) -> (MemDisk, bool) {
     }
 }
 
-// what is opened behind an opening of it that was stopped at a call, and a crash with each tear; nothing where it wasn't stopped
+// what is opened after an opening that was stopped at a call, and a crash with each tear; `None` if it wasn't stopped
 fn stopped(alloc: Global, before: Tear, call: u64) -> Result<Option<[OpenedStore; 3]>, Refusal>
     requires { 1 ≤ call }
 {
@@ -192,14 +192,15 @@ fn an_opening_that_is_stopped_loses_nothing(rt: HostRuntime) -> Result<(), Fail>
     for before in [Tear::Old, Tear::New, Tear::Torn] {
         let (stops, is_kept) = stops(alloc, before)?;
         assert!(&rt; is_kept, "{before:?}");
-        // the syncs of the journal, of two primary files and of a log, and a repair: pages, the last sector and their syncs
+        // the syncs of the journal, of two primary files and of a log, and a repair: pages, the last sector and their
+        // syncs
         assert!(&rt; stops >= 8, "{stops} stops, {before:?}");
     }
     Ok(())
 }
 
-// why an opening of a store with its repair is refused whose device fails at a call alone, and the disk as it is then; nothing
-// where it makes no such call
+// why an opening of a store with its repair is refused whose device fails at one call alone, and the disk as it is
+// then; `None` if it makes no such call
 fn unfinished(
     alloc: Global,
     disk: &MemDisk,
@@ -218,7 +219,7 @@ fn unfinished(
     }
 }
 
-// why such an opening is refused, what is opened behind it and a crash with each tear, and what is opened without one
+// why such an opening is refused, what is opened after it and a crash with each tear, and what is opened without one
 fn faulted(
     alloc: Global,
     disk: &MemDisk,
@@ -233,11 +234,11 @@ fn faulted(
     Ok(Some((why, crashed, found(alloc, disk)?)))
 }
 
-// behind the last call of such an opening
+// after the last call of such an opening
 const TRIED: u64 = 50;
 
-// how many of the first calls of such an opening fail it, one at a time, and whether each is told as a fault and leaves what was
-// there; no call behind them fails it
+// how many of the first calls of such an opening fail it, one at a time, and whether each is reported as a fault and
+// leaves what was there; no later call fails it
 fn faults(alloc: Global, before: Tear) -> Result<(u64, bool), Refusal> {
     let disk = unclean(alloc, before)?;
     let (mut faults, mut is_kept) = (0u64, true);
@@ -258,22 +259,22 @@ fn an_opening_in_which_one_call_fails_loses_nothing(rt: HostRuntime) -> Result<(
     for before in [Tear::Old, Tear::New, Tear::Torn] {
         let (faults, is_kept) = faults(alloc, before)?;
         assert!(&rt; is_kept, "{before:?}");
-        // the journal, two primary files and a log, each synced, measured and read, and a repair: pages, the last sector and
-        // their syncs; and no more than were tried
+        // the journal, two primary files and a log, each synced, measured and read, and a repair: pages, the last
+        // sector and their syncs; and no more than were tried
         assert!(&rt; faults >= 16, "{faults} faults, {before:?}");
         assert!(&rt; faults < TRIED - 1, "{faults} faults, {before:?}");
     }
     Ok(())
 }
 
-// how many changes are at hand of an opened store, and the number below the first of them
+// how many changes of an opened store are retained, and the number before the first of them
 fn retained(alloc: Global, disk: MemDisk) -> Result<(usize, u64), Refusal> {
     let (_, found) = opened(alloc, disk)?.into_parts();
     Ok((found.opened.len(), found.below))
 }
 
-// what a crash leaves of a store with changes of the keys A of hive 0 and B of hive 1, one by one, of which the hives in these
-// places were flushed then; and of a change of A's neighbour in hive 0 behind them
+// what a crash leaves of a store with changes of the keys A of hive 0 and B of hive 1, one by one, after which the
+// hives with these numbers were flushed; and of a later change of A's neighbour in hive 0
 fn flushed(alloc: Global, places: &[u8]) -> Result<MemDisk, Refusal> {
     let mut store = fresh(alloc, 2)?;
     create(&mut store, alloc, 0, b'A')?;

@@ -9,7 +9,7 @@ use std::alloc::Global;
 use std::test::Fail;
 use store_model::{Event, Reply};
 
-// the keys of hive 0 that trees have, where there are trees
+// the keys of hive 0 that trees have, if there are trees
 fn shown(alloc: Global, trees: Option<Trees>) -> Result<Option<[u8; 5]>, Refusal> {
     match trees {
         Some(trees) => Ok(Some(keys(alloc, &trees, 0)?)),
@@ -17,8 +17,8 @@ fn shown(alloc: Global, trees: Option<Trees>) -> Result<Option<[u8; 5]>, Refusal
     }
 }
 
-// A write of the key A: the keys that its preparing tells and those that are there before and behind its finishing, and the number
-// that it is answered.
+// A write of the key A: the keys that its preparing answers, those that are there before and after its finishing, and
+// the number in the reply.
 fn written(
     alloc: Global,
     store: &mut Engine<MemDisk>,
@@ -39,7 +39,7 @@ fn a_write_shows_its_trees_and_is_accepted_as_it_is_finished(rt: HostRuntime) ->
     Ok(())
 }
 
-// what is awaited once a write was prepared, and the number of the same write behind that
+// what is awaited once a write was prepared, and the number of the same write after that
 fn dropped(alloc: Global, store: &mut Engine<MemDisk>) -> Result<(u64, u64), Refusal> {
     prepare_write(store, creation(alloc, 0, b'A')?)?;
     let awaited = accepted(ask(store, Event::FlushAsk))?;
@@ -54,7 +54,7 @@ fn another_event_drops_what_is_prepared(rt: HostRuntime) -> Result<(), Fail> {
     Ok(())
 }
 
-// the keys that the preparing of a commit tells, and the number that its finishing is answered
+// the keys that the preparing of a commit answers, and the number in the reply to its finishing
 fn committed(
     alloc: Global,
     store: &mut Engine<MemDisk>,
@@ -74,7 +74,7 @@ fn a_commit_is_made_in_two_parts(rt: HostRuntime) -> Result<(), Fail> {
     Ok(())
 }
 
-// what the preparing of a deletion of no key tells, and why its finishing is refused
+// what the preparing of a deletion of no key answers, and why its finishing is refused
 fn refused(
     alloc: Global,
     store: &mut Engine<MemDisk>,
@@ -93,7 +93,7 @@ fn what_will_be_refused_shows_no_trees(rt: HostRuntime) -> Result<(), Fail> {
     Ok(())
 }
 
-// a write, its batch, and the question whether it is durable, before the batch's last step and behind it
+// a write, its batch, and the question whether it is durable, before the batch's last step and after it
 fn events(alloc: Global) -> Result<Vec<Event>, Refusal> {
     let mut events = Vec::new(alloc);
     events.push(Event::Write {
@@ -119,7 +119,7 @@ fn receipt(reply: Option<&Reply>) -> (bool, bool) {
     }
 }
 
-// of a run of these events how many replies there are, and what the two questions are answered
+// of a run of these events how many replies there are, and the replies to the two questions
 fn ran(
     alloc: Global,
     store: &mut Engine<MemDisk>,

@@ -27,7 +27,7 @@ pub fn seen(alloc: Global, store: &Opened<MemDisk>) -> Result<OpenedStore, Refus
     Ok((store.number(), first, second))
 }
 
-/// What is opened of a disk behind a crash with each tear.
+/// What is opened of a disk after a crash with each tear.
 pub fn found_behind_crashes(alloc: Global, disk: &MemDisk) -> Result<[OpenedStore; 3], Refusal> {
     let mut all = [(0, *b"?????", *b"?????"); 3];
     for (tear, place) in TEARS.iter().zip(&mut all) {
@@ -36,8 +36,8 @@ pub fn found_behind_crashes(alloc: Global, disk: &MemDisk) -> Result<[OpenedStor
     Ok(all)
 }
 
-/// Five changes, of which the third is a commit over both hives, with flushes and a trim between them: the number of the last one
-/// that was acknowledged. Whatever is refused, the rest goes on.
+/// Five changes, with flushes and a trim between them: the number of the last acknowledged one. The third is a commit
+/// over both hives. Whatever is refused, the rest is done.
 pub fn run(alloc: Global, store: &mut Engine<MemDisk>) -> u64 {
     let _ = create(store, alloc, 0, b'A');
     let _ = create(store, alloc, 0, b'B');
@@ -55,7 +55,7 @@ pub fn run(alloc: Global, store: &mut Engine<MemDisk>) -> u64 {
     acknowledged
 }
 
-/// The last of the first five changes that is acknowledged, or 0.
+/// The last acknowledged one of the first five changes, or 0.
 pub fn last_acknowledged(store: &mut Engine<MemDisk>) -> u64 {
     let mut acknowledged = 0;
     for number in 1..6u64 {
@@ -66,7 +66,7 @@ pub fn last_acknowledged(store: &mut Engine<MemDisk>) -> u64 {
     acknowledged
 }
 
-/// The keys of both hives after so many of the changes.
+/// The keys of both hives after the first `number` changes.
 pub fn prefix(number: u64) -> ([u8; 5], [u8; 5]) {
     match number {
         0 => (*b"-----", *b"-----"),

@@ -10,10 +10,10 @@ use std::test::Fail;
 
 const HIVES: u8 = 16;
 
-// a number, and the keys of all hives, where each has the same
+// a number, and the keys of all hives, if each has the same
 type OpenedStore = (u64, Option<[u8; 5]>);
 
-// behind a change of each hive by itself, and one of all; and behind another change of each
+// after a change of each hive by itself, and one of all; and after another change of each
 const BEFORE: OpenedStore = (17, Some(*b"AB---"));
 
 const AFTER: OpenedStore = (33, Some(*b"ABC--"));
@@ -50,7 +50,7 @@ fn waiting(alloc: Global) -> Result<Engine<MemDisk>, Refusal> {
     Ok(store)
 }
 
-// the keys of all hives, where each has the same
+// the keys of all hives, if each has the same
 fn common_keys(alloc: Global, trees: &Trees) -> Result<Option<[u8; 5]>, Refusal> {
     let first = keys(alloc, trees, 0)?;
     for hive in 1..HIVES {
@@ -67,7 +67,7 @@ fn found(alloc: Global, disk: MemDisk) -> Result<OpenedStore, Refusal> {
     Ok((store.number(), common_keys(alloc, store.trees())?))
 }
 
-// what is opened of a disk behind a crash with each tear
+// what is opened of a disk after a crash with each tear
 fn found_behind_crashes(alloc: Global, disk: &MemDisk) -> Result<[OpenedStore; 3], Refusal> {
     let mut all = [(0, None); 3];
     for (tear, place) in TEARS.iter().zip(&mut all) {
@@ -76,7 +76,7 @@ fn found_behind_crashes(alloc: Global, disk: &MemDisk) -> Result<[OpenedStore; 3
     Ok(all)
 }
 
-// what a crash with each tear leaves of the last 16 changes, behind so many steps of their batch
+// what a crash with each tear leaves of the last 16 changes, after `steps` steps of their batch
 fn batch(alloc: Global, steps: u32) -> Result<[OpenedStore; 3], Refusal> {
     let mut store = waiting(alloc)?;
     journal(&mut store, steps);
@@ -86,7 +86,8 @@ fn batch(alloc: Global, steps: u32) -> Result<[OpenedStore; 3], Refusal> {
 #[test]
 fn a_batch_of_sixteen_changes_is_found_whole_or_not_at_all(rt: HostRuntime) -> Result<(), Fail> {
     let alloc = rt.alloc();
-    // by steps of the journal; without the batch the number is the greatest of a hive, since the journal spells nothing
+    // by steps of the journal; without the batch the number is the greatest of a hive, since the journal decodes to no
+    // change
     let rows = [
         [BEFORE, BEFORE, BEFORE],
         [BEFORE, BEFORE, BEFORE],
@@ -100,8 +101,8 @@ fn a_batch_of_sixteen_changes_is_found_whole_or_not_at_all(rt: HostRuntime) -> R
     Ok(())
 }
 
-// brings a store on, of which all changes are durable: hive i makes i steps of its flush, so that some have ended and some have
-// just begun; a trim that may not be made yet; the rest of the flushes; and the trim
+// advances a store of which all changes are durable: hive i makes i steps of its flush, so some flushes have ended and
+// some have just begun; a trim that may not be made yet; the rest of the flushes; and the trim
 fn advance(store: &mut Engine<MemDisk>, stage: u32) {
     match stage {
         1 => {
@@ -114,7 +115,7 @@ fn advance(store: &mut Engine<MemDisk>, stage: u32) {
     }
 }
 
-// what a crash with each tear leaves behind so many such stages
+// what a crash with each tear leaves after `stages` such stages
 fn staged(alloc: Global, stages: u32) -> Result<[OpenedStore; 3], Refusal> {
     let mut store = waiting(alloc)?;
     journal(&mut store, MANY);

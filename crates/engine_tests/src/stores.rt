@@ -19,7 +19,7 @@ pub const TEARS: [Tear; 3] = [Tear::Old, Tear::New, Tear::Torn];
 /// More steps than any of these repairs, flushes and journals takes.
 pub const MANY: u32 = 64;
 
-/// A disk with a store of so many hives, each with a new tree at number 0.
+/// A disk with a store of `hives` hives, each with a new tree at number 0.
 pub fn created(alloc: Global, hives: usize) -> Result<MemDisk, Refusal>
     requires some { 1 ≤ hives }
     requires few { hives ≤ 16 }
@@ -62,7 +62,7 @@ pub fn engine(alloc: Global, disk: MemDisk) -> Result<Engine<MemDisk>, Refusal> 
     }
 }
 
-/// An engine over a new store of so many hives, with a session.
+/// An engine over a new store of `hives` hives, with a session.
 pub fn fresh(alloc: Global, hives: usize) -> Result<Engine<MemDisk>, Refusal>
     requires some { 1 ≤ hives }
     requires few { hives ≤ 16 }
@@ -84,7 +84,7 @@ pub fn creation(alloc: Global, hive: u8, letter: u8) -> Result<Op, Refusal> {
     Ok(Op::CreateKey { hive, path })
 }
 
-/// Carries out an operation by itself: the change's number, or 0 where none was needed.
+/// Carries out an operation by itself: the change's number, or 0 if none was needed.
 pub fn write(engine: &mut Engine<MemDisk>, op: Op) -> Result<u64, Refusal> {
     accepted(ask(
         engine,
@@ -96,7 +96,7 @@ pub fn write(engine: &mut Engine<MemDisk>, op: Op) -> Result<u64, Refusal> {
     ))
 }
 
-/// The number that an event was answered which may accept a change, or why it was refused.
+/// The number in the reply to an event that may accept a change, or why it was refused.
 pub fn accepted(reply: Reply) -> Result<u64, Refusal> {
     match reply {
         Reply::Accepted { number, .. } => Ok(number),
@@ -143,7 +143,7 @@ pub fn write_in(engine: &mut Engine<MemDisk>, tx: Tx, op: Op) -> Result<(), Refu
     }
 }
 
-/// Commits a transaction: the change's number, or 0 where there is none.
+/// Commits a transaction: the change's number, or 0 if there is none.
 pub fn commit(engine: &mut Engine<MemDisk>, tx: Tx) -> Result<u64, Refusal> {
     accepted(ask(
         engine,
@@ -170,7 +170,7 @@ pub fn create_all(
     commit(engine, tx)
 }
 
-/// Makes steps of the journal, at most so many, until one is idle or refused.
+/// Makes at most `most` steps of the journal, until one is idle or refused.
 pub fn journal(engine: &mut Engine<MemDisk>, most: u32) {
     for _step in 0..most {
         if is_over(ask(engine, Event::JournalStep)) {
@@ -179,7 +179,7 @@ pub fn journal(engine: &mut Engine<MemDisk>, most: u32) {
     }
 }
 
-/// Makes steps of a hive's flush, at most so many, until one is idle or refused.
+/// Makes at most `most` steps of a hive's flush, until one is idle or refused.
 pub fn flush(engine: &mut Engine<MemDisk>, hive: u8, most: u32) {
     for _step in 0..most {
         if is_over(ask(engine, Event::FlusherStep { hive })) {
@@ -212,7 +212,7 @@ pub fn is_acknowledged(engine: &mut Engine<MemDisk>, number: u64) -> bool {
     matches!(ask(engine, Event::Acked { number }), Reply::Receipt { .. })
 }
 
-/// Which of the letters A to E are keys below the root of a hive: `-` stands for each that isn't.
+/// Which of the letters A to E are keys below the root of a hive: `-` for each that isn't.
 pub fn keys(alloc: Global, trees: &Trees, hive: u8) -> Result<[u8; 5], Refusal> {
     let mut letters = *b"ABCDE";
     if let Some(tree) = trees.tree(hive) {

@@ -6,14 +6,14 @@ use std::cell::Cell;
 use std::io::Eprint;
 use std::time::{Clock, Duration};
 
-/// Work that is done within so many milliseconds is told nothing of.
+/// The milliseconds within which work is done without a line.
 const PATIENCE: u64 = 500;
 
-/// The line isn't written anew before so many milliseconds have gone by.
+/// The milliseconds after which the line may be written anew.
 const PAUSE: u64 = 100;
 
-/// A line on standard error that tells of one stage of work after another how much of it is done. Whoever does a part of the work
-/// may have a `&` of it.
+/// A line on standard error that shows, for one stage of work after another, how much of it is done. Each part of the
+/// work may have a `&` of it.
 #[derive(Drop)]
 pub struct ProgressLine<'a, R> {
     terminal: &'a R,
@@ -35,14 +35,14 @@ impl<'a, R: Eprint + Clock> ProgressLine<'a, R> {
         }
     }
 
-    /// The next stage begins: nothing of it is done. The line goes away until it is told of.
+    /// The next stage begins: nothing of it is done. The line goes away until it has something to show.
     pub fn begin(&self, work_stage: WorkStage) {
         self.work_stage.set(work_stage);
         self.done.set(0);
         self.clear();
     }
 
-    /// So much more of the stage is done, of the same unit as the whole.
+    /// Another `more` of the stage is done, in the same unit as the whole.
     pub fn advance(&self, more: u64) {
         self.done.set(self.done.get().saturating_add(more));
         let WorkStage { work, whole } = self.work_stage.get();
@@ -73,7 +73,7 @@ impl<'a, R: Eprint + Clock> ProgressLine<'a, R> {
         }
     }
 
-    // whether the line is to be written by now; never where no clock tells
+    // whether the line is to be written by now; never if there is no clock
     fn is_due(&self) -> bool {
         match self.terminal.monotonic() {
             Ok(now) => now >= self.next.get(),
@@ -82,7 +82,7 @@ impl<'a, R: Eprint + Clock> ProgressLine<'a, R> {
     }
 }
 
-// the moment so many milliseconds after now; past all where no clock tells
+// the moment `milliseconds` after now; past all moments if there is no clock
 fn later<R: Clock>(clock: &R, milliseconds: u64) -> Duration {
     match clock.monotonic() {
         Ok(now) => now.saturating_add(Duration::from_millis(milliseconds)),
@@ -90,7 +90,7 @@ fn later<R: Clock>(clock: &R, milliseconds: u64) -> Duration {
     }
 }
 
-/// How many whole hundredths of the whole are done; all where there is nothing to do.
+/// How many whole percent of the whole are done; 100 if there is nothing to do.
 fn percent_of(done: u64, whole: u64) -> u64
     ensures all { whole ≤ done → result ≡ 100 }
     ensures part { done < whole → result ≡ done * 100 / whole }

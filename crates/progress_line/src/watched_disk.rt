@@ -1,4 +1,4 @@
-//! A disk that tells how much was moved from it or to it.
+//! A disk that reports how much was moved from it or to it.
 ghost use Rattle.std.specs.Prelude.{◌≡◌, ℕ};
 
 use crate::line::ProgressLine;
@@ -6,7 +6,7 @@ use disk_model::{Disk, Failed};
 use std::io::Eprint;
 use std::time::Clock;
 
-/// The bytes that a line is told of.
+/// The bytes that a line shows.
 #[derive(Clone, Copy, Debug, PartialEq, Eq)]
 pub enum Moved {
     /// Those that are read.
@@ -15,7 +15,8 @@ pub enum Moved {
     Written,
 }
 
-/// A disk that tells of the bytes which were read from it, or written to it, where there is a line for that. It is the disk within.
+/// A disk that reports to a line, if there is one, the bytes that were read from it or written to it. Otherwise it is
+/// the disk within.
 #[derive(Drop)]
 pub struct WatchedDisk<'a, D, R> {
     disk: D,
@@ -24,7 +25,7 @@ pub struct WatchedDisk<'a, D, R> {
 }
 
 impl<'a, D: Disk + Drop, R: Eprint + Clock> WatchedDisk<'a, D, R> {
-    /// Tells of these bytes from here on, where there is a line.
+    /// Reports these bytes from here on, if there is a line.
     pub fn new(
         disk: D,
         moved: Moved,
@@ -47,7 +48,7 @@ impl<'a, D: Disk + Drop, R: Eprint + Clock> WatchedDisk<'a, D, R> {
         self.disk
     }
 
-    // tells that so many bytes were moved so
+    // reports that `count` bytes were moved so
     fn count(&self, moved: Moved, count: usize) {
         if let Some(line) = self.line {
             if moved == self.moved {

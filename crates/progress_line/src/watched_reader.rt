@@ -1,4 +1,4 @@
-//! A reader that tells how much of it was read.
+//! A reader that reports how much of it was read.
 ghost use Rattle.std.specs.Prelude.{◌≡◌};
 
 use crate::line::ProgressLine;
@@ -6,7 +6,7 @@ use crate::work_stage::WorkStage;
 use std::io::{self, Eprint, Read};
 use std::time::Clock;
 
-/// A reader that tells of the bytes which were read from it, where there is a line for that. It gives what the reader within
+/// A reader that reports to a line, if there is one, the bytes that were read from it. It gives what the reader within
 /// gives.
 #[derive(Drop)]
 pub struct WatchedReader<'a, T, R> {
@@ -17,8 +17,8 @@ pub struct WatchedReader<'a, T, R> {
 }
 
 impl<'a, T: Read + Drop, R: Eprint + Clock> WatchedReader<'a, T, R> {
-    /// Tells of what is read from here on, where there is a line: it gives what the reader would give. The stage, if there is one,
-    /// begins when it is first read; else it tells of the line's.
+    /// Reports what is read from here on, if there is a line: it gives what the reader would give. The stage, if there
+    /// is one, begins when it is first read; otherwise it reports to the line's stage.
     pub fn new(
         reader: T,
         line: Option<&'a ProgressLine<'a, R>>,
@@ -33,7 +33,7 @@ impl<'a, T: Read + Drop, R: Eprint + Clock> WatchedReader<'a, T, R> {
         }
     }
 
-    // begins the stage, where it has not begun
+    // begins the stage, if it has not begun
     fn begin(&mut self)
         ensures { self.new.reader ≡ self.old.reader }
     {
@@ -42,7 +42,7 @@ impl<'a, T: Read + Drop, R: Eprint + Clock> WatchedReader<'a, T, R> {
         }
     }
 
-    // tells that so many bytes more were read
+    // reports that `count` more bytes were read
     fn count(&self, count: usize) {
         if let Some(line) = self.line {
             line.advance(count as u64);

@@ -1,6 +1,6 @@
 //! The stages of work, and what they are called.
 
-/// Work that a line can tell of.
+/// Work that a line can show.
 #[derive(Clone, Copy, Debug, PartialEq, Eq)]
 pub enum Work {
     /// A script is played.
@@ -36,6 +36,6 @@ impl Work {
 pub struct WorkStage {
     /// What is done.
     pub work: Work,
-    /// How much there is of it, in any unit. Where that isn't known nothing is told of it.
+    /// How much there is of it, in any unit. If that isn't known no line shows it.
     pub whole: Option<u64>,
 }

@@ -13,7 +13,7 @@ use Rattle.recovery.specs.Recovered.{seen_in}
 use Rattle.recovery.specs.Repairs.{most_repairs, repairs_left}
 use Rattle.recovery.specs.Shown.{Shown}
 
--- where a hive has fewer left, the store has
+-- if a hive has fewer left, the store has
 pub fewer_left : (hives : List HiveFile) (k : ℕ) (old new : HiveFile) → slice_get hives k ≡ Some old → hive.repairs_left new < hive.repairs_left old → repairs_left (slice_set hives k new) < repairs_left hives
 fewer_left [] k old new is less = absurd cc
 fewer_left (h ∷ hives) zero old new is less =
@@ -29,7 +29,7 @@ pub most_same : (files other : ℕ → List ℕ) (n : ℕ) → ((i : ℕ) → fi
 most_same files other zero primary log = refl
 most_same files other (suc n) primary log = λ i. most_same files other n primary log i + hive.most_repairs (primary n i) (log n i)
 
--- one hive more
+-- one more hive
 pub one_more_left : (files mid : ℕ → FileState) (hives : List HiveFile) (n : ℕ) (h : HiveFile) → ((f : ℕ) → (mid f).seen ≡ (files f).seen) → repairs_left hives ≤ most_repairs (seen_in files) n
     → hive.repairs_left h ≤ hive.most_repairs (mid (primary_file n)).seen (mid (log_file n)).seen → repairs_left (hives ++ h ∷ []) ≤ most_repairs (seen_in files) (n + 1)
 one_more_left files mid hives n h same before here =
@@ -43,7 +43,7 @@ one_more_left files mid hives n h same before here =
 pub most_beside : (old mid : ℕ → FileState) (n : ℕ) → ((f : ℕ) → ¬ (IsJournal f) → mid f ≡ old f) → most_repairs (seen_in mid) n ≡ most_repairs (seen_in old) n
 most_beside old mid n others = most_same (seen_in mid) (seen_in old) n (λ i. ap (λ (s : FileState). s.seen) (others (primary_file i) (λ e. omega (arith, e)))) (λ i. ap (λ (s : FileState). s.seen) (others (log_file i) (λ e. omega (arith, e))))
 
--- what holds where a step was made holds where it was not refused
+-- what holds if a step was made holds if it was not refused
 pub as_journal_damage : {T E P : Type 0} (result : Result T E) → ((why : E) → result ≡ Err why → ⊥) → OnOk result P → P
 as_journal_damage (Ok x) not p = p
 as_journal_damage (Err why) not p = absurd (not why refl)
@@ -52,7 +52,7 @@ as_journal_damage (Err why) not p = absurd (not why refl)
 pub fewer_shown : {D : Type 0} (inside it : Shown D) → inside ≡ it → (n : ℕ) → n < repairs_left inside.found.hives.items → n < repairs_left it.found.hives.items
 fewer_shown {D = D} inside it is n less = subst (λ (x : Shown D). n < repairs_left x.found.hives.items) is less
 
--- where a hive of a place is not whole, not all are
+-- if the hive of an index is not whole, not all are
 pub some_left : (hives : List HiveFile) (place : ℕ) → place < length hives → ((h : HiveFile) → slice_get hives place ≡ Some h → hive.IsWhole h → ⊥) → AreWhole hives → ⊥
 some_left hives place lt not whole =
     let at = at_slot hives place lt in

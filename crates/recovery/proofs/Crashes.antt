@@ -62,7 +62,7 @@ still_recovered begins safe found kept states moment on files left =
 pub same_moment : (old new : ℕ → ℕ → FileState) (clock : ℕ) → ((k f : ℕ) → k ≤ clock → new k f ≡ old k f) → old clock ≡ new clock
 same_moment old new clock past = sym (λ i f. past clock f (omega arith) i)
 
--- The same of a store as it is shown: at the moment at which a step begins, which is seen at that of its end too, and at that
+-- The same of a store as it is shown: at the moment when a step begins, seen at the moment of its end too, and at that
 
 module _ {D : Type 0} (state_at : D → ℕ → ℕ → FileState) (clock : D → ℕ) (faithful : D → Type 0) (begins : Begins) (safe : Safe) (inside it : Shown D) (is : inside ≡ it) (kept : InvariantHolds inside.found)
     (on_disk : faithful inside.disk → AreOnDisk inside.found.journal inside.found.hives.items (state_at inside.disk (clock inside.disk))) where

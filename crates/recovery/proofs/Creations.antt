@@ -40,7 +40,7 @@ Spelling = (v : JournalView TimedOp) (store : Store) (state : FileState) → is_
 
 -- ---- one hive after another
 
--- the first trees, so many, are within the weight
+-- the first n trees are within the weight
 abbrev pub LightUpTo : ℕ → List TreeMap → Type 0
 LightUpTo n trees = (i : ℕ) (tree : TreeMap) → i < n → slice_get trees i ≡ Some tree → weight tree ≤ MOST_WEIGHT
 
@@ -50,7 +50,7 @@ one_more_light n most trees tree before is room light i t lt at = elim (cases_eq
   | inr other ↦ before i t (omega (arith, lt, other)) at
 ]
 
--- the first hives, so many, are written of their images
+-- the first n hives are written of their images
 abbrev pub WrittenUpTo : ℕ → List HiveImage → (ℕ → FileState) → Type 0
 WrittenUpTo n images state = (i : ℕ) (image : HiveImage) → i < n → slice_get images i ≡ Some image → IsWritten image (state (primary_file i)) (state (log_file i))
 
@@ -65,7 +65,7 @@ one_more_written n images image mid new before is others here i x lt at = elim (
       subst (λ (s : FileState). IsWritten x s (new (log_file i))) (sym first) (subst (λ (s : FileState). IsWritten x (mid (primary_file i)) s) (sym second) (before i x (omega (arith, lt, other)) at))
 ]
 
--- an image more is that of the next tree
+-- one more image is that of the next tree
 pub one_more_image : (id : List ℕ) (trees : List TreeMap) (images : List HiveImage) (n : ℕ) (image : HiveImage) (tree : TreeMap) → length images ≡ n → AreImagesOf id trees images → slice_get trees n ≡ Some tree → IsImageOf id tree image
     → AreImagesOf id trees (images ++ image ∷ [])
 one_more_image id trees images n image tree many before is here =
@@ -97,7 +97,7 @@ stays_off hives first mid last a b c stays time others = record {
   others = λ f not. others f (λ j. not (inl j)) ∙ stays.others f (λ h. not (inr h));
 }
 
--- files that are left of a hive's, as it was made, hold its tree
+-- files that are left of a hive's, as it was made, decode to its tree
 left_held : (id : List ℕ) (tree : TreeMap) (primary log : FileState) → AreCreated id tree primary log → (p l : List ℕ) → Leaves primary p → Leaves log l → HiveFilesHold id p l (tree, 0)
 left_held id tree primary log made p l first second =
     let whole = made.made.whole in
@@ -106,7 +106,7 @@ left_held id tree primary log made p l first second =
     let l_is : l ≡ log.synced = left_at_rest _ l (subst (λ (s : FileState). Leaves s l) empty second) ∙ sym (ap (λ (s : FileState). s.synced) empty) in
     subst (λ (b : List ℕ). HiveFilesHold id b l (tree, 0)) (sym p_is) (subst (λ (b : List ℕ). HiveFilesHold id primary.synced b (tree, 0)) (sym l_is) made.holds)
 
--- what is left of a journal's file, as it was made, spells nothing
+-- what is left of a journal's file, as it was made, decodes to no element
 nothing_left : Spelling → (journal : Journal) (store : Store) → store_of journal ≡ store → choice_of journal ≡ settled nothing → (state : FileState) → is_on (encodings_of journal) (journal_view journal) state
     → (c : List ℕ) → Leaves state c → decoded (encodings store) c ≡ Some nothing
 nothing_left law journal store is empty state on c left =
@@ -117,7 +117,7 @@ nothing_left law journal store is empty state on c left =
     stands s (inl now) = now ∙ ap (λ (c : Choice (Content TimedOp)). c.now) empty
     stands s (inr next) = absurd (none-some s (sym (ap (λ (c : Choice (Content TimedOp)). c.next) empty) ∙ next))
 
--- from trees that hives hold at number 0, and no change, they are recovered
+-- the trees are recovered from hives that store them at number 0, and no change
 fresh : (trees : List TreeMap) → 1 ≤ length trees → Recovers tree_rules GREATEST_NUMBER (length trees) nothing (λ i. (tree_of trees i, 0)) 0 (tree_of trees)
 unfolding tree_rules
 fresh trees some = record {

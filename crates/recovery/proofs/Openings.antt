@@ -36,13 +36,13 @@ tells i (refusal.HiveDamaged hive cause) e = tt
 tells i refusal.Unsupported e = tt
 tells i _ e = absurd e
 
--- a hive that holds nothing is what a refusal of it tells
+-- a hive whose files decode to nothing is wrong as its refusal says
 wrong : (files : ℕ → List ℕ) (i : ℕ) (why : Refusal) → RefusalNamesHive i why → HoldsNothing files i why → IsWrong files why
 wrong files i (refusal.HiveDamaged hive cause) e none = inl (subst (λ n. HoldsNothing files n (refusal.HiveDamaged hive cause)) (sym e) none)
 wrong files i refusal.Unsupported e none = (i, none)
 wrong files i _ e none = absurd e
 
--- a refusal of a hive, as one of the store whose journal was read behind it
+-- a refusal of a hive, as one of the store whose journal was read after it
 pub refused_hives : (read faithful : Type 0) → (faithful → read) → (rose risen : Type 0) → (rose → risen) → (store : Store) → IsStore store → (now : Content TimedOp) (old : ℕ → FileState) → (faithful → decoded (encodings store) (old journal_file).seen ≡ Some now)
     → (why : Refusal) → RefusalHasCause rose (IsNoHive read store.id store.hives old) why → RefusalHasCause risen (IsNoStore faithful (seen_in old)) why
 refused_hives read faithful back rose risen up store is now old decodes why (inl hungry) = inl hungry
@@ -53,7 +53,7 @@ refused_hives read faithful back rose risen up store is now old decodes why (inr
       λ f. wrong (seen_in old) i why of (record { store = store; journal = now; store_is = is; decodes = decodes f; there = lt }, none (back f)),
     ))
 
--- a refusal that tells of no hive
+-- a refusal that names no hive
 pub refused_beside : (read faithful : Type 0) (rose : Type 0) (store : List ℕ) (count : ℕ) (old : ℕ → FileState) (why : Refusal) → ((i : ℕ) → RefusalNamesHive i why → ⊥) → RefusalHasCause rose (IsNoHive read store count old) why → RefusalHasCause rose (IsNoStore faithful (seen_in old)) why
 refused_beside read faithful rose store count old why none (inl hungry) = inl hungry
 refused_beside read faithful rose store count old why none (inr (inl fault)) = inr (inl fault)
@@ -86,7 +86,7 @@ opened_still read faithful back store old mid new hives opened others i hive is 
           (subst (λ (l : FileState). FilesMatchHive hive (mid (primary_file i)) l) (sym (others (log_file i) (λ e. omega (arith, e)))) (o.on (back f)));
     }
 
--- a hive's own number, by its place
+-- a hive's own number, by its index
 own_number : (hives : List HiveFile) (i : ℕ) (hive : HiveFile) → slice_get hives i ≡ Some hive → get_or (map (λ (h : HiveFile). (file_choice h).now.1) hives) i 0 ≡ (file_choice hive).now.1
 own_number [] i hive is = absurd cc
 own_number (h ∷ hives) zero hive is = ap (λ (x : HiveFile). (file_choice x).now.1) (same_Some h hive is)
@@ -137,7 +137,7 @@ module _ (faithful : Type 0) (store : Store) (then now : ℕ → FileState) (rea
   pub are_on : faithful → AreOnDisk read.journal hives now
   are_on f = record { decodes = is.on f; each = λ i h at. (opened i h at).on f }
 
--- what the journal spells it spelled before the hives were read
+-- what the journal decodes to it decoded to before the hives were read
 pub decoded_before : (faithful : Type 0) (store : Store) (numbers : List ℕ) (old then now : ℕ → FileState) (read : OpenedJournal) → IsRead faithful store numbers then now read → (faithful → (f : ℕ) → IsSyncedOrSame (old f) (then f))
     → faithful → decoded (encodings store) (old journal_file).seen ≡ Some (choice_of read.journal).now
 decoded_before faithful store numbers old then now read is synced f =

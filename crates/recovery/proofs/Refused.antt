@@ -35,7 +35,7 @@ module _ (one_store : OneStore) (one_held : OneHeld) (files : ℕ → List ℕ) 
   there : hive < store.hives
   there = omega (arith, of.there, ap (λ (s : Store). s.hives) which)
 
-  -- what is recovered of the hive is held in the journal's store
+  -- what is recovered of the hive is decoded from its files in the journal's store
   holds : HoldsIn files hive of (r.recovers.each hive there).held
   holds = subst (λ (s : Store). HiveFilesHold s.id (files (primary_file hive)) (files (log_file hive)) (r.recovers.each hive there).held) which (r.recovers.each hive there).holds_it
 

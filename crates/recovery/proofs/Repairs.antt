@@ -1,4 +1,4 @@
--- A step of a hive's repair keeps what an opened store keeps.
+-- A step of a hive's repair keeps the invariant of an opened store.
 use Rattle.std.proofs.Common.{◌≡◌, ◌⊎◌, inl, inr, ℕ, ◌+◌, ◌-◌, ◌<◌, List, [], length, take, drop, map, refl, sym, ◌∙◌, ap, subst, Some, slice_get, get_or, Result, Ok, Err}
 use Rattle.std.specs.Prelude.{slice_set, IfErr, OnOk}
 use Rattle.std.specs.Global.{Vec}
@@ -29,7 +29,7 @@ views_on hives k old new is files memory =
     let same : view_of new ≡ view_of old = λ i. record { files = files i; memory = memory i } in
     map-set_same view_of hives k new old (same ∙ ap view_of is)
 
--- the operations on a hive that it lacks with this number, of the changes that were let go
+-- the operations on a hive that it lacks with this number, of the discarded changes
 abbrev lacked : RecoveredStore → ℕ → ℕ → List TimedOp
 lacked found i number = ops_on i (drop (number - found.base) (take (found.below - found.base) (timed_elements (changes_of found.journal))))
 

@@ -20,7 +20,7 @@ use Rattle.reg_tree.specs.declared.op.Legality.TheVariants.{Legal, Opened}
 use Rattle.refusals.specs.declared.refusal.Refusal.{Refusal}
 use Rattle.change_codec.specs.ModelChanges.{TimedOp, is_legal, tree_rules, timed, timed_element, timed_elements}
 
--- an operation that is written is legal, and leads where the tree_rules say; one that opens a key, or is refused, isn't
+-- a written operation is legal, and leads where the tree_rules say; one that opens a key, or is refused, isn't legal
 pub legal_is : (tree : TreeMap) (op : Op) (moment : ℕ) (made : TreeMap) → (legal_in tree op ≡ Ok Legal) × (made ≡ changed tree op moment) → (tree_rules.legal (moment, op) tree ≡ true) × (made ≡ tree_rules.apply (moment, op) tree)
 unfolding tree_rules
 legal_is tree op moment made (is, same) = (ap is_legal is, same)
@@ -51,7 +51,7 @@ module _ (hive moment : ℕ) (op : Op) (rest : List Op) (tree : TreeMap) where
   pub elsewhere : hive_of op ≢ hive → replay tree_rules (on_hive hive (map (timed moment) (op ∷ rest))) tree ≡ replay tree_rules (on_hive hive (map (timed moment) rest)) tree
   elsewhere other = ap (λ (b : Bool). replay tree_rules (if b then (moment, op) ∷ behind else behind) tree) (ne_eqb (hive_of op) hive other)
 
--- a front that isn't legal
+-- a prefix that isn't legal
 nowhere_on : {T O : Type 0} (r : Rules T O) (xs ys : List O) (t : T) → replay r xs t ≡ None → replay r (xs ++ ys) t ≡ None
 nowhere_on r [] ys t e = absurd cc
 nowhere_on r (x ∷ xs) ys t e = by_test (r.legal x t) e (nowhere_on r xs ys (r.apply x t))
@@ -69,7 +69,7 @@ pub change_nowhere : (hive : ℕ) (element : Element) (rest : List Element) (tre
     → replay tree_rules (ops_on hive (timed_elements (element ∷ rest))) tree ≡ None
 change_nowhere hive element rest tree none = nowhere_on tree_rules (on_hive hive (timed_element element)) (ops_on hive (timed_elements rest)) tree none
 
--- the changes above a number are those behind as many as lie below it, or behind all
+-- the changes above a number are those after as many as are below it, or after all
 pub lacked_is : {A : Type 0} (skipped most : ℕ) (xs : List A) → skipped ≡ min most (length xs) → take (length xs - skipped) (drop skipped xs) ≡ drop most xs
 lacked_is skipped most xs is = take_all (length xs - skipped) (drop skipped xs) (omega (arith, length-drop skipped xs)) ∙ elim (cases_lt most (length xs)) as (λ z. drop skipped xs ≡ drop most xs) [
   | inl lt ↦ let e : skipped ≡ most = omega (arith, is, lt) in ap (λ k. drop k xs) e

@@ -54,7 +54,7 @@ lead_all base below changes kept hives trees hand lead i hive tree is at = same_
 pub nowhere_all : (base below : ℕ) (changes kept : List Element) (hives : List HiveFile) → RetainsWhatHivesLack (floor below (spelled_as base changes)) changes below kept hives → SomeLeadsNowhere (spelled_as below kept) hives → SomeLeadsNowhere (spelled_as base changes) hives
 nowhere_all base below changes kept hives hand (i, hive, is, none) = (i, hive, is, same_replay base below changes kept hives hand i hive is ∙ none)
 
--- what is at hand of what was found, and where the last changes are that name the hives
+-- what is retained of what was found, and the last changes that name the hives
 pub hand_found : (base below number b w : ℕ) (changes kept : List Element) (hives : List HiveFile) → (0 < top 0 (spelled_as base changes) → b ≡ base) → (top 0 (spelled_as base changes) ≡ 0 → b ≡ number) → (0 < top 0 (spelled_as base changes) → w ≡ below) → (top 0 (spelled_as base changes) ≡ 0 → w ≡ number)
     → RetainsWhatHivesLack (floor below (spelled_as base changes)) changes below kept hives → RetainsWhatHivesLack b changes w kept hives
 hand_found base below number b w [] kept hives bs bn ws wn hand =

@@ -1,4 +1,4 @@
--- What a journal and hives recover together, and where they recover nothing.
+-- What a journal and hives recover together, and when they recover nothing.
 use Rattle.std.proofs.Common.{◌≡◌, inl, inr, ℕ, zero, suc, Bool, ◌+◌, ◌<◌, ◌≤◌, List, [], ◌∷◌, ◌++◌, length, map, refl, sym, ◌∙◌, ap, subst, arith, Some, None, get_or, slice_get}
 use Rattle.std.specs.Prelude.{min, if◌then◌else◌}
 use Rattle.std.proofs.lemmas.Bool.{cases_lt, eq-eqb}
@@ -103,11 +103,11 @@ module _ (journal : Journal) (below : ℕ) (elements : List Element) (hives : Li
   held_is : (i : ℕ) (hive : HiveFile) → slice_get hives i ≡ Some hive → held_by (map view_of hives) i ≡ memory_of hive
   held_is i hive is = ap held_if (view_at hives i hive is) ∙ memory_is i hive is
 
-  -- the number, told by what the journal says
+  -- the number, by what the journal says
   pub number_is : (last number : ℕ) → last ≡ top 0 (choice_of journal).now → IsNumber last hives number → IsNumber (top 0 its) hives number
   number_is last number e is = subst (λ n. IsNumber n hives number) (e ∙ ap (top 0) now_is) is
 
-  -- the hive at a place that is there
+  -- the hive at an index of the list
   at : (i : ℕ) → i < length hives → (hive : HiveFile) × (slice_get hives i ≡ Some hive)
   at = at_slot hives
 
@@ -163,7 +163,7 @@ module _ (journal : Journal) (below : ℕ) (elements : List Element) (hives : Li
       are_trees = are;
     }
 
--- One tree more
+-- One more tree
 
 pub trees_pushed : (trees : List TreeMap) (tree : TreeMap) → AreTrees trees → IsTree tree → AreTrees (trees ++ tree ∷ [])
 trees_pushed trees tree are is = each_pushed trees tree (λ i t. IsTree t) are is
@@ -225,7 +225,7 @@ of_found trees number base opened journal hives found store many files of =
         subst (HiveFilesHold (store_of journal).id (files (primary_file i)) (files (log_file i)))
         (sym (ap (λ (c : Choice (TreeMap × ℕ)). c.now) (found.each i (view_of h.0) view)) ∙ sym (ap held_if view)) (of.holds i h.0 h.1)
 
--- a journal with nothing on its way has not failed
+-- a journal with nothing under way has not failed
 pub settled_works : (journal : Journal) (now : Content TimedOp) → choice_of journal ≡ settled now → IsBroken journal → ⊥
 settled_works journal now is = by_phase journal.phase (ap (λ (c : Choice (Content TimedOp)). c.next) is)
   where
@@ -257,7 +257,7 @@ same_lists d [] (y ∷ ys) long each = absurd (omega (arith, long))
 same_lists d (x ∷ xs) [] long each = absurd (omega (arith, long))
 same_lists d (x ∷ xs) (y ∷ ys) long each = λ i. each 0 (omega arith) i ∷ same_lists d xs ys (omega (arith, long)) (λ j lt. each (suc j) (omega (arith, lt))) i
 
--- files recover one number and one list of trees at most, as one store
+-- files recover at most one number and one list of trees, as one store
 pub recovered_once : OneStore → OneHeld → (files : ℕ → List ℕ) (a b : Store) (n m : ℕ) (ts us : List TreeMap) → IsRecovered files a n ts → IsRecovered files b m us → (a ≡ b) × (n ≡ m) × (ts ≡ us)
 recovered_once one_store one_held files a b n m ts us x y =
     let which : b ≡ a = one_store (files journal_file) b a y.recovers.journal x.recovers.journal y.store_is x.store_is y.recovers.decoded x.recovers.decoded in

@@ -5,8 +5,8 @@ use Rattle.disk_model.specs.Crash.{LeavesHonest, ShowsHonest}
 use Rattle.disk_model.specs.ReadOnly.{OnlySyncs}
 use Rattle.engine_invariant.specs.Prefixes.{IsPrimaryOf}
 
--- A life of a store of so many hives may begin on these files: what a read gives of them is what a crash may leave, with honest first
--- sectors of its primary files.
+-- A life of a store of `hives` hives may begin on these files: what a read gives of them is what a crash may leave,
+-- with honest first sectors of its primary files.
 pub record MayBegin (hives : ℕ) (state : ℕ → FileState) : Type 0 where
   pub sound : (f : ℕ) → IsSound (state f)
   pub honest : ShowsHonest (IsPrimaryOf hives) state
@@ -15,9 +15,9 @@ pub record MayBegin (hives : ℕ) (state : ℕ → FileState) : Type 0 where
 abbrev pub after_crash : (ℕ → List ℕ) → ℕ → FileState
 after_crash files f = at_rest (files f)
 
--- An opening that came to nothing, from the files on which it began to those on which the next life begins: at each moment of it
--- each file is as at first or synced, and at one of them a crash left files with honest first sectors; or it was refused, and the
--- files are as at its end.
+-- An opening that came to nothing, from the files on which it began to those on which the next life begins. At each
+-- moment of it each file is as at first or synced, and at one of them a crash left files with honest first sectors. Or
+-- it was refused, and the files are as at its end.
 pub record CameToNothing (hives : ℕ) (first last : ℕ → FileState) : Type 0 where
   pub old : ℕ → ℕ → FileState
   pub new : ℕ → ℕ → FileState

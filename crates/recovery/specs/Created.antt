@@ -10,21 +10,21 @@ use Rattle.commit_journal.specs.Store.{Store, created_bytes}
 use Rattle.hive_flush.specs.Creation.{AreCreated, IsImageOf}
 use Rattle.hive_flush.specs.declared.image.HiveImage.{HiveImage}
 
--- the store of so many hives that is made under an id
+-- the store of these trees' hives that is made under an id
 abbrev pub new_store : List ℕ → List TreeMap → Store
 new_store id trees = record { id = id; hives = length trees }
 
--- Each tree is held at number 0 by a hive's files, the i-th by those of hive i, and all of them is on the disk.
+-- The i-th tree is stored at number 0 in the files of hive i, and all of them are on the disk.
 abbrev pub HivesAreMade : List ℕ → List TreeMap → (ℕ → FileState) → Type 0
 HivesAreMade id trees state = (i : ℕ) (tree : TreeMap) → slice_get trees i ≡ Some tree → AreCreated id tree (state (primary_file i)) (state (log_file i))
 
--- A store is made of trees: its journal has no change, each tree is held at number 0 by a hive's files, and all of them is on
--- the disk.
+-- A store is made of trees: its journal has no change, each tree is stored at number 0 in a hive's files, and all of
+-- them are on the disk.
 pub record StoreIsCreated (id : List ℕ) (trees : List TreeMap) (state : ℕ → FileState) : Type 0 where
   pub journal : state journal_file ≡ at_rest (created_bytes (new_store id trees))
   pub hives : HivesAreMade id trees state
 
--- one of the files of so many hives, and of a store of them
+-- one of the files of the `hives` hives, and of a store of them
 abbrev pub IsOfHives : ℕ → ℕ → Type 0
 IsOfHives hives f = (i : ℕ) × (i < hives) × IsFileOfHive i f
 
@@ -35,11 +35,11 @@ IsOfStore hives f = IsJournal f ⊎ IsOfHives hives f
 abbrev pub SomeIsHeavy : List TreeMap → Type 0
 SomeIsHeavy trees = (i : ℕ) × (tree : TreeMap) × (slice_get trees i ≡ Some tree) × (MOST_WEIGHT < weight tree)
 
--- why no store is made of trees, where the device has nothing to do with it
+-- why no store is made of trees, if the device isn't the reason
 abbrev pub IsRefusedFor : List TreeMap → Refusal → Type 0
 IsRefusedFor trees why = (why ≡ NoMemory) ⊎ ((why ≡ TooLarge) × SomeIsHeavy trees)
 
--- the images are those of the trees, each of the one in its place, for a store
+-- the images are those of the trees, each of the tree at its index, for a store
 abbrev pub AreImagesOf : List ℕ → List TreeMap → List HiveImage → Type 0
 AreImagesOf id trees images = (i : ℕ) (image : HiveImage) → slice_get images i ≡ Some image → (tree : TreeMap) → slice_get trees i ≡ Some tree → IsImageOf id tree image
 
@@ -47,6 +47,6 @@ AreImagesOf id trees images = (i : ℕ) (image : HiveImage) → slice_get images
 abbrev pub IsWritten : HiveImage → FileState → FileState → Type 0
 IsWritten image primary log = (store : List ℕ) (tree : TreeMap) → IsImageOf store tree image → AreCreated store tree primary log
 
--- the files of each hive are made of the image in its place
+-- the files of each hive are made of the image at its index
 abbrev pub AreWritten : List HiveImage → (ℕ → FileState) → Type 0
 AreWritten images state = (i : ℕ) (image : HiveImage) → slice_get images i ≡ Some image → IsWritten image (state (primary_file i)) (state (log_file i))

@@ -1,4 +1,4 @@
--- What an opened store keeps.
+-- The invariant of an opened store.
 use Rattle.std.specs.Prelude.{◌≡◌, ℕ, ◌+◌, ◌-◌, ◌≤◌, List, [], ◌∷◌, length, take, drop, map, slice_get, Some}
 use Rattle.commit_journal.specs.Store.{IsStore}
 use Rattle.commit_journal.specs.Journals.{changes_of, choice_of, store_of}
@@ -14,12 +14,12 @@ use Rattle.engine_invariant.specs.Openings.{OpeningRecovers}
 use Rattle.engine_invariant.specs.Prefixes.{ArePlaced, view_of}
 use Rattle.recovery.specs.declared.found.RecoveredStore.{RecoveredStore}
 
--- the hives' own numbers, in their order: those of what their files hold
+-- the hives' own numbers, in their order: those in their files
 abbrev pub own_numbers : List HiveFile → List ℕ
 own_numbers hives = map (λ (hive : HiveFile). (file_choice hive).now.1) hives
 
--- Of changes that are numbered from `base` + 1 on those above `below` are at hand: no hive lacks an operation of the others, and some
--- hive lacks the first of these.
+-- Of changes that are numbered from `base` + 1 on, those above `below` are retained: no hive lacks an operation of the
+-- others, and some hive lacks the first retained one.
 pub record RetainsWhatHivesLack (base : ℕ) (changes : List Element) (below : ℕ) (kept : List Element) (hives : List HiveFile) : Type 0 where
   pub low : base ≤ below
   pub high : below ≤ base + length changes
@@ -27,8 +27,8 @@ pub record RetainsWhatHivesLack (base : ℕ) (changes : List Element) (below : �
   pub held : (i : ℕ) (hive : HiveFile) → slice_get hives i ≡ Some hive → ops_on i (drop ((memory_of hive).1 - base) (take (below - base) (timed_elements changes))) ≡ []
   pub first : (e : Element) (es : List Element) → kept ≡ e ∷ es → Lacks (own_numbers hives) (below + 1) e
 
--- What was found is of one store, and journal and hives recover the trees and the number together; the device hasn't failed in a
--- step of the journal.
+-- What was found is of one store, and journal and hives recover the trees and the number together; the device hasn't
+-- failed in a step of the journal.
 pub record InvariantHolds (found : RecoveredStore) : Type 0 where
   pub recovers : OpeningRecovers found.trees found.number found.base (changes_of found.journal) (choice_of found.journal) (map view_of found.hives.items)
   pub store : IsStore (store_of found.journal)

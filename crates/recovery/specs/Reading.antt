@@ -26,8 +26,8 @@ use Rattle.hive_flush.specs.HiveStates.{IsBroken, FilesMatchHive, file_choice, m
 use Rattle.hive_flush.specs.HiveStates as states
 use Rattle.hive_flush.specs.declared.hive.HiveFile.{HiveFile}
 
--- A hive is opened as the i-th of a store: nothing is on its way, and the device hasn't failed in a step of it; it holds what its
--- files held at one moment, and they are as it says at a later one.
+-- A hive is opened as the i-th of a store: nothing is under way, and the device hasn't failed in a step of it. It has
+-- what its files decoded to at one moment, and they are as it says at a later one.
 pub record IsOpened (faithful : Type 0) (store : List ℕ) (then now : ℕ → FileState) (i : ℕ) (hive : HiveFile) : Type 0 where
   pub rests : file_choice hive ≡ settled (memory_of hive)
   pub place : hive_number hive ≡ i
@@ -36,21 +36,21 @@ pub record IsOpened (faithful : Type 0) (store : List ℕ) (then now : ℕ → F
   pub held : faithful → HiveFilesHold store (then (primary_file i)).seen (then (log_file i)).seen (memory_of hive)
   pub on : faithful → FilesMatchHive hive (now (primary_file i)) (now (log_file i))
 
--- The first hives of a store are opened, so many as there are in the list, and no file was written to meanwhile, that of the
--- journal not even synced.
+-- The first hives of a store are opened, as many as there are in the list. No file was written to meanwhile, and the
+-- journal's file was not even synced.
 pub record AreOpened (faithful : Type 0) (store : List ℕ) (then now : ℕ → FileState) (hives : List HiveFile) : Type 0 where
   pub each : (i : ℕ) (hive : HiveFile) → slice_get hives i ≡ Some hive → IsOpened faithful store then now i hive
   pub files : faithful → (f : ℕ) → IsSyncedOrSame (then f) (now f)
   pub journal : now journal_file ≡ then journal_file
 
--- a refusal tells of one of so many hives, with its number, or of a version that isn't known; and that hive holds nothing for the
--- cause that is told, where the device has answered as it should
+-- a refusal names one of the `count` hives, by its number, or a version that isn't known; and that hive's files decode
+-- to nothing for the reported cause, if the device has answered as it should
 abbrev pub IsNoHive : Type 0 → List ℕ → ℕ → (ℕ → FileState) → Refusal → Type 0
 IsNoHive faithful store count state why = (i : ℕ) × (i < count)
     × RefusesHiveFiles faithful i store (state (primary_file i)).seen (state (log_file i)).seen why
 
--- A journal and hives, all of one store and with nothing on their way; the journal spells these changes, each of which is a
--- change on the store's hives.
+-- A journal and hives, all of one store and with nothing under way; the journal decodes to these changes, each of which
+-- is a change on the store's hives.
 pub record AreAtRest (journal : Journal) (below : ℕ) (elements : List Element) (hives : List HiveFile) : Type 0 where
   pub store : IsStore (store_of journal)
   pub choice : choice_of journal ≡ settled (record { below = below; elements = timed_elements elements })
@@ -61,26 +61,26 @@ pub record AreAtRest (journal : Journal) (below : ℕ) (elements : List Element)
   pub place : (i : ℕ) (hive : HiveFile) → slice_get hives i ≡ Some hive → hive_number hive ≡ i
   pub owner : (i : ℕ) (hive : HiveFile) → slice_get hives i ≡ Some hive → states.store_of hive ≡ (store_of journal).id
 
--- Files spell what a journal says that stands, and hold what the hives have in memory.
+-- Files decode to the durable content of a journal, and to what the hives have in memory.
 pub record AreOf (files : ℕ → List ℕ) (journal : Journal) (hives : List HiveFile) : Type 0 where
   pub decodes : decoded (encodings_of journal) (files journal_file) ≡ Some (choice_of journal).now
   pub holds : (i : ℕ) (hive : HiveFile) → slice_get hives i ≡ Some hive
       → HiveFilesHold (store_of journal).id (files (primary_file i)) (files (log_file i)) (memory_of hive)
 
--- the greatest number of what stands in a hive's files
+-- the greatest number in the hives' files
 abbrev pub greatest : List HiveFile → ℕ
 greatest [] = 0
 greatest (hive ∷ hives) = max (file_choice hive).now.1 (greatest hives)
 
--- the number of a store: that of the journal's last change, where it is above 0, or else the greatest of a hive
+-- the number of a store: that of the journal's last change, if it is above 0, or else the greatest of a hive
 abbrev pub IsNumber : ℕ → List HiveFile → ℕ → Type 0
 IsNumber last hives number = ((0 < last) × (number ≡ last)) ⊎ ((last ≡ 0) × (number ≡ greatest hives))
 
--- What the changes of a journal above a hive's own number make of what it has in memory: each is legal where its turn comes.
+-- What the changes of a journal above a hive's own number make of what it has in memory: each is legal in its turn.
 abbrev pub replayed_on : Content TimedOp → ℕ → TreeMap × ℕ → Option TreeMap
 replayed_on journal i memory = replay tree_rules (ops_on i (above memory.1 journal)) memory.0
 
--- the first trees, so many as there are, are those to which the journal leads from what the hives have in memory
+-- these trees are those to which the journal leads from what the first hives have in memory, hive by hive
 abbrev pub LeadTo : Content TimedOp → List HiveFile → List TreeMap → Type 0
 LeadTo journal hives trees = (i : ℕ) (hive : HiveFile) (tree : TreeMap) → slice_get hives i ≡ Some hive → slice_get trees i ≡ Some tree
     → replayed_on journal i (memory_of hive) ≡ Some tree
@@ -89,12 +89,13 @@ LeadTo journal hives trees = (i : ℕ) (hive : HiveFile) (tree : TreeMap) → sl
 abbrev pub SomeLeadsNowhere : Content TimedOp → List HiveFile → Type 0
 SomeLeadsNowhere journal hives = (i : ℕ) × (hive : HiveFile) × (slice_get hives i ≡ Some hive) × (replayed_on journal i (memory_of hive) ≡ None)
 
--- where bytes spell changes as the journal of a store, it is this one
+-- if bytes decode to changes as the journal of a store, it is this one
 abbrev pub IsOnlyStore : List ℕ → Store → Type 0
 IsOnlyStore bytes store = (other : Store) (s : Content TimedOp) → IsStore other → decoded (encodings other) bytes ≡ Some s → other ≡ store
 
--- The journal of a store is opened, which has nothing on its way. It spells what its file spelled at one moment, and is as it says at a
--- later one. Of its changes those are kept from the first one on that some hive lacks, by the hives' own numbers.
+-- The journal of a store is opened, with nothing under way. It has what its file decoded to at one moment, and the file
+-- is as it says at a later one. Its changes are kept from the first one on that some hive lacks, by the hives' own
+-- numbers.
 pub record IsRead (faithful : Type 0) (store : Store) (numbers : List ℕ) (then now : ℕ → FileState) (read : OpenedJournal) : Type 0 where
   pub store_is : IsStore store
   pub of : store_of read.journal ≡ store

@@ -8,8 +8,8 @@ use Rattle.commit_journal.specs.Store.{Store, IsStore}
 use Rattle.engine_invariant.specs.Prefixes.{Recover}
 use Rattle.recovery.specs.Refused.{IsWrong}
 
--- Files are those of a store, and recover a number and trees: the journal's header tells the store, with its number of hives, and
--- there is a tree for each.
+-- Files are those of a store, and recover a number and trees: the journal's header names the store, with its number of
+-- hives, and there is a tree for each hive.
 pub record IsRecovered (files : ℕ → List ℕ) (store : Store) (number : ℕ) (trees : List TreeMap) : Type 0 where
   pub store_is : IsStore store
   pub many : length trees ≡ store.hives
@@ -23,14 +23,14 @@ NothingRecovered files = (store : Store) (number : ℕ) (trees : List TreeMap) �
 abbrev pub seen_in : (ℕ → FileState) → ℕ → List ℕ
 seen_in state f = (state f).seen
 
--- a refusal tells of the files: of a hive with its number, of a version that isn't known, or of the journal
+-- a refusal is one of files: of a hive with its number, of a version that isn't known, or of the journal
 abbrev pub IsFileRefusal : Refusal → Type 0
 IsFileRefusal (refusal.HiveDamaged hive cause) = Unit {0}
 IsFileRefusal refusal.Unsupported = Unit {0}
 IsFileRefusal refusal.JournalDamaged = Unit {0}
 IsFileRefusal _ = ⊥
 
--- why files are refused as those of a store: it is told of them, and what it tells is wrong with them, where the device has
--- answered as it should
+-- why files are refused as those of a store: the refusal is one of files, and they are wrong as it says, if the device
+-- has answered as it should
 abbrev pub IsNoStore : Type 0 → (ℕ → List ℕ) → Refusal → Type 0
 IsNoStore faithful files why = IsFileRefusal why × (faithful → IsWrong files why)

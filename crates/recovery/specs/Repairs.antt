@@ -8,8 +8,8 @@ use Rattle.hive_flush.specs.declared.hive.HiveFile.{HiveFile}
 abbrev pub repairs_left : List HiveFile → ℕ
 repairs_left hives = sum_by hive.repairs_left hives
 
--- How many steps the repair of a store of so many hives takes, at most: of each hive with an unclean primary file as many as its log
--- marks pages, and three.
+-- The most steps that the repair of a store of this many hives takes: for each hive with an unclean primary file the
+-- number of pages that its log marks, and three.
 abbrev pub most_repairs : (ℕ → List ℕ) → ℕ → ℕ
 most_repairs files zero = 0
 most_repairs files (suc n) = most_repairs files n + hive.most_repairs (files (primary_file n)) (files (log_file n))

@@ -21,6 +21,6 @@ shown_code {D = D} code = code_by (D × (RecoveredStore × Bool)) (coded× code 
 abbrev pub store_of : {D : Type 0} → Shown D → Store
 store_of opened = journals.store_of opened.found.journal
 
--- no repair is left, and the device hasn't failed in one
+-- no repair is left, and the device hasn't failed in a repair
 abbrev pub StoreIsRepaired : {D : Type 0} → Shown D → Type 0
 StoreIsRepaired opened = AreWhole opened.found.hives.items × (opened.failed ≡ false)

@@ -19,12 +19,14 @@ use reg_tree::{Op, Tree, Trees};
 use std::alloc::Global;
 use uuid::Uuid;
 
-/// Makes the files of a store under an id, whatever they held: a journal without a change, and of each tree, of which there are at
-/// most 16, the files of a hive at number 0. All of them is synced. All is made in memory before the first call of the device; and
-/// the journal's file comes last, so that a store that is made where none was isn't found before it is whole.
+/// Makes the files of a store under an id, whatever they contained: a journal without a change, and of each tree, of
+/// which there are at most 16, the files of a hive at number 0. All of them are synced. All is made in memory before
+/// the first device call. The journal's file comes last, so a store that is made where none was is found only once it
+/// is whole.
 ///
-/// Refused with `TooLarge` exactly where a tree is over the weight, and with `NoMemory`: nothing has changed then; and with
-/// `DiskFault` where the device failed in a call, which was the last one: nothing is said of the store's files then.
+/// Refused with `TooLarge` exactly if a tree is over the weight, and with `NoMemory`: nothing has changed then. Refused
+/// with `DiskFault` if the device failed in a call, which was the last one: nothing is promised of the store's files
+/// then.
 pub fn create<D: Disk>(alloc: Global, disk: &mut D, id: Uuid, trees: &Trees) -> Result<(), Refusal>
     requires few { length trees.now ≤ MOST_HIVES }
     ensures made { OnOk result (D.faithful disk.new →
@@ -73,7 +75,7 @@ fn some_is_heavy(trees: &Trees) -> bool
     false
 }
 
-// the tree of a hive that is there
+// the tree of a hive of the store
 fn tree_at(trees: &Trees, hive: u8) -> &Tree
     requires there { hive < length trees.now }
     ensures { slice_get trees.now hive ≡ Some result.now }
@@ -101,7 +103,7 @@ fn images_of(alloc: Global, id: Uuid, trees: &Trees) -> Result<Vec<HiveImage>, R
     Ok(images)
 }
 
-// makes the files of the hives, each of the image in its place
+// makes the files of the hives, each of the image with its number
 fn write_hives<D: Disk>(disk: &mut D, images: &[HiveImage]) -> Result<(), Failed>
     requires few { length images.now ≤ MOST_HIVES }
     ensures made { OnOk result (D.faithful disk.new →

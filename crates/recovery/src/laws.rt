@@ -1,4 +1,4 @@
-//! What files recover, what is wrong with those that are refused, and what openings that came to nothing leave of them: laws.
+//! What files recover, what is wrong with refused files, and what openings that came to nothing leave of them: laws.
 ghost use Rattle.std.specs.Prelude.{◌≡◌, ℕ, List};
 ghost use Rattle.refusals.specs.declared.refusal.Cause.{Cause};
 ghost use Rattle.refusals.specs.declared.refusal.Refusal.{Refusal};
@@ -21,10 +21,10 @@ pub fn one_is_recovered()
     hive_flush::laws::at_most_one_tree();
 }
 
-/// A law: files with which something is wrong, as a refusal of an opening tells it, recover nothing.
+/// A law: files that are wrong as an opening's refusal says recover nothing.
 ///
-/// What is told of one hive is wrong whatever the files of the others hold: so files that are alike in the journal and in that
-/// hive's two files recover nothing, too.
+/// If the refusal names one hive, the files are wrong whatever the files of the other hives contain. So files with the
+/// same journal and the same two files of that hive recover nothing, too.
 pub fn refused_files_recover_nothing()
     ensures none { (files : ℕ → List ℕ) (why : Refusal) → IsWrong files why →
         NothingRecovered files }
@@ -36,14 +36,14 @@ pub fn refused_files_recover_nothing()
     hive_flush::laws::at_most_one_tree();
 }
 
-/// Laws of openings, one after another, that came to nothing: each ended in a crash at any moment of it, or was refused. They began
-/// on files on which a life of a store of so many hives may begin.
+/// Laws of openings, one after another, that came to nothing: each ended in a crash at any moment of it, or was
+/// refused. They began on files on which a life of a store of `hives` hives may begin.
 ///
 /// - `begins`: a life may begin on the files then, too; `crash`: as it may on any that a crash left.
 /// - `left`: whatever a crash leaves then, with honest first sectors, one might have left at first.
-/// - `read`: and so might what a read gives then. So a number and trees that are opened then are some that might have been opened
-///   after a crash at first.
-/// - `recovered`: where that is one number and trees whatever a crash left at first, it is those.
+/// - `read`: so might what a read gives then. So a number and trees that are opened then might have been opened after a
+///   crash at first.
+/// - `recovered`: if that is one number and trees whatever a crash left at first, it is those.
 pub fn openings_lose_nothing()
     ensures crash { (hives : ℕ) (files : ℕ → List ℕ) → MayBegin hives (after_crash files) }
     ensures begins { (hives : ℕ) (first last : ℕ → FileState) → MayBegin hives first →

@@ -2,10 +2,10 @@
 //!
 //! [`create`] makes a store of some trees, at number 0.
 //!
-//! The journal and the hives are each read by themselves. Together they recover one number and one tree for each hive: that which
-//! its files hold, with the changes of the journal above the hive's own number. [`open`] answers them, and refuses files only where
-//! they recover nothing. Hives that were being written as the power went are repaired after that, a device call a step; whatever a
-//! crash leaves meanwhile recovers the same.
+//! The journal and the hives are each read by themselves. Together they recover one number and one tree for each hive:
+//! the tree in its files, with the changes of the journal above the hive's own number. [`open`] answers them, and
+//! refuses files only if they recover nothing. Hives that were being written when the power went are repaired after
+//! that, one device call a step. Whatever a crash leaves meanwhile recovers the same.
 #![tactic(auto)]
 
 mod creation;

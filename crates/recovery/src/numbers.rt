@@ -1,4 +1,4 @@
-//! The number of a store: that of the journal's last change, or else the greatest of a hive.
+//! The number of a store: that of the journal's last change, or else the greatest number of a hive.
 ghost use Rattle.std.specs.Prelude.{◌≡◌, ℕ, ◌<◌, ◌≤◌, None, Some, length, map, slice_get, IfOk};
 ghost use Rattle.hive_flush.specs.HiveStates.{file_choice};
 ghost use Rattle.hive_flush.specs.declared.hive.HiveFile.{HiveFile};
@@ -7,7 +7,8 @@ ghost use Rattle.recovery.specs.Reading.{IsNumber, greatest};
 use hive_flush::HiveFile;
 use std::alloc::{AllocError, Global};
 
-/// The number of a store whose journal's last change has this number, where it is above 0.
+/// The number of a store: `last`, the number of its journal's last change, if it is above 0; else
+/// the hives' greatest.
 pub(crate) fn number_of(last: u64, hives: &[HiveFile]) -> u64
     ensures { IsNumber last hives.now result }
 {
@@ -18,7 +19,7 @@ pub(crate) fn number_of(last: u64, hives: &[HiveFile]) -> u64
     }
 }
 
-// the greatest number of what stands in a hive's files; 0 where there is no hive
+// the greatest number in the hives' files; 0 if there is no hive
 fn greatest_number(hives: &[HiveFile]) -> u64
     ensures { result ≡ greatest hives.now }
 {

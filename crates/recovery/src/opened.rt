@@ -1,4 +1,4 @@
-//! A store that was opened, as its callers see it, and its repair: what it keeps is in its type.
+//! An opened store as its callers see it, and its repair: its type keeps the invariant.
 ghost use Rattle.std.specs.Prelude.{◌≡◌, ◌⊎◌, ◌↔◌, ℕ, ◌+◌, ◌<◌, ◌≤◌, List, length, IsTrue, Ok, Err, IfErr, IfOk, OnOk, false, true};
 ghost use Rattle.refusals.specs.declared.refusal.Refusal.TheVariants.{DiskFault, Faulted};
 ghost use Rattle.disk_model.specs.declared.progress.Progress.TheVariants as Progress;
@@ -23,10 +23,10 @@ use std::alloc::Global;
 use std::marker::Model;
 use uuid::Uuid;
 
-/// A store that was opened: a disk, and what its files recover.
+/// An opened store: a disk, and what its files recover.
 ///
-/// Where the disk is faithful, whatever a crash leaves of the files, with honest first sectors of the primary files, recovers the
-/// same number and trees.
+/// If the disk is faithful, whatever a crash leaves of the files, with honest first sectors of the primary files,
+/// recovers the same number and trees.
 pub struct Opened<D: Disk> {
     disk: D,
     found: RecoveredStore,
@@ -34,7 +34,7 @@ pub struct Opened<D: Disk> {
 }
 
 impl<D: Disk + Drop> Drop for Opened<D> {
-    // one drop for all that own a store, whose proofs see no more of it than that
+    // one drop for all that own a store, whose proofs see no more of it than this contract
     fn drop(self) {
         let Opened {
             disk: _,
@@ -68,25 +68,26 @@ impl<D: Disk> Model for Opened<D> {
     } };
 }
 
-/// Opens the store that is on a disk: the number and the trees that its files recover. Hives that were being written as the
-/// power went are to be repaired before anything else, by [`Opened::repair_step`]: of `h` unclean hives, in whose logs `p` pages are
-/// marked, that takes at most `p + 3 h` steps, where none is refused.
+/// Opens the store that is on a disk: answers the number and the trees that its files recover. Hives that were being
+/// written when the power went are to be repaired before anything else, by [`Opened::repair_step`]. Of `h` unclean
+/// hives, in whose logs `p` pages are marked, that takes at most `p + 3 h` steps, if none is refused.
 ///
-/// What is found is read behind the sync of its file, so that nothing of it is lost at the next crash; the journal's header alone is
-/// looked at before too, for whose the files are. At each moment of the call each
-/// file is as it was, or synced: so whatever a crash leaves within might have been left before
+/// What is found is read after the sync of its file, so the next crash loses nothing of it. Only the journal's header
+/// is read before that too, to see which store the files are of. At each moment of the call each file is as it was, or
+/// synced. So whatever a crash leaves within might have been left before
 /// ([`laws::openings_lose_nothing`](crate::laws::openings_lose_nothing)).
 ///
-/// Refused only for what is wrong with the files, which recover nothing then
+/// Refused only if the files are wrong, which recover nothing then
 /// ([`laws::refused_files_recover_nothing`](crate::laws::refused_files_recover_nothing)), or for the device or memory:
 ///
-/// - `HiveDamaged` of a hive that holds nothing in the journal's store, with the cause that stands in its files, or, with the cause
-///   `BadStore`, has a number above that of the journal's last change, or above the greatest of all where there is none;
-/// - `Unsupported`, where some hive holds nothing, for a version, a type or a flag that stands in its files;
-/// - `JournalDamaged`, where the journal is no store's, or one of its changes isn't legal on what some hive holds;
-/// - `DiskFault`, where the device failed; and `NoMemory`.
+/// - `HiveDamaged` of a hive that has no tree in the journal's store, with the cause that its files have; or, with the
+///   cause `BadStore`, of a hive with a number above that of the journal's last change, or above the greatest of all if
+///   there is none;
+/// - `Unsupported`, if some hive has no tree, for a version, a type or a flag in its files;
+/// - `JournalDamaged`, if the journal is no store's, or one of its changes isn't legal on the tree of some hive;
+/// - `DiskFault`, if the device failed; and `NoMemory`.
 ///
-/// The disk is handed back then, and so much holds of it too.
+/// The disk is handed back then, and the same holds of it.
 pub fn open<D: Disk>(alloc: Global, disk: D) -> Result<Opened<D>, (Refusal, D)>
     ensures recovered { IfOk result (λ opened. D.faithful opened.disk →
         IsRecovered (seen_in (D.state_at disk (D.clock disk)))
@@ -124,7 +125,7 @@ pub fn open<D: Disk>(alloc: Global, disk: D) -> Result<Opened<D>, (Refusal, D)>
 }
 
 impl<D: Disk> Opened<D> {
-    /// The number that is recovered: that of the last change which the trees have.
+    /// The recovered number: that of the last change that the trees have.
     pub fn number(&self) -> u64
         ensures { result ≡ self.now.found.number }
     {
@@ -145,19 +146,19 @@ impl<D: Disk> Opened<D> {
         self.found.journal.id()
     }
 
-    /// Whether no repair is left, and the device hasn't failed in one.
+    /// Whether no repair is left, and the device hasn't failed in a repair.
     pub fn is_whole(&self) -> bool
         ensures { IsTrue result ↔ StoreIsRepaired self.now }
     {
         !self.failed && self.found.hives.iter().all(|hive| hive.is_whole())
     }
 
-    /// One step of the repair, of the first hive that needs one: at most one device call. `More` where others follow, `Done`
-    /// where it was the last one, and `Idle` where no repair is left. Each step leaves fewer.
+    /// One step of the repair, of the first hive that needs one: at most one device call. `More` if others follow,
+    /// `Done` if it was the last one, and `Idle` if no repair is left. After each step fewer are left.
     ///
-    /// Whatever a crash leaves before, within or after it recovers the same number and trees. Takes no memory. Refused with
-    /// `DiskFault` where the device failed in the call, and with `Faulted` exactly where it had failed in an earlier one: the
-    /// store is to be opened again then.
+    /// Whatever a crash leaves before, within or after it recovers the same number and trees. Takes no memory. Refused
+    /// with `DiskFault` if the device failed in the call, and with `Faulted` exactly if it had failed in an earlier
+    /// one: the store is to be opened again then.
     pub fn repair_step(&mut self) -> Result<Progress, Refusal>
         ensures same { self.new.found ≡ record self.old.found { hives = self.new.found.hives } }
         ensures store { store_of self.new ≡ store_of self.old }
@@ -200,9 +201,9 @@ impl<D: Disk> Opened<D> {
         Ok(self.found.repaired())
     }
 
-    /// A law: whatever a crash leaves of the files as they are, with honest first sectors, recovers the number and the trees that
-    /// were found, of which there is one for each hive. As long as the device hasn't failed in the repair, what a read gives is of
-    /// that too.
+    /// A law: whatever a crash leaves of the files as they are, with honest first sectors, recovers the number and the
+    /// trees that were found, one tree for each hive. As long as the device hasn't failed in the repair, a crash may
+    /// also leave what a read gives.
     pub fn keeps_what_was_found(&self)
         ensures many { length self.now.found.trees ≡ (store_of self.now).hives }
         ensures crash { D.faithful self.now.disk → (files : ℕ → List ℕ) →
@@ -217,7 +218,7 @@ impl<D: Disk> Opened<D> {
         engine_invariant::laws::openings_begin();
         engine_invariant::laws::crashes_leave_prefixes();
         hive_flush::laws::reads_are_honest();
-        // what the type keeps is known where a field is looked at
+        // what the type keeps is known once a field is read
         let _ = self.found.journal.hives(); // for the prover
     }
 
@@ -257,7 +258,7 @@ impl<D: Disk> Opened<D> {
         (disk, found)
     }
 
-    /// A store of its parts again, where the device hasn't failed.
+    /// A store of its parts again, if the device hasn't failed.
     pub fn from_parts(disk: D, found: RecoveredStore) -> Opened<D>
         requires kept { InvariantHolds found }
         requires works { AllWork found.hives.items }

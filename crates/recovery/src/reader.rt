@@ -15,9 +15,9 @@ use refusals::Refusal;
 use std::alloc::Global;
 use uuid::Uuid;
 
-/// The hives of a store, so many, in their order.
+/// The `count` hives of a store, in their order.
 ///
-/// Refused as [`HiveFile::open`] refuses one of them.
+/// Refused if [`HiveFile::open`] refuses one of them, with the same refusal.
 pub(crate) fn open_hives<D: Disk>(
     alloc: Global,
     disk: &mut D,

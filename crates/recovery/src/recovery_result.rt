@@ -26,10 +26,10 @@ use refusals::{Cause, Refusal};
 use reg_tree::{Tree, Trees};
 use std::alloc::Global;
 
-/// What the hives of a store and the changes that its journal spells recover together.
+/// What the hives of a store and the changes that its journal decodes to recover together.
 ///
-/// Refused with `HiveDamaged` of a hive whose number is above that of the journal's last change or above the limit, with
-/// `JournalDamaged` where a change isn't legal in its turn, and with `NoMemory`.
+/// Refused with `HiveDamaged` of a hive whose number is above that of the journal's last change or above the limit.
+/// Refused with `JournalDamaged` if a change isn't legal in its turn, and with `NoMemory`.
 pub(crate) fn recovered(
     alloc: Global,
     read: OpenedJournal,
@@ -70,7 +70,7 @@ pub(crate) fn recovered(
     })
 }
 
-// where changes begin that a journal spells, or else another number
+// `place` if the journal decodes to changes, or else `number`
 fn begun_at(journal: &Journal, place: u64, number: u64) -> u64
     ensures some { 0 < top 0 (choice_of journal.now).now → result ≡ place }
     ensures none { top 0 (choice_of journal.now).now ≡ 0 → result ≡ number }
@@ -82,7 +82,7 @@ fn begun_at(journal: &Journal, place: u64, number: u64) -> u64
     }
 }
 
-// the trees to which changes lead from what so many hives have, which are numbered from `below` + 1 on
+// the trees of the hives with the changes applied, which are numbered from `below` + 1 on
 fn trees_after(
     alloc: Global,
     hives: &[HiveFile],
@@ -106,7 +106,7 @@ fn trees_after(
     Ok(trees)
 }
 
-// the tree to which those of the changes lead that a hive lacks
+// the tree of a hive with those of the changes applied that it lacks
 fn tree_after(
     alloc: Global,
     hive: &HiveFile,

@@ -1,4 +1,4 @@
-//! The repair of a store's hives, a device call a step.
+//! The repair of a store's hives, one device call a step.
 ghost use Rattle.std.specs.Prelude.{◌≡◌, ◌⊎◌, ◌<◌, ℕ, Ok, Err, IfErr, None, OnOk, Some, length, map, slice_get};
 ghost use Rattle.refusals.specs.declared.refusal.Refusal.TheVariants.{DiskFault, Faulted};
 ghost use Rattle.disk_model.specs.declared.progress.Progress.TheVariants as Progress;
@@ -23,7 +23,7 @@ impl RecoveredStore {
         self.hives.iter().position(|hive| !hive.is_whole())
     }
 
-    /// How far the repair has come behind a step that was made: done, or more are needed.
+    /// How far the repair has come after a step that was made: done, or more are needed.
     pub(crate) fn repaired(&self) -> Progress
         ensures done { result ≡ Progress.Done → AreWhole self.now.hives.items }
         ensures more { ¬ (result ≡ Progress.Idle) }
@@ -35,9 +35,9 @@ impl RecoveredStore {
         }
     }
 
-    /// One step of the repair of a hive: one device call at most. What is recovered stays.
+    /// One step of the repair of a hive: at most one device call. What is recovered stays the same.
     ///
-    /// Takes no memory. Refused with `DiskFault` where the device failed in the call.
+    /// Takes no memory. Refused with `DiskFault` if the device failed in the call.
     pub(crate) fn repair<D: Disk>(
         &mut self,
         disk: &mut D,

@@ -1,4 +1,4 @@
-//! A journal's changes, replayed on what a hive's files hold, each where it is legal.
+//! A journal's changes, replayed on the tree of a hive's files, each if it is legal.
 ghost use Rattle.std.specs.Prelude.{◌≡◌, ◌⊎◌, map, true, false, Some, None, IfOk, IfErr};
 ghost use Rattle.refusals.specs.Answers.{RefusedFor};
 ghost use Rattle.refusals.specs.declared.refusal.Refusal.TheVariants.{JournalDamaged, NoMemory};
@@ -10,10 +10,10 @@ use refusals::Refusal;
 use reg_tree::{Op, Tree};
 use std::alloc::Global;
 
-/// The tree to which the operations on a hive of some changes lead, one after another, each at its change's moment.
+/// The tree with the operations on a hive of some changes applied, one after another, each at its change's moment.
 ///
-/// Refused with `JournalDamaged` exactly where one isn't legal in its turn, also since it opens a key that is there; and with
-/// `NoMemory`.
+/// Refused with `JournalDamaged` exactly if one isn't legal in its turn, also because it opens a key that is there; and
+/// with `NoMemory`.
 pub(crate) fn replayed(
     alloc: Global,
     tree: Tree,
@@ -44,7 +44,7 @@ fn after_change(
     ensures fails { IfErr result (RefusedFor JournalDamaged
         (replay tree_rules (on_hive hive (timed_element change.now)) tree ≡ None)) }
 {
-    // that a change is elsewhere is told sooner by its hives alone
+    // a change on other hives alone is recognized faster by its list of hives
     if !change.is_on(hive) {
         return Ok(tree);
     }
@@ -68,7 +68,7 @@ fn after_ops(alloc: Global, tree: Tree, hive: u8, ops: &[Op], moment: u64) -> Re
     Ok(made)
 }
 
-// the tree after an operation that is legal there
+// the tree after an operation that is legal on it
 fn after_op(alloc: Global, tree: &Tree, op: &Op, moment: u64) -> Result<Tree, Refusal>
     ensures made { IfOk result (λ made. (tree_rules.legal (moment, op.now) tree.now ≡ true)
         × (made ≡ tree_rules.apply (moment, op.now) tree.now)) }
@@ -82,7 +82,7 @@ fn after_op(alloc: Global, tree: &Tree, op: &Op, moment: u64) -> Result<Tree, Re
     }
 }
 
-// why a journal with a change that is refused so is: want of memory stays
+// the refusal of a journal for a change that is refused so: `NoMemory` stays
 fn as_journal_damage(why: Refusal) -> Refusal
     ensures memory { why ≡ NoMemory → result ≡ NoMemory }
     ensures either { (result ≡ NoMemory) ⊎ (result ≡ JournalDamaged) }

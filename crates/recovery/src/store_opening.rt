@@ -30,8 +30,8 @@ use std::alloc::Global;
 
 /// What the files of a store recover.
 ///
-/// Refused for what is wrong with the files; with `DiskFault` where the device failed; and with `NoMemory`. No file changes but by
-/// its sync.
+/// Refused if something is wrong with the files; with `DiskFault` if the device failed; and with `NoMemory`. The sync
+/// of each file is the only effect on it.
 pub(crate) fn find<D: Disk>(alloc: Global, disk: &mut D) -> Result<RecoveredStore, Refusal>
     ensures kept { IfOk result InvariantHolds }
     ensures works { IfOk result (λ found. AllWork found.hives.items) }
@@ -62,8 +62,8 @@ pub(crate) fn find<D: Disk>(alloc: Global, disk: &mut D) -> Result<RecoveredStor
     Ok(found)
 }
 
-// The hives of a store and its journal, of whose changes those are kept that a hive lacks. So the hives are read first; but where
-// one of them holds nothing, that is told only where the journal is whole.
+// The hives of a store and its journal, of whose changes those are kept that a hive lacks. So the hives are read first.
+// But if one of them has no tree, that is reported only if the journal is whole.
 fn read_store<D: Disk>(
     alloc: Global,
     disk: &mut D,
@@ -108,7 +108,7 @@ fn read_store<D: Disk>(
     }
 }
 
-// the journal of the store that the header told before
+// the journal of the store that the header named before
 fn open_journal<D: Disk>(
     alloc: Global,
     disk: &mut D,
@@ -141,7 +141,7 @@ fn open_journal<D: Disk>(
     Ok(read)
 }
 
-// whether a refusal tells of a hive of a store
+// whether a refusal names a hive of a store
 fn is_hive_refusal(why: Refusal) -> bool
     ensures { result ≡ false → (i : ℕ) → ¬ (RefusalNamesHive i why) }
 {

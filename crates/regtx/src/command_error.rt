@@ -1,4 +1,4 @@
-//! What the program says where it can't begin its work.
+//! What the program says if it can't begin its work.
 use crate::hint::Hint;
 use refusals::Refusal;
 use script_syntax::Status;
@@ -6,7 +6,7 @@ use std::alloc::{AllocError, AllocFailed};
 use std::io;
 use thiserror::Error;
 
-/// Why the program can't begin its work. Its text is what the program prints; a hint says more of it to a person.
+/// Why the program can't begin its work. Its text is what the program prints; a hint says more at a terminal.
 #[derive(Debug, Drop, Error)]
 pub enum CommandError<'a> {
     /// The words of the command line are not understood, a request for help or version among them.
@@ -15,10 +15,11 @@ pub enum CommandError<'a> {
     /// A file that the command line names can't be read.
     #[error("cannot read file")]
     CannotReadFile(Hint<'a>),
-    /// No store can be made in the folder that the command line names: it can't be made or held, or it has a store.
+    /// No store can be made in the folder that the command line names: the folder can't be made or locked, or it has a
+    /// store.
     #[error("cannot make store")]
     CannotMakeStore(Hint<'a>),
-    /// The folder that the command line names can't be held: another program has it, or the system refuses it.
+    /// The folder that the command line names can't be locked: another program has it, or the system refuses it.
     #[error("cannot open store")]
     CannotOpenStore(Hint<'a>),
     /// Memory was asked for and not given.
@@ -38,7 +39,7 @@ impl<'a> CommandError<'a> {
         }
     }
 
-    /// What a person is told beside the text.
+    /// What a terminal shows beside the text.
     pub fn hint(&self) -> Option<Hint<'a>> {
         match self {
             CommandError::CannotReadFile(hint)

@@ -18,7 +18,7 @@ pub struct Source<'a, F> {
 }
 
 impl<'a, F: Read + Drop> Source<'a, F> {
-    /// Keeps there why a read of the file fails.
+    /// Stores in `trouble` why a read of the file fails.
     pub fn new(file: F, trouble: &'a Trouble) -> Source<'a, F> {
         Source { file, trouble }
     }
@@ -44,7 +44,7 @@ pub struct Target<'a, W> {
 }
 
 impl<'a, W: Write + Drop> Target<'a, W> {
-    /// Keeps there why a write fails.
+    /// Stores in `trouble` why a write fails.
     pub fn new(writer: W, trouble: &'a Trouble) -> Target<'a, W> {
         Target { writer, trouble }
     }
@@ -66,7 +66,7 @@ impl<'a, W: Write + Drop> Write for Target<'a, W> {
     }
 }
 
-/// What failed last. A failure that no read or write told is that of a device which was interrupted again and again.
+/// The last failure. A failure without a reported error is that of a device that was interrupted again and again.
 pub fn last_error(trouble: &Trouble) -> io::Error {
     trouble.get().unwrap_or(ErrorKind::Interrupted.into())
 }

@@ -1,4 +1,4 @@
-//! Lines for a person at a terminal: why what the words ask for can't be done.
+//! Lines at a terminal: why what the words ask for can't be done.
 use file_disk::{Denial, FileDisk, FileName, LockError, Unknown};
 use std::alloc::Global;
 use std::fmt;
@@ -6,7 +6,7 @@ use std::fs::File;
 use std::io::{self, Eprint};
 use std::rt::Files;
 
-/// Why a file or a folder can't be had.
+/// Why a file or a folder can't be used.
 #[derive(Clone, Copy, Debug)]
 pub enum Why {
     /// The system refuses it.
@@ -21,10 +21,10 @@ pub enum Why {
     NoFolder,
 }
 
-/// Such a line: `regtx: store/hive00.log: Permission denied`, for one.
+/// Such a line, for example `regtx: store/hive00.log: Permission denied`.
 #[derive(Clone, Copy, Debug)]
 pub struct Hint<'a> {
-    // what it speaks of: a path, or other words
+    // what the line is about: a path, or other words
     subject: &'a str,
     // the file of a store, if the path is that of the store's folder
     file: Option<FileName>,
@@ -32,7 +32,7 @@ pub struct Hint<'a> {
 }
 
 impl<'a> Hint<'a> {
-    /// Why what a path names can't be had.
+    /// Why what a path names can't be used.
     pub fn of(subject: &'a str, why: Why) -> Hint<'a> {
         Hint {
             subject,
@@ -57,7 +57,7 @@ impl<'a> Hint<'a> {
         Hint::of_store(folder, Some(journal), Why::IsThere)
     }
 
-    // why a file of the store in a folder can't be had, or the folder
+    // why a file of the store in a folder can't be used, or the folder
     fn of_store(folder: &'a str, file: Option<FileName>, why: Why) -> Hint<'a> {
         Hint {
             subject: folder,
@@ -66,7 +66,7 @@ impl<'a> Hint<'a> {
         }
     }
 
-    /// Why a folder can't be held; none for want of memory.
+    /// Why a folder can't be locked; none for lack of memory.
     pub fn of_lock_error(folder: &'a str, lock_error: &LockError) -> Option<Hint<'a>> {
         match lock_error {
             LockError::NoMemory => None,
@@ -80,7 +80,7 @@ impl<'a> Hint<'a> {
         denial.map(|denial| Hint::of_store(folder, denial.file, Why::Denied(denial.error)))
     }
 
-    /// What of a store isn't there, if anything.
+    /// What is missing of a store, if anything.
     pub fn of_absence<R: Files<File = File> + Drop>(
         folder: &'a str,
         disk: &FileDisk<R, Unknown>,
@@ -92,7 +92,7 @@ impl<'a> Hint<'a> {
         Some(Hint::of_store(folder, Some(file), Why::NoFile))
     }
 
-    /// Writes the line to standard error. What can't be written, or have memory, is left out.
+    /// Writes the line to standard error. What can't be written, or gets no memory, is left out.
     pub fn say<R: Eprint>(&self, rt: &R, alloc: Global) {
         if let Ok(line) = self.line(alloc) {
             let _ = eprintln!(rt; "{line}");

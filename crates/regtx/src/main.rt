@@ -1,11 +1,11 @@
-//! The program `regtx`: reads the words of its command line, and leaves the work to `script_runner`, `crash_lab`, `crash_sweep`,
-//! `hive_dump` and `store_create`.
+//! The program `regtx`: reads the words of its command line, and leaves the work to `script_runner`, `crash_lab`,
+//! `crash_sweep`, `hive_dump` and `store_create`.
 //!
-//! Everything is printed to standard output, each reply at once where a script comes from a pipe or a keyboard. If standard error is a
-//! terminal a person is told there why something can't be done; and how far a long script is read, if standard output is none. The
-//! status is 0 where no refusal was printed, 1
-//! where one was, a script or a file can't be read, a store can't be made or opened, or a write fails, and 2 at a line that is none
-//! or at wrong words.
+//! Everything is printed to standard output, each reply at once if a script comes from a pipe or a keyboard. If
+//! standard error is a terminal, it shows why something can't be done. If standard output is no terminal, standard
+//! error also shows how far a long script is read. The status is 0 if no refusal was printed. It is 1 if one was, a
+//! script or a file can't be read, a store can't be made or opened, or a write fails. It is 2 at a line that is none or
+//! at wrong words.
 #![tactic(auto)]
 
 mod command_error;
@@ -42,7 +42,7 @@ fn main(rt: HostRuntime) -> ExitCode {
     ExitCode::from(status.code())
 }
 
-// does what the words ask for, or tells why that can't be begun
+// does what the words ask for, or reports why that can't be begun
 fn answer<R: Files<File = File> + Print + Eprint + Clock + AllocGlobal>(
     rt: &R,
     output: TerminalOutput,
@@ -75,7 +75,8 @@ fn run<'a, R: Files<File = File> + Print + Eprint + Clock + AllocGlobal>(
     }
 }
 
-// prints why nothing could be begun; a person is told more, and how the command of this name is used if the words are wrong
+// prints why nothing could be begun; a terminal shows more, and the usage of the command of this name if the words are
+// wrong
 fn print_error<R: Print + Eprint + AllocGlobal>(
     rt: &R,
     output: TerminalOutput,

@@ -1,7 +1,9 @@
-//! What the words `play`, `lab`, `sweep` and `run` do with files: the script, and the folder of the store that `run` works on.
+//! What the words `play`, `lab`, `sweep` and `run` do with files: the script, and the folder of the store that `run`
+//! works on.
 //!
-//! What is run and told is left to `script_runner`, `crash_lab` and `crash_sweep`. Of the files of a store it is trusted that they are
-//! what they answer, and that the system keeps what it has synced: then what is proved of runs over any disk holds of them.
+//! `script_runner`, `crash_lab` and `crash_sweep` run the script and write the replies. Of a store's files it is
+//! trusted that they are what they answer, and that the system keeps what it has synced. Then what is proved of runs
+//! over any disk holds of them.
 use crate::command_error::CommandError;
 use crate::files::{Source, Trouble};
 use crate::hint::Hint;
@@ -32,7 +34,7 @@ pub enum InMemory {
 }
 
 impl InMemory {
-    // what a line tells of
+    // what a line shows
     fn work(self) -> Work {
         match self {
             InMemory::Play => Work::Play,
@@ -41,7 +43,7 @@ impl InMemory {
         }
     }
 
-    // does it, reading the script's lines and writing what is told; the answer within tells of writes that failed
+    // does it: reads the script's lines and writes the replies; the inner answer reports writes that failed
     fn carry_out<'b, T: Read + Drop, W: Write>(
         self,
         alloc: Global,
@@ -69,15 +71,15 @@ pub fn play_script<'a, R: Files + Print + Eprint + Clock + AllocGlobal>(
         let mut writer = BufWriter::new(alloc, io::writer(rt))?;
         play_file(rt, output, how, script, &mut writer)?
     } else {
-        // whoever sends the script may wait for a reply before the next line, and a row of a sweep takes a while: each line leaves
-        // as soon as it is made
+        // whoever sends the script may wait for a reply before the next line, and a row of a sweep takes a while: each
+        // line is written out as soon as it is made
         let mut writer = LineWriter::new(alloc, io::writer(rt))?;
         play_file(rt, output, how, script, &mut writer)?
     };
     Ok(output.status(rt, played))
 }
 
-/// Runs the script of this path over the store in a folder, which no other program has until this ends.
+/// Runs the script of this path over the store in a folder, which no other program has open until this ends.
 pub fn run_script<'a, R: Files<File = File> + Print + Eprint + Clock + AllocGlobal>(
     rt: &R,
     output: TerminalOutput,
@@ -96,7 +98,7 @@ pub fn run_script<'a, R: Files<File = File> + Print + Eprint + Clock + AllocGlob
     Ok(output.status(rt, ran))
 }
 
-// says what the system refused of a store, or else what of it isn't there if a refusal was printed
+// says what the system refused of a store, or else, if a refusal was printed, which part of the store is missing
 fn hint_at<R: Files<File = File> + Eprint + AllocGlobal>(
     rt: &R,
     output: TerminalOutput,
@@ -125,12 +127,12 @@ fn store_in<'a, 'b, R: Files<File = File> + AllocGlobal>(
     }
 }
 
-// whether reading the script waits for nobody, as that of a plain file
+// whether reading the script never waits for input, such as from a plain file
 fn is_plain_file<R: Files>(rt: &R, script: &str) -> bool {
     length_of(rt, script).is_some()
 }
 
-// does this with the script; the answer within tells of writes that failed
+// does this with the script; the inner answer reports writes that failed
 fn play_file<'a, R: Files + Eprint + Clock + AllocGlobal, W: Write>(
     rt: &R,
     output: TerminalOutput,
@@ -167,7 +169,7 @@ fn hint_unread<R: Eprint + AllocGlobal>(
     }
 }
 
-// runs the script over the store in a folder; the answer within tells of writes that failed
+// runs the script over the store in a folder; the inner answer reports writes that failed
 fn run_file<'a, 'b, R: Files<File = File> + Eprint + Clock + AllocGlobal, W: Write>(
     rt: &'b R,
     output: TerminalOutput,
@@ -190,7 +192,7 @@ fn run_file<'a, 'b, R: Files<File = File> + Eprint + Clock + AllocGlobal, W: Wri
     Ok(ran)
 }
 
-// the same, telling of it where there is a line for that
+// the same, with a line for it if there is one
 fn run_watched<'a, R: Files + Eprint + Clock + AllocGlobal, D: Disk + Drop, W: Write>(
     rt: &R,
     disk: D,

@@ -1,8 +1,9 @@
-//! What the words `new` and `import` do with files: the folder of a store that is to be made, and the files of an import.
+//! What the words `new` and `import` do with files: the folder of a store that is to be made, and the files of an
+//! import.
 //!
-//! What is made and told is left to `store_create`, over the folder as a disk. Of real files it is trusted that they are what they
-//! answer, and that the system keeps what it has synced, a folder's entries too; nothing is supposed of what they first hold, for
-//! all of a store's files are made anew.
+//! `store_create` makes the store and reports it, over the folder as a disk. Of real files it is trusted that they are
+//! what they answer, and that the system keeps what it has synced, a folder's entries too. Nothing is supposed of their
+//! first content, for all of a store's files are made anew.
 ghost use Rattle.std.specs.Prelude.{◌≤◌, IfOk};
 
 use crate::command_error::CommandError;
@@ -24,7 +25,7 @@ use std::time::Clock;
 use store_create::{Import, SourceFailed, make_new};
 use uuid::Uuid;
 
-/// Makes a store of so many empty hives in a folder, and prints whether it is made.
+/// Makes a store of `count` empty hives in a folder, and prints whether it is made.
 pub fn new_store<'a, R: Files<File = File> + Print + Eprint + AllocGlobal>(
     rt: &R,
     output: TerminalOutput,
@@ -40,8 +41,8 @@ pub fn new_store<'a, R: Files<File = File> + Print + Eprint + AllocGlobal>(
     Ok(output.status(rt, made))
 }
 
-/// Makes a store of the hives of some files in a folder, and prints whether it is made. All files are read first, then the folder
-/// is looked at, and last comes what the files hold.
+/// Makes a store of the hives of some files in a folder, and prints whether it is made. All files are read first, then
+/// the folder is looked at, and last the files' content is judged.
 pub fn import_store<'a, R: Files<File = File> + Print + Eprint + Clock + AllocGlobal>(
     rt: &R,
     output: TerminalOutput,
@@ -57,7 +58,7 @@ pub fn import_store<'a, R: Files<File = File> + Print + Eprint + Clock + AllocGl
     Ok(output.status(rt, made))
 }
 
-// the same, telling of it where there is a line for that; answers what the system refused of the store's files, too
+// the same, with a line for it if there is one; answers what the system refused of the store's files, too
 fn import_watched<'a, R: Files<File = File> + Print + Eprint + Clock + AllocGlobal>(
     rt: &R,
     folder: &'a str,
@@ -73,7 +74,7 @@ fn import_watched<'a, R: Files<File = File> + Print + Eprint + Clock + AllocGlob
     Ok((disk.denial(), made))
 }
 
-// makes the store of an import, telling of what is written; the disk is handed back
+// makes the store of an import, with a line for what is written; the disk is handed back
 fn make_watched<D: Disk + Drop, R: Eprint + Clock, W: Write>(
     alloc: Global,
     import: Import,
@@ -101,7 +102,7 @@ fn importing<R: Files>(rt: &R, sources: &Sources<'_>) -> WorkStage {
     }
 }
 
-// the import of files, each read as the hive of its place
+// the import of files, each read as the hive of its index
 fn import_of<'a, R: Files + Eprint + Clock + AllocGlobal>(
     rt: &R,
     sources: &Sources<'a>,
@@ -122,8 +123,8 @@ fn import_of<'a, R: Files + Eprint + Clock + AllocGlobal>(
     Ok(import)
 }
 
-// the folder of a store that is to be made, as a disk: it is made where it is missing, and held; a journal is looked for once
-// nobody else can make a store there
+// the folder of a store that is to be made, as a disk: it is made if it is missing, and locked; a journal is looked for
+// once no other program can make a store there
 fn held_folder<'a, 'b, R: Files<File = File> + AllocGlobal>(
     rt: &'b R,
     folder: &'a str,
@@ -140,7 +141,7 @@ fn held_folder<'a, 'b, R: Files<File = File> + AllocGlobal>(
     Ok(disk)
 }
 
-// makes a folder where it is missing, so that a power cut leaves it
+// makes a folder if it is missing, so that a power cut leaves it
 fn make_folder<'a, R: Files<File = File>>(rt: &R, folder: &'a str) -> Result<(), CommandError<'a>> {
     match fs::create_dir(rt, folder) {
         Ok(()) => sync_parent(rt, folder),
@@ -184,7 +185,7 @@ fn look_for_journal<'a, R: Files + AllocGlobal>(
     }
 }
 
-// why the folder of a store can't be had
+// why the folder of a store can't be made or locked
 fn unmade<'a>(folder: &'a str, error: io::Error) -> CommandError<'a> {
     match error.kind() {
         ErrorKind::OutOfMemory => CommandError::Refused(Refusal::NoMemory),

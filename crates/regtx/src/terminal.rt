@@ -1,4 +1,4 @@
-//! What a person at a terminal sees beside the replies: how far long work has come, and why something can't be done.
+//! What a terminal shows beside the replies: how far long work has come, and why something can't be done.
 use crate::hint::Hint;
 use crate::words::{USAGES, Usage};
 use progress_line::{ProgressLine, Work, WorkStage};
@@ -8,7 +8,7 @@ use std::io::{self, Eprint, IsTerminal};
 use std::rt::Files;
 use std::time::Clock;
 
-/// What standard error is told, which is nothing unless it is a terminal.
+/// What standard error shows, which is nothing unless it is a terminal.
 #[derive(Clone, Copy)]
 pub struct TerminalOutput {
     // why something can't be done
@@ -18,15 +18,15 @@ pub struct TerminalOutput {
 }
 
 impl TerminalOutput {
-    /// What standard error and standard output allow. If the replies go to a terminal too they tell enough of long work, and a line
-    /// between them would spoil them.
+    /// What standard error and standard output allow. If the replies go to a terminal too, they show enough of long
+    /// work, and a line between them would spoil them.
     pub fn to<E: IsTerminal, O: IsTerminal>(errors: &E, replies: &O) -> TerminalOutput {
         let hints = errors.is_terminal();
         let line = hints && !replies.is_terminal();
         TerminalOutput { hints, line }
     }
 
-    /// A line for work that begins with this stage, where it is told of.
+    /// A line for work that begins with this stage, if lines are shown.
     pub fn line<R: Eprint + Clock>(self, rt: &R, first: WorkStage) -> Option<ProgressLine<'_, R>> {
         if self.line {
             Some(ProgressLine::new(rt, first))
@@ -91,7 +91,7 @@ pub fn reading<R: Files>(rt: &R, work: Work, path: &str) -> WorkStage {
     }
 }
 
-/// The length of a plain file; of any other it isn't known how much there is of it.
+/// The length of a plain file; of any other file it isn't known.
 pub fn length_of<R: Files>(rt: &R, path: &str) -> Option<u64> {
     match fs::metadata(rt, path) {
         Ok(metadata) if metadata.is_file() => Some(metadata.len()),

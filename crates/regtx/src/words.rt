@@ -14,29 +14,29 @@ use uuid::Uuid;
 pub enum Task<'a> {
     /// `play SCRIPT`: a script is to be played.
     Play {
-        /// Where the script is.
+        /// The path of the script.
         script: &'a str,
     },
     /// `lab SCRIPT`: a script is to be run in the laboratory.
     Lab {
-        /// Where the script is.
+        /// The path of the script.
         script: &'a str,
     },
     /// `sweep SCRIPT`: power cuts are to be swept over the run of a script.
     Sweep {
-        /// Where the script is.
+        /// The path of the script.
         script: &'a str,
     },
     /// `run DIR SCRIPT`: a script is to be run over a store.
     Run {
         /// The folder of the store.
         folder: &'a str,
-        /// Where the script is.
+        /// The path of the script.
         script: &'a str,
     },
     /// `dump FILE`: a hive is to be printed.
     Dump {
-        /// Where the hive is.
+        /// The path of the hive's file.
         file: &'a str,
     },
     /// `new DIR ID COUNT`: a store of empty hives is to be made.
@@ -54,7 +54,7 @@ pub enum Task<'a> {
         folder: &'a str,
         /// The store's id.
         id: Uuid,
-        /// Where the hives are.
+        /// The paths of the hives' files.
         sources: Sources<'a>,
     },
 }
@@ -68,7 +68,7 @@ pub struct HiveCount {
     ghost few: { number ≤ MOST_HIVES },
 }
 
-/// Where the hives of a store are that is to be made, 1 to 16, in the order of their numbers.
+/// The 1 to 16 files of the hives of a store that is to be made, in the order of the hives' numbers.
 #[derive(Drop)]
 pub struct Sources<'a> {
     /// The paths of their files.
@@ -81,7 +81,7 @@ pub struct Sources<'a> {
 pub struct Usage {
     /// The command's name.
     pub name: &'static str,
-    // it with the words behind it, and what it does
+    // it with the words after it, and what it does
     call: &'static str,
     does: &'static str,
 }
@@ -165,7 +165,8 @@ pub fn parse_task<'a>(alloc: Global, words: &'a [String]) -> Result<Task<'a>, Co
     }
 }
 
-// the words that are understood; each command is added by a function of its own, which takes the prover a third of the time
+// the words that are understood; each command is added by a function of its own: that takes the prover a third of the
+// time
 fn command<'a>(alloc: Global) -> Result<Command<'a>, AllocError> {
     let all = Command::new(alloc, "regtx").subcommand_required(true);
     let all = with_one(alloc, all, "play", "SCRIPT")?;
@@ -218,7 +219,7 @@ fn text<'a>(given: &ArgMatches<'a>, name: &str) -> Result<&'a str, CommandError<
     given.get_str(name).ok_or(CommandError::WrongWords)
 }
 
-// the id, in any text form that a UUID has
+// the id, in any text form of a UUID
 fn id<'a>(given: &ArgMatches<'a>) -> Result<Uuid, CommandError<'a>> {
     match Uuid::parse_str(text(given, "ID")?) {
         Ok(id) => Ok(id),
@@ -226,7 +227,7 @@ fn id<'a>(given: &ArgMatches<'a>) -> Result<Uuid, CommandError<'a>> {
     }
 }
 
-// a number of hives, in decimal digits; a sign is none
+// a number of hives, in decimal digits; a sign isn't allowed
 fn hive_count<'a>(word: &'a str) -> Result<HiveCount, CommandError<'a>> {
     if !word.as_bytes().iter().all(|byte| byte.is_ascii_digit()) {
         return Err(CommandError::WrongWords);

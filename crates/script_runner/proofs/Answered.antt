@@ -6,7 +6,7 @@ use Rattle.script_syntax.specs.declared.line.Line.{Line}
 use Rattle.script_syntax.specs.declared.reply.ReplyLine.{ReplyLine}
 use Rattle.script_runner.specs.Scripts.{Script, Answers, later_line}
 
--- what was told of one of a script's later lines is an answer to the line
+-- what was reported for one of a script's later lines is an answer to the line
 pub carried : (old new then : Script) (line one : Line) (result reported : Result ReplyLine Refusal) (reply : ReplyLine) → line ≡ one → later_line (Some one) ≡ Some one → reported ≡ result → reported ≡ Ok reply → then ≡ new → IfOk result (λ t. Answers old one t new) → (later_line (Some line) ≡ Some line) × Answers old line reply then
 carried old new then line one result reported reply is later from ok same said =
     let here = subst (λ r. IfOk r (λ t. Answers old one t new)) (sym from ∙ ok) said in

@@ -11,12 +11,12 @@ use Rattle.recovery.specs.Invariant.{InvariantHolds}
 use Rattle.recovery.specs.declared.found.RecoveredStore.{RecoveredStore}
 use Rattle.store_model.specs.Machine.{Machine, bounds_of, opened_machine}
 
--- each change has a number from 1 on, so there is none where the last number is 0
+-- each change has a number from 1 on, so there is none if the last number is 0
 none_numbered : (hives : ℕ) (numbers : ℕ → ℕ) (below : ℕ) (es : List (law.Element TimedOp)) (n : ℕ) → IsLastNumber hives numbers below es n → n ≡ 0 → es ≡ []
 none_numbered hives numbers below [] n last zero = refl
 none_numbered hives numbers below (e ∷ es) n last zero = absurd (omega (arith, sym last ∙ zero))
 
--- the journal of a store at number 0 spells no change
+-- the journal of a store at number 0 decodes to no change
 none_at_0 : (found : RecoveredStore) → InvariantHolds found → found.number ≡ 0 → (choice_of found.journal).now.elements ≡ []
 none_at_0 found kept zero =
     let one = kept.recovers in

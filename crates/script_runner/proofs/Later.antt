@@ -1,4 +1,4 @@
--- How a store goes on beneath a script, one part after another.
+-- How a store continues beneath a script, one part after another.
 use Rattle.std.proofs.Common.{◌≡◌, ◌⊎◌, inl, inr, ℕ, ◌<◌, ◌≤◌, List, [], ◌∷◌, ◌++◌, refl, sym, ◌∙◌, ap, subst, arith}
 use Rattle.std.specs.Prelude.{true}
 use Rattle.refusals.specs.declared.refusal.Refusal.TheVariants.{DiskFault}
@@ -36,7 +36,7 @@ stays_so old new came = run_stays_faulted old new came.0 came.1 came.2
 
 -- Stores
 
--- whether an answer tells that the device failed in the event
+-- whether an answer reports that the device failed in the event
 told_fault : (r : Reply) → (r ≡ Refused DiskFault) ⊎ (r ≡ Refused DiskFault → ⊥)
 told_fault (Refused DiskFault) = inl refl
 told_fault (Refused _) = inr (λ e. cc)

@@ -32,7 +32,7 @@ cut false b (c ∷ cs) e rest =
     let some = some_taken (c == 10) c (take_through 10 cs) in
     ap (with_byte b) (rest some) ∙ ap (λ line. line ∷ lines_of (drop_through 10 (c ∷ cs))) (sym (strip_cons b (take_through 10 (c ∷ cs)) some))
 
--- the first line, and those of what is behind it
+-- the first line, and those of what follows it
 first_cut : (bytes : List ℕ) → 0 < length (take_through 10 bytes) → lines_of bytes ≡ strip_last 10 (take_through 10 bytes) ∷ lines_of (drop_through 10 bytes)
 first_cut [] some = absurd (omega (arith, some))
 first_cut (b ∷ bs) some = cut (b == 10) b bs refl (first_cut bs)

@@ -17,7 +17,7 @@ other_by : (test : Bool) (label other : List ℕ) → bytes_eq label other ≡ t
 other_by true label other e h = absurd (h (sym ((bytes_eq-Decides label other).0 e)))
 other_by false label other e h = refl
 
--- a place written under a label is its transaction, and the others stay
+-- an entry written under a label is its transaction, and the others stay
 pub names : (old new : Labels) (parsed label : List ℕ) (tx : Tx) → parsed ≡ label → Updates (slice_cmp nat_cmp) old.named new.named parsed (Some (Some tx)) → Names (named_by old) (named_by new) label tx
 names old new parsed label tx e updated = subst (λ l. Names (named_by old) (named_by new) l tx) e (record {
   named = ap (option_and_then (λ tx. tx)) updated.1;
@@ -28,7 +28,7 @@ empty_place : (test : Bool) (label other : List ℕ) (old new : Option (Option T
 empty_place true label other old new e absent written = ap (option_and_then (λ tx. tx)) written ∙ sym (ap (option_and_then (λ tx. tx)) (absent e))
 empty_place false label other old new e absent written = ap (option_and_then (λ tx. tx)) written
 
--- an empty place under a label that had none names nothing
+-- an empty entry under a label that had none names nothing
 pub same_names : (old new : Labels) (label : List ℕ) → Updates (slice_cmp nat_cmp) old.named new.named label (Some None) → label_entry old.named label ≡ None → SameNames (named_by old) (named_by new)
 same_names old new label updated absent other =
     empty_place (bytes_eq label other) label other (label_entry old.named other) (label_entry new.named other) refl

@@ -31,7 +31,7 @@ use Rattle.script_runner.proofs.Told.{answered}
 
 -- Work between lines
 
--- a run whose last answer tells of the device ends with a store that is faulted
+-- a run whose last answer reports the device ends with a store that is faulted
 run_told : (old new : Machine) (es : List Event) (made : List Reply) (why : Refusal) → is_of_device why ≡ true → Run old es (made ++ answer.Refused why ∷ []) new → new.faulted ≡ true
 run_told old new [] [] why tells run = absurd run
 run_told old new [] (r ∷ rs) why tells run = absurd run
@@ -42,7 +42,7 @@ run_told old new (e ∷ es) (r ∷ rs) why tells (mid, step, rest) = run_told mi
 pub works_come : (ended : Option Refusal) (old new : Machine) → MakesSteps ended old new → ReachedByEvents old new
 works_come ended old new w = (w.0, _, w.4)
 
--- what has ended some steps tells of the device only if the store is faulted then
+-- the refusal that ended some steps reports the device only if the store is faulted then
 pub works_told : (ended : Option Refusal) (old new : Machine) → MakesSteps ended old new → IsDeviceRefusalOnlyIf (new.faulted ≡ true) ended
 works_told None old new w = tt
 works_told (Some why) old new w = λ tells. run_told old new w.0 w.1 why tells w.4
@@ -77,7 +77,7 @@ module _ (policy : FlushPolicy) (old new : Script) where
 
 -- Lines
 
--- a line leaves what is said of steps that none asked for
+-- a line keeps whether a step that no line asked for has failed
 stays : (old new mid : Script) → mid.failed ≡ old.failed → new ≡ mid → new.failed ≡ old.failed
 stays old new mid same is = ap (λ (s : Script). s.failed) is ∙ same
 
@@ -123,7 +123,7 @@ plays_come may policy (line ∷ lines) old number end_of_script text status end 
     advances old.machine new.machine end.machine (answered old new asked reported answers).comes
     (advances new.machine kept.machine end.machine (keeps_come policy new kept keeps) (plays_come may policy lines kept (number + 1) end_of_script rest later end on))
 
--- Where a step that no line asked for has failed, the store is faulted at the end.
+-- If a step that no line asked for has failed, the store is faulted at the end.
 pub plays_failed : (may : ReplyLine → Type 0) (policy : FlushPolicy) (lines : List (List ℕ)) (old : Script) (number : ℕ) (end_of_script : Option EndOfScript) (text : List ℕ) (status : Status) (end : Script) → PlaysOn may policy old number lines end_of_script text status end
     → (old.failed ≡ true → old.machine.faulted ≡ true) → end.failed ≡ true → end.machine.faulted ≡ true
 plays_failed may policy [] old number end_of_script text status end p was failed =
@@ -134,7 +134,8 @@ plays_failed may policy (line ∷ lines) old number end_of_script text status en
     plays_failed may policy lines kept (number + 1) end_of_script rest later end on
     (keeps_failed policy new kept keeps (λ e. stays_so old.machine new.machine (answered old new asked reported answers).comes (was (sym (line_failed old new asked reported answers) ∙ e)))) failed
 
--- Where a store that is faulted at the end is one whose device has failed, no reply tells of the device unless it has.
+-- If a store that is faulted at the end is one whose device has failed, a reply reports the device only if it has
+-- failed.
 pub plays_if : (failed : Type 0) (may : ReplyLine → Type 0) (policy : FlushPolicy) (lines : List (List ℕ)) (old : Script) (number : ℕ) (end_of_script : Option EndOfScript) (text : List ℕ) (status : Status) (end : Script) → (end.machine.faulted ≡ true → failed)
     → PlaysOn may policy old number lines end_of_script text status end → PlaysOn (IsDeviceReplyOnlyIf failed) policy old number lines end_of_script text status end
 plays_if failed may policy [] old number end_of_script text status end why p = p
@@ -158,7 +159,7 @@ plays_if failed may policy (line ∷ lines) old number end_of_script text status
 
 -- The end
 
--- what is left undone tells of the device only if it has failed
+-- what is left undone reports the device only if it has failed
 pub undone_told : (X : Type 0) (failed : Bool) (ended : Option Refusal) → (failed ≡ true → X) → IsDeviceRefusalOnlyIf X ended → IsDeviceRefusalOnlyIf X (undone failed ended)
 undone_told X true ended was only = λ tells. was refl
 undone_told X false None was only = tt

@@ -36,13 +36,13 @@ pub none_were_read : (known : Option (List ℕ)) → WereRead known [] None
 none_were_read None = tt
 none_were_read (Some bytes) = (_, refl)
 
--- what is said of an answer that is one only where an earlier one is, with what is said of that
+-- what holds of an answer that is one only if an earlier one is, with what holds of that one
 pub both_ok : {A B E F : Type 0} (H : A → B → Type 0) (G : B → Type 0) (r : Result A E) (p : Result B F) → (IsOk r → IsOk p) → IfOk r (λ a. IfOk p (H a)) → IfOk p G → IfOk r (λ a. (b : B) × H a b × G b)
 both_ok H G (Ok a) (Ok b) also h g = (b, h, g)
 both_ok H G (Ok a) (Err f) also h g = absurd (true≢false (sym (also refl)))
 both_ok H G (Err e) p also h g = tt
 
--- What was played is written out, the flush is told, and what is left undone: all of it, if each write succeeds.
+-- What was played is written out, the flush is reported, and what is left undone: all of it, if each write succeeds.
 pub told_all : {E : Type 0} (flushed : ReplyLine) (left : Option Refusal) (played out reported r : Result Status E) (before mid then after : Option (List ℕ))
     → (IsOk out → IsOk played) → (IsOk reported → IsOk out) → (IsOk r → IsOk reported) → IfOk out (λ status. (played ≡ Ok status) × Keeps before mid)
     → IfOk reported (λ status. IfOk out (λ came_to. (status ≡ with_refusal (is_refusal flushed) came_to) × Appends mid then (flushed_text flushed)))
@@ -58,7 +58,7 @@ told_all flushed left (Ok p) (Ok came_to) (Ok so_far) (Ok status) before mid the
       appends_more before then after (flushed_text flushed) (undone_text left) (kept_appends before mid then (flushed_text flushed) o.1 t.1) w.1,
     )
 
--- an end after which nobody is told of the device without cause
+-- an end after which a reply reports the device only with cause
 ended_if : (X Y : Type 0) (IsLeft : Machine → Type 0) (script : Script) (came_to status : Status) (before after : Option (List ℕ)) → (X → Y) → HasEnded X IsLeft script came_to before after status → HasEnded Y IsLeft script came_to before after status
 ended_if X Y IsLeft script came_to status before after f h = record {
   reported = h.reported;
@@ -111,7 +111,7 @@ ran failed faithful first IsLeft files store before opened played after script e
 
 -- Lives
 
--- a machine that begins has come from the one that was opened
+-- a machine that begins was reached from the one that was opened
 pub opened_came : (number room : ℕ) (trees : List TreeMap) (machine : Machine) → BeginsAt number trees room [] machine → ReachedFromOpening number trees machine
 opened_came number room trees machine begins = record { room = room; broken = false; events = []; replies = []; run = begins }
 
@@ -127,7 +127,7 @@ came_on number trees old new came later =
 pub left_unopened : (failed faithful : Type 0) (state end : ℕ → FileState) → (faithful → (f : ℕ) → IsSyncedOrSame (state f) (end f)) → LeavesLife failed faithful state end
 left_unopened failed faithful state end same f = (record { id = []; hives = 0 }, NeverOpened end, same f, refl, λ e. absurd cc)
 
--- what is left of a store that was opened and has gone on
+-- what is left of a store that was opened and has made events
 pub left_opened : (failed since faithful first : Type 0) (state end : ℕ → FileState) (store : Store) (number : ℕ) (trees : List TreeMap) → (since → failed) → (faithful → first) → (first → IsRecovered (seen_in state) store number trees)
     → (faithful → HasLived since store number trees end) → LeavesLife failed faithful state end
 left_opened failed since faithful first state end store number trees rose was recovered lived f =

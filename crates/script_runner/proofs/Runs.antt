@@ -1,4 +1,4 @@
--- The run of a script, turn by turn.
+-- The run of a script, line by line.
 use Rattle.std.proofs.Common.{◌≡◌, ℕ, ◌+◌, Bool, true, false, ◌||◌, List, [], ◌∷◌, ◌++◌, Option, Some, None, Result, Ok, Err, refl, sym, ◌∙◌, ap, inl, inr, subst}
 use Rattle.std.specs.Prelude.{IfOk}
 use Rattle.std.specs.Io.KnownBytes.{Appends, Keeps}
@@ -39,7 +39,7 @@ kept_appends (Some xs) None new text k a = absurd k
 kept_appends (Some xs) (Some ys) None text k a = absurd a
 kept_appends (Some xs) (Some ys) (Some zs) text k a = a ∙ ap (λ ws. ws ++ text) k
 
--- some first line was read, and nothing behind it
+-- some first line was read, and nothing after it
 first_alone : (bytes left line : List ℕ) → lines_of bytes ≡ line ∷ lines_of left → AreFirst (line ∷ []) (lines_of bytes)
 first_alone bytes left line e = (lines_of left, e)
 
@@ -47,7 +47,7 @@ pub one_read : (known rest : Option (List ℕ)) (line : List ℕ) → TakesLine 
 one_read None rest line taken = tt
 one_read (Some bytes) rest line taken = first_alone bytes taken.0 line taken.2
 
--- lines behind the first
+-- lines after the first
 more_first : (bytes left line : List ℕ) (lines : List (List ℕ)) → lines_of bytes ≡ line ∷ lines_of left → AreFirst lines (lines_of left) → AreFirst (line ∷ lines) (lines_of bytes)
 more_first bytes left line lines e first = (first.0, e ∙ ap (λ others. line ∷ others) first.1)
 
@@ -74,7 +74,7 @@ pub stops_wrong : (policy : FlushPolicy) (old new : Script) (number : ℕ) (know
 stops_wrong policy old new number known rest before after line status taken none wrong written same =
     (line ∷ [], None, wrong_text number, one_read known rest line taken, inl (none, record { last = refl; stopped = refl; printed = refl; wrong = wrong }, same), written)
 
--- a line was answered, behind what was written out
+-- a line was answered, after what was written out
 pub turned : (policy : FlushPolicy) (old new : Script) (number : ℕ) (known rest before mid after : Option (List ℕ)) (line : List ℕ) (asked : Line) (reported : ReplyLine) (refused : Bool)
     → TakesLine known rest line → line_asked line ≡ Some asked → Answers old asked reported new → Keeps before mid → Appends mid after (reply_line reported) → refused ≡ is_refusal reported → MayReply policy reported
     → OutcomeOfLine policy old number known before (Replied refused) new rest after
@@ -96,12 +96,12 @@ to_end policy old new number known before after status on = (new, on, λ e. refl
 pub to_none : (policy : FlushPolicy) (old end new : Script) (number : ℕ) (known before after : Option (List ℕ)) (status : Status) → policy ≡ OnRequest → IsPlayedOn policy old number known before after status end → IsPlayedTo policy old number known before after status new
 to_none policy old end new number known before after status in_memory on = (end, on, λ e. absurd (in_memory_alone policy in_memory e))
 
--- a store that frees its room may be told of the device, and one in memory isn't
+-- a store that frees its room may report the device, and one in memory doesn't
 pub may_reply : (policy : FlushPolicy) (reported : ReplyLine) → (policy ≡ OnRequest → is_device_reply reported ≡ false) → MayReply policy reported
 may_reply OnRequest reported other = other refl
 may_reply WhenHalfFull reported other = tt
 
--- a line was answered, the store worked, and the run goes on
+-- a line was answered, the store worked, and the run continues
 pub continues : (policy : FlushPolicy) (old new kept end : Script) (number : ℕ) (known rest before reported mid after : Option (List ℕ)) (refused : Bool) (status : Status)
     → OutcomeOfLine policy old number known before (Replied refused) new rest reported → KeepsUpBetweenLines policy new kept → Keeps reported mid → IsPlayedOn policy kept (number + 1) rest mid after status end
     → IsPlayedOn policy old number known before after (with_refusal refused status) end
@@ -124,7 +124,7 @@ refusals_join true true Clean = refl
 refusals_join true true Refused = refl
 refusals_join true true Wrong = refl
 
--- want of memory is no end of the script
+-- lack of memory is no end of the script
 pub is_end : OutOfMemory ≡ Ended → ⊥
 is_end e = cc
 

@@ -31,7 +31,7 @@ use Rattle.script_runner.specs.declared.operation.Operation.{Operation}
 use Rattle.store_model.proofs.Failing.{told_faulted}
 use Rattle.script_runner.proofs.Later.{comes_by, advances, comes_same}
 
--- The machine has come from the one before; and a reply that tells of the device is one of a store that is faulted.
+-- The machine was reached from the one before; and a reply that reports the device is one of a store that is faulted.
 pub record Told (old : Machine) (reported : ReplyLine) (new : Machine) : Type 0 where
   pub comes : ReachedByEvents old new
   pub faulted : is_device_reply reported ≡ true → new.faulted ≡ true
@@ -66,7 +66,7 @@ stepped old new e a reported step is = record {
       told_faulted old new why.0 why.2 e (subst (λ r. Step old e r new) why.1 step);
 }
 
--- nothing is asked, and what is told isn't of the device
+-- nothing is asked, and the reply doesn't report the device
 unasked : (old new : Machine) (reported : ReplyLine) → new ≡ old → is_device_reply reported ≡ false → Told old reported new
 unasked old new reported same other = record { comes = comes_same old new same; faulted = λ t. absurd (true≢false (sym t ∙ other)) }
 
@@ -128,7 +128,7 @@ asked_on old new e tell reported other a = followed old.machine a.1 new.machine 
 
 -- Names
 
--- a refusal, if it is one, isn't of the device
+-- a refusal, if it is one, isn't one of the device
 abbrev IsOther : {A : Type 0} → Result A Refusal → Type 0
 IsOther {A = A} r = (why : Refusal) → r ≡ Err why → is_of_device why ≡ false
 

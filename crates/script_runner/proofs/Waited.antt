@@ -18,7 +18,7 @@ question_refused old new number refusal asked = ([], inl (new, asked, refl))
 pub step_refused : (old mid new : Machine) (number : ℕ) (refusal : Refusal) → IsAsked old number false mid → Step mid JournalStep (Refused refusal) new → IsWaited old number (Some refusal) new
 step_refused old mid new number refusal asked stepped = ([], inr (mid, asked, (new, stepped, refl)))
 
--- one step more
+-- one more step
 pub one_step_more : (old mid next : Machine) (number : ℕ) (ended : Option Refusal) (new : Machine) → IsAsked old number false mid → IsStepped mid next → IsWaited next number ended new → IsWaited old number ended new
 one_step_more old mid next number ended new asked stepped waited = (stepped.0 ∷ waited.0, (next, (mid, asked, (next, stepped.1, refl)), waited.1))
 

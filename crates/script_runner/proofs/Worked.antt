@@ -1,4 +1,4 @@
--- Steps that a store makes beside the lines.
+-- Steps that a store makes between the lines.
 use Rattle.std.proofs.Common.{[], ◌∷◌, Option, Some, None, refl}
 use Rattle.store_model.specs.Machine.{Machine}
 use Rattle.store_model.specs.Steps.{Step}

@@ -1,4 +1,4 @@
--- Replies that tell of the device, and how a machine comes from another.
+-- Replies that report the device, and machines reached from others.
 use Rattle.std.specs.Prelude.{◌≡◌, Bool, true, false, List, Option, IfSome}
 use Rattle.refusals.specs.declared.refusal.Refusal.{Refusal}
 use Rattle.script_syntax.specs.declared.reply.ReplyLine.{ReplyLine}
@@ -8,19 +8,19 @@ use Rattle.store_model.specs.Steps.{Run}
 use Rattle.store_model.specs.declared.event.Event.{Event}
 use Rattle.store_model.specs.declared.event.Reply.{Reply}
 
--- whether a reply tells of the device: that it failed in this call, or in an earlier one
+-- whether a reply reports that the device failed in this call, or in an earlier one
 abbrev pub is_device_reply : ReplyLine → Bool
 is_device_reply (reply.Refused refusal) = is_of_device refusal
 is_device_reply _ = false
 
--- a reply tells of the device only if it has failed
+-- a reply reports the device only if it has failed
 abbrev pub IsDeviceReplyOnlyIf : Type 0 → ReplyLine → Type 0
 IsDeviceReplyOnlyIf failed reported = is_device_reply reported ≡ true → failed
 
--- the same of a refusal, where there is one
+-- the same of a refusal, if there is one
 abbrev pub IsDeviceRefusalOnlyIf : Type 0 → Option Refusal → Type 0
 IsDeviceRefusalOnlyIf failed ended = IfSome ended (λ refusal. is_of_device refusal ≡ true → failed)
 
--- a machine has come from another by some events and their answers
+-- a machine was reached from another by some events and their answers
 abbrev pub ReachedByEvents : Machine → Machine → Type 0
 ReachedByEvents old new = (events : List Event) × (replies : List Reply) × Run old events replies new

@@ -1,4 +1,4 @@
--- What a player shows: a script between two lines.
+-- What an interpreter shows: a script between two lines.
 use Rattle.std.specs.Prelude.{ℕ, Result, Ok, Err}
 use Rattle.script_syntax.specs.declared.reply.ReplyLine.{ReplyLine}
 use Rattle.engine.specs.Shown.{Shown}
@@ -13,7 +13,7 @@ engine_of interpreter = interpreter.engine
 abbrev pub script_of : {D : Type 0} → Interpreter D → Script
 script_of interpreter = record { machine = interpreter.engine.machine; moment = interpreter.moment; session = interpreter.session; labels = named_by interpreter.labels; failed = interpreter.failed }
 
--- the reply of a line that has waited for a change: what is told of the change's number, or the reply that came in its place
+-- the reply of a line that has waited for a change: by the change's number, or the reply that came instead
 abbrev pub reply_by : (ℕ → ReplyLine) → Result ℕ ReplyLine → ReplyLine
 reply_by tell (Ok number) = tell number
 reply_by tell (Err reported) = reported

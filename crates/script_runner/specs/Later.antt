@@ -1,10 +1,11 @@
--- How a store goes on beneath a script.
+-- How a store continues beneath a script.
 use Rattle.std.specs.Prelude.{◌≡◌, ◌⊎◌, ℕ, ◌<◌, ◌≤◌, true}
 use Rattle.engine.specs.Shown.{Shown}
 use Rattle.script_runner.specs.Faults.{ReachedByEvents}
 
--- Over disks of these failures, a store is another one later. Its machine has come from the one before, and its files are those of the
--- same store. It is faulted only if it was before, or the device has failed since. A disk that is faithful then was so before.
+-- Over disks of these failures, a store is another one later. Its machine was reached from the one before, and its
+-- files are those of the same store. It is faulted only if it was before, or the device has failed since. A disk that
+-- is faithful then was so before.
 pub record IsLater {D : Type 0} (is_faithful : D → Type 0) (failures : D → ℕ) (old new : Shown D) : Type 0 where
   pub comes : ReachedByEvents old.machine new.machine
   pub store : new.store ≡ old.store

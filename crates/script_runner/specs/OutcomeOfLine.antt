@@ -1,4 +1,4 @@
--- One turn of a script's run.
+-- One line of a script's run.
 use Rattle.std.specs.Prelude.{◌≡◌, ℕ, List, ◌∷◌, Option, Some, IfSome}
 use Rattle.std.specs.Io.KnownBytes.{Appends}
 use Rattle.script_syntax.specs.Replies.{reply_line}
@@ -12,11 +12,12 @@ use Rattle.script_runner.specs.declared.background_work.FlushPolicy.TheVariants.
 use Rattle.script_syntax.specs.declared.status.Status.{Status}
 use Rattle.script_runner.specs.declared.runner.LineOutcome.TheVariants.{Replied, Over}
 
--- where the bytes are known, the first line was taken of them
+-- if the bytes are known, the first line was taken of them
 abbrev pub TakesLine : Option (List ℕ) → Option (List ℕ) → List ℕ → Type 0
 TakesLine known rest line = IfSome known (λ bytes. (left : List ℕ) × (rest ≡ Some left) × (lines_of bytes ≡ line ∷ lines_of left))
 
--- A run over a store that frees its room leaves the script as it is then; of one in memory nothing is asked any more.
+-- A run over a store that frees its room leaves the script as it is then; of a store in memory nothing is asked any
+-- more.
 abbrev pub IsPlayedTo : FlushPolicy → Script → ℕ → Option (List ℕ) → Option (List ℕ) → Option (List ℕ) → Status → Script → Type 0
 IsPlayedTo policy old number known before after status new = (end : Script) × IsPlayedOn policy old number known before after status end × (policy ≡ WhenHalfFull → new ≡ end)
 

@@ -1,4 +1,4 @@
--- What a line that waits for a change asks, apart from the wait.
+-- What a line that waits for a change asks, without the wait.
 use Rattle.std.specs.Prelude.{◌≡◌, ℕ, List, Option, Some, None, Result, Ok, Err}
 use Rattle.refusals.specs.declared.refusal.Refusal.TheVariants.{NoSuchHandle}
 use Rattle.store_model.specs.Steps.{Step}

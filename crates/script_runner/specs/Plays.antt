@@ -33,7 +33,7 @@ lines_of (byte ∷ bytes) = if byte == 10 then [] ∷ lines_of bytes else with_b
 abbrev pub AreFirst : List (List ℕ) → List (List ℕ) → Type 0
 AreFirst lines all = (rest : List (List ℕ)) × (all ≡ lines ++ rest)
 
--- where the bytes of a script are known: a script that was read to its end is these lines; of one that could not be
+-- if the bytes of a script are known: a script that was read to its end is these lines; of a script that could not be
 -- read on, or was not, these are the first
 abbrev pub AreReadOf : List ℕ → List (List ℕ) → Option EndOfScript → Type 0
 AreReadOf bytes lines (Some Ended) = lines ≡ lines_of bytes
@@ -70,18 +70,20 @@ abbrev pub EndsAs : Option EndOfScript → List ℕ → Status → Type 0
 EndsAs None text status = ⊥
 EndsAs (Some end_of_script) text status = Ends end_of_script text status
 
--- Between two lines the store works at this pace. Of the script it changes the machine, and whether the device has failed in that.
+-- Between two lines the store works by this policy. Of the script it changes the machine, and whether the device has
+-- failed in that.
 abbrev pub KeepsUpBetweenLines : FlushPolicy → Script → Script → Type 0
 KeepsUpBetweenLines policy old new = (ended : Option Refusal) × WorksBetweenLines policy ended old.machine new.machine × (new ≡ record old { machine = new.machine; failed = old.failed || is_fault ended })
 
--- A store that makes no steps between lines is one in memory, whose disk never fails: none of its replies tells of the device.
+-- A store that makes no steps between lines is one in memory, whose disk never fails: none of its replies reports the
+-- device.
 abbrev pub MayReply : FlushPolicy → ReplyLine → Type 0
 MayReply OnRequest reported = is_device_reply reported ≡ false
 MayReply WhenHalfFull reported = ⊤
 
--- From old, at the line of this number, the lines and the way that reading ended print this text, end with this status and
--- leave the script so: each line is answered in turn, by a reply that may be given, up to one that is not understood; and between
--- the lines the store works at this pace.
+-- From old, at the line of this number, the lines and the way that reading ended print this text, end with this status
+-- and leave the script so. Each line is answered in turn, by a reply that may be given, up to one that is not
+-- understood. The store works between the lines by this policy.
 abbrev pub PlaysOn : (ReplyLine → Type 0) → FlushPolicy → Script → ℕ → List (List ℕ) → Option EndOfScript → List ℕ → Status → Script → Type 0
 PlaysOn may policy old number [] end_of_script text status end = EndsAs end_of_script text status × (end ≡ old)
 PlaysOn may policy old number (line ∷ lines) end_of_script text status end =
@@ -106,7 +108,7 @@ abbrev pub IsPlayed : Option (List ℕ) → Option (List ℕ) → Option (List �
 IsPlayed known before after status =
     (lines : List (List ℕ)) × (end_of_script : Option EndOfScript) × (text : List ℕ) × WereRead known lines end_of_script × Plays lines end_of_script text status × Appends before after text
 
--- the same from a script's later line on, over a store that works at this pace; it leaves the script so
+-- the same from a script's later line on, over a store that works by this policy; it leaves the script so
 abbrev pub IsPlayedOn : FlushPolicy → Script → ℕ → Option (List ℕ) → Option (List ℕ) → Option (List ℕ) → Status → Script → Type 0
 IsPlayedOn policy old number known before after status end =
     (lines : List (List ℕ)) × (end_of_script : Option EndOfScript) × (text : List ℕ) × WereRead known lines end_of_script × PlaysOn (MayReply policy) policy old number lines end_of_script text status end × Appends before after text

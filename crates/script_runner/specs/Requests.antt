@@ -1,4 +1,4 @@
--- What a request of a script asks for: the operation or the read whose names it spells, where they may stand.
+-- What a request of a script asks for: the operation or the read with its names, if they are allowed.
 use Rattle.std.specs.Prelude.{ℕ, List, Result, Ok, Err}
 use Rattle.reg_names.specs.Names.{path_of, name_if, is_value_name}
 use Rattle.refusals.specs.declared.refusal.Refusal.{Refusal}
@@ -10,7 +10,7 @@ use Rattle.store_model.specs.declared.event.Question.TheVariants.{ValueOf, KeysO
 use Rattle.script_runner.specs.declared.operation.Operation.{Operation}
 use Rattle.script_runner.specs.declared.operation.Operation.TheVariants.{Write, Read}
 
--- where the key of a request stands
+-- the key of a request
 abbrev pub key_ref_of : Request → KeyRef
 key_ref_of (Create key_ref) = key_ref
 key_ref_of (Delete key_ref) = key_ref
@@ -21,7 +21,7 @@ key_ref_of (Keys key_ref) = key_ref
 key_ref_of (Values key_ref) = key_ref
 key_ref_of (Info key_ref) = key_ref
 
--- a name that may not stand is refused, and else it is asked about
+-- a name that isn't allowed is refused, and else it is asked about
 abbrev pub with_name : {A B : Type 0} → Result A Refusal → (A → Result B Refusal) → Result B Refusal
 with_name (Ok name) ask = ask name
 with_name (Err refusal) ask = Err refusal

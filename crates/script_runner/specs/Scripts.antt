@@ -1,4 +1,4 @@
--- What the lines of a script ask of a store, and what they are answered.
+-- What the lines of a script ask of a store, and the replies to them.
 use Rattle.std.specs.Prelude.{◌≡◌, ◌≢◌, ℕ, ◌⊎◌, Bool, false, List, Option, Some, None, Result, Ok, Err}
 use Rattle.refusals.specs.declared.refusal.Refusal.{Refusal}
 use Rattle.refusals.specs.declared.refusal.Refusal.TheVariants.{NoMemory, NoSuchHandle}
@@ -34,16 +34,16 @@ pub record Script : Type 0 where
   pub labels : List ℕ → Option Tx
   pub failed : Bool
 
--- a script before its first line over a machine: the moment is 0, session 0 is the current one, no label names anything, and
--- nothing has failed
+-- a script before its first line over a machine: the moment is 0, session 0 is the current one, no label names
+-- anything, and nothing has failed
 abbrev pub script_at : Machine → Script
 script_at machine = record { machine = machine; moment = 0; session = 0; labels = λ label. None; failed = false }
 
--- a script that has made its store, of so many new hives: session 0 is open
+-- a script that has made its store, of `hives` new hives: session 0 is open
 abbrev pub fresh_script : ℕ → Script
 fresh_script hives = script_at (with_session (fresh_machine (bounds_for hives)) 0)
 
--- what was read as a reply; no line asks for a subkey by its index
+-- the result of a read as a reply; no line asks for a subkey by its index
 abbrev pub found_reply : ReadResult → ReplyLine
 found_reply (found.Value value) = reply.Value value.kind value.«data»
 found_reply (found.Key name) = reply.Done
@@ -51,7 +51,7 @@ found_reply (found.Keys names) = reply.Keys names
 found_reply (found.ValueNames names) = reply.Values names
 found_reply (found.Counts info) = reply.Info info.subkeys info.values info.time
 
--- a write alone, and one in a transaction, with the keys that it made, where it is a creation
+-- a write alone, and one in a transaction, with the keys that it made, if it is a creation
 abbrev pub accepted_reply : Option ℕ → ℕ → ReplyLine
 accepted_reply None number = reply.Accepted number
 accepted_reply (Some levels) number = reply.Created levels number
@@ -60,7 +60,7 @@ abbrev pub added_reply : Option ℕ → ReplyLine
 added_reply None = reply.Done
 added_reply (Some levels) = reply.CreatedInside levels
 
--- where a transaction stands
+-- the outcome of a transaction
 abbrev pub outcome_reply : TxOutcome → ReplyLine
 outcome_reply standing.Active = reply.StillActive
 outcome_reply standing.Committed = reply.HasCommitted
@@ -72,8 +72,8 @@ step_reply progress.Idle = reply.StepIdle
 step_reply progress.More = reply.StepMore
 step_reply progress.Done = reply.StepDone
 
--- An answer of the machine as a reply. What is to be waited for is told as accepted by a line that doesn't wait; the lines
--- that do have replies of their own. No line is replied to by a receipt.
+-- An answer of the machine as a reply. A line that doesn't wait reports as accepted what is to be waited for; the lines
+-- that wait have replies of their own. No line is answered with a receipt.
 abbrev pub reply_of : Reply → ReplyLine
 reply_of answer.Done = reply.Done
 reply_of (answer.Accepted levels number) = accepted_reply levels number
@@ -102,12 +102,13 @@ abbrev pub waited_reply : Option Refusal → ReplyLine → ReplyLine
 waited_reply None reported = reported
 waited_reply (Some refusal) reported = reply.Refused refusal
 
--- What follows an answer: the change whose number it tells is waited for, up to its receipt; any other is the reply.
+-- What follows an answer: the change whose number it has is waited for, up to its receipt; any other answer is the
+-- reply.
 abbrev pub WaitsForChange : Reply → (ℕ → ReplyLine) → Machine → ReplyLine → Machine → Type 0
 WaitsForChange (answer.Awaits number) tell old reported new = (ended : Option Refusal) × IsWaited old number ended new × (reported ≡ waited_reply ended (tell number))
 WaitsForChange answer tell old reported new = (reported ≡ reply_of answer) × (new ≡ old)
 
--- the machine is asked an event, and what it says is to be waited for is waited for
+-- the machine is asked an event, and the change that its answer names is waited for
 abbrev pub AsksAndWaits : Script → Event → (ℕ → ReplyLine) → ReplyLine → Script → Type 0
 AsksAndWaits old event tell reported new =
     (answer : Reply) × (mid : Machine) × Step old.machine event answer mid × WaitsForChange answer tell mid reported new.machine × (new ≡ record old { machine = new.machine })
@@ -116,7 +117,7 @@ AsksAndWaits old event tell reported new =
 abbrev pub IsRefused : Script → Refusal → ReplyLine → Script → Type 0
 IsRefused old refusal reported new = (reported ≡ reply.Refused refusal) × (new ≡ old)
 
--- a name that may not stand is refused, and else what the request asks for is asked
+-- a name that isn't allowed is refused, and else what the request asks for is asked
 abbrev pub IsNamed : Result Operation Refusal → (Operation → Type 0) → Script → ReplyLine → Script → Type 0
 IsNamed (Ok asked) asks old reported new = asks asked
 IsNamed (Err refusal) asks old reported new = IsRefused old refusal reported new
@@ -185,7 +186,7 @@ Answers old (Outcome label) reported new = IsLabelled (old.labels label) (λ tx.
 Answers old Flush reported new = AsksAndWaits old event.FlushAsk reply.Flushed reported new
 Answers old (Lab line) reported new = ⊥
 
--- `hives` is the first line and stands nowhere else
+-- `hives` is the first line and no other
 abbrev pub first_line : Option Line → Option ℕ
 first_line None = None
 first_line (Some (Hives count)) = Some count
@@ -223,6 +224,6 @@ later_line (Some (Lab line)) = None
 abbrev pub hives_asked : List ℕ → Option ℕ
 hives_asked bytes = first_line (line_of bytes)
 
--- the line that the bytes of any further line spell
+-- the line of the bytes of any further line
 abbrev pub line_asked : List ℕ → Option Line
 line_asked bytes = later_line (line_of bytes)

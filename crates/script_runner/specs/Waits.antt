@@ -16,7 +16,7 @@ Waits [] old number None new = Run old (Acked number ∷ []) (Receipt number ∷
 Waits [] old number (Some refusal) new =
     Run old (Acked number ∷ []) (Refused refusal ∷ []) new ⊎ Run old (Acked number ∷ JournalStep ∷ []) (NotYet ∷ Refused refusal ∷ []) new
 
--- so many steps were made, or another number
+-- this list of steps was made, or another one
 abbrev pub IsWaited : Machine → ℕ → Option Refusal → Machine → Type 0
 IsWaited old number ended new = (steps : List Progress) × Waits steps old number ended new
 

@@ -1,4 +1,4 @@
--- What a store does beside the lines of a script: steps of the journal, of the hives' flush and of trims.
+-- What a store does between the lines of a script: steps of the journal, of the hives' flush and of trims.
 use Rattle.std.specs.Prelude.{◌≡◌, Bool, true, false, List, [], ◌∷◌, ◌++◌, Option, Some, None}
 use Rattle.std.specs.List.{AllByRecursion}
 use Rattle.store_model.specs.Machine.{Machine}
@@ -27,7 +27,8 @@ refused_by (Some why) = Refused why ∷ []
 abbrev pub MakesSteps : Option Refusal → Machine → Machine → Type 0
 MakesSteps ended old new = (events : List Event) × (made : List Reply) × AllByRecursion IsStep events × AllByRecursion WasMade made × Run old events (made ++ refused_by ended) new
 
--- Between two lines a store that frees its room makes some steps, up to one that is refused; one that works as it is asked, none.
+-- Between two lines a store that frees its room makes some steps, up to one that is refused; a store that works on
+-- request makes none.
 abbrev pub WorksBetweenLines : FlushPolicy → Option Refusal → Machine → Machine → Type 0
 WorksBetweenLines WhenHalfFull ended old new = MakesSteps ended old new
 WorksBetweenLines OnRequest ended old new = (ended ≡ None) × (new ≡ old)

@@ -1,4 +1,4 @@
-//! What a store does beside the lines of a script: durable changes go into the hives, and the journal's room is freed.
+//! What a store does between the lines of a script: durable changes go into the hives, and the journal's room is freed.
 ghost use Rattle.std.specs.Prelude.{◌≡◌, true, false, IfSome, MatchOption};
 ghost use Rattle.store_model.specs.Steps.{Step};
 ghost use Rattle.store_model.specs.declared.event.Reply.{Reply as AnyReply};
@@ -18,12 +18,12 @@ use store_model::{Event, Reply};
 pub enum FlushPolicy {
     /// It makes no step but those that a line asks for.
     OnRequest,
-    /// It frees its journal's room where half of it is used.
+    /// It frees its journal's room if half of it is used.
     WhenHalfFull,
 }
 
 impl FlushPolicy {
-    /// Whether a store at this pace is one in memory: it makes no steps between lines.
+    /// Whether a store with this policy is one in memory: it makes no steps between lines.
     pub(crate) fn is_in_memory(self) -> bool
         ensures memory { result ≡ true → self ≡ FlushPolicy.OnRequest }
         ensures disk { result ≡ false → self ≡ FlushPolicy.WhenHalfFull }
@@ -31,8 +31,8 @@ impl FlushPolicy {
         matches!(self, FlushPolicy::OnRequest)
     }
 
-    /// Whether a store at this pace waits for the disk at a line, if it is one: at a `commit` and at a `flush`. One in memory waits for
-    /// nothing.
+    /// Whether a store with this policy waits for the disk at this line: at a `commit` and at a `flush`. A store in
+    /// memory waits for nothing.
     pub(crate) fn waits_at(self, line: &[u8]) -> bool {
         match self {
             FlushPolicy::OnRequest => false,
@@ -42,13 +42,14 @@ impl FlushPolicy {
     }
 }
 
-/// From so many bytes of used room on a store frees it between two lines.
+/// The used room in bytes from which on a store frees it between two lines.
 const BUSY_ROOM: u64 = MOST_JOURNAL_BYTES / 2;
 
-/// What a store does between two lines, at this pace. Answers the refusal that ended it, if one did.
+/// What a store does between two lines, by this policy. Answers the refusal that ended it, if one did.
 ///
-/// It does nothing until half of its journal's room is used, and then all: a trim needs every hive to have all that is durable, so single
-/// steps between lines would never come to one while further lines are written; and each flush of a hive writes all its pages anew.
+/// It does nothing until half of its journal's room is used, and then all. A trim needs every hive to have all that is
+/// durable, so single steps between lines would never lead to a trim while further lines are written. And each flush of
+/// a hive writes all its pages anew.
 pub(crate) fn work_between_lines<D: Disk>(
     engine: &mut Engine<D>,
     policy: FlushPolicy,
@@ -73,13 +74,14 @@ pub(crate) fn is_fault(ended: Option<Refusal>) -> bool
     matches!(ended, Some(Refusal::DiskFault))
 }
 
-/// Whether so much of the journal's room is used that a store which frees its room does so between two lines.
+/// Whether so much of the journal's room is used that a store frees it between two lines, if its policy is to free
+/// room.
 pub fn frees_room<D: Disk>(engine: &Engine<D>) -> bool {
     engine.room() >= BUSY_ROOM
 }
 
-/// Makes each step that has something to do, until none has: all accepted changes are durable then, the hives have them, and the
-/// journal's room is free. The first refused step ends it: its refusal is the answer.
+/// Makes each step that has something to do, until none has: all accepted changes are durable then, the hives have
+/// them, and the journal's room is free. The first refused step ends it: its refusal is the answer.
 pub fn run_until_idle<D: Disk>(engine: &mut Engine<D>) -> Option<Refusal>
     ensures works { MakesSteps result engine.old.machine engine.new.machine }
     ensures later { IsLater D.faithful D.failures engine.old engine.new }

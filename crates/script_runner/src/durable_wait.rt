@@ -12,8 +12,8 @@ use engine::Engine;
 use refusals::Refusal;
 use store_model::{Event, Reply};
 
-/// Makes steps of the journal until there is a receipt of the change of this number, which was accepted. Refused as
-/// the first question or step that is refused.
+/// Makes steps of the journal until there is a receipt of the change of this number, which was accepted. Refused with
+/// the refusal of the first question or step that is refused.
 pub(crate) fn wait<D: Disk>(engine: &mut Engine<D>, number: u64) -> Result<(), Refusal>
     requires { number ≤ last_number engine.old.machine }
     ensures later { IsLater D.faithful D.failures engine.old engine.new }

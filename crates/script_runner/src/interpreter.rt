@@ -24,7 +24,7 @@ use std::alloc::{AllocError, Global};
 use store_model::{Event, Reply, Tx};
 use uuid::Uuid;
 
-/// A script between two lines: its store, the moment and the session of what follows, and the transaction that each label names.
+/// A script between two lines: its store, the current moment and session, and the transaction that each label names.
 pub struct Interpreter<D: Disk> {
     engine: Engine<D>,
     moment: u64,
@@ -35,7 +35,7 @@ pub struct Interpreter<D: Disk> {
 }
 
 impl<D: Disk + Drop> Drop for Interpreter<D> {
-    // one drop for all that own a player, whose proofs see no more of it than that
+    // one drop for all that own an interpreter, whose proofs see no more of it than this contract
     fn drop(self) {
         let Interpreter {
             engine: _,
@@ -62,7 +62,7 @@ impl<D: Disk> Interpreter<D> {
         }
     }
 
-    /// What the store does between two lines, at this pace. That the device failed in it is kept for the end.
+    /// What the store does between two lines, by this policy. If the device failed in it, that is kept for the end.
     pub fn work_between_lines(&mut self, policy: FlushPolicy)
         ensures kept { KeepsUpBetweenLines policy (script_of self.old) (script_of self.new) }
         ensures later { IsLater D.faithful D.failures (engine_of self.old) (engine_of self.new) }
@@ -71,7 +71,7 @@ impl<D: Disk> Interpreter<D> {
         self.failed = self.failed || is_fault(ended);
     }
 
-    /// Whether the store has steps to make between two lines at this pace.
+    /// Whether the store has steps to make between two lines by this policy.
     pub fn works_at(&self, policy: FlushPolicy) -> bool {
         match policy {
             FlushPolicy::OnRequest => false,
@@ -107,7 +107,7 @@ impl<D: Disk> Interpreter<D> {
         engine
     }
 
-    /// Answers a further line of the script, or nothing where the bytes are no such line. Memory is refused only for
+    /// Answers a further line of the script, or `None` if the bytes are no such line. Memory is refused only for
     /// reading the line, before anything is asked.
     pub fn reply_to(&mut self, alloc: Global, bytes: &[u8]) -> Result<Option<ReplyLine>, AllocError>
         ensures none { IfOk result (λ made. IfNone made
@@ -125,7 +125,7 @@ impl<D: Disk> Interpreter<D> {
         }
     }
 
-    /// Answers a line of the script, or nothing where it is a script's first, or one that only a laboratory takes.
+    /// Answers a line of the script, or `None` if it is a script's first line or one that only a laboratory takes.
     pub fn answer(&mut self, alloc: Global, line: Line) -> Option<ReplyLine>
         ensures reported { MatchOption result ((later_line (Some line) ≡ None) × (self.new ≡ self.old))
             (λ reported. (later_line (Some line) ≡ Some line)
@@ -249,8 +249,8 @@ impl<D: Disk> Interpreter<D> {
         }
     }
 
-    // begins a transaction that the label names; room for the label is made first, so that no transaction is begun which
-    // nothing names
+    // begins a transaction that the label names; room for the label is made first, so each transaction that is begun is
+    // named
     fn begin_as(&mut self, alloc: Global, label: Label, id: Uuid) -> Result<ReplyLine, Refusal>
         ensures ok { IfOk result (λ reported. Answers (script_of self.old) (Line.Begin label id) reported
             (script_of self.new)) }
@@ -371,7 +371,7 @@ impl<D: Disk> Interpreter<D> {
         reply_of(self.event(event))
     }
 
-    // asks an event, and waits for the change whose number it answers; `Err` is the reply where it answers no number, or
+    // asks an event, and waits for the change whose number it answers; `Err` is the reply if it answers no number or
     // the wait is refused
     fn ask_and_wait(&mut self, event: Event) -> Result<u64, ReplyLine>
         ensures reported { (tell : ℕ → AnyReplyLine) → AsksAndWaits (script_of self.old) event tell

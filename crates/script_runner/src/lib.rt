@@ -1,14 +1,14 @@
 //! The parts of the program: the run of a script over a store.
 //!
-//! [`play`] reads a script line by line, and writes the reply to each line, over a store of its own on a disk in memory; [`run`]
-//! over the store that is on a disk. What they write is stated apart from them: the lines by the grammar of `script_syntax`, the
-//! answers by the machine of `store_model`, which knows no bytes, what a line asks of it by `specs/Scripts`, and the text by
-//! `specs/Plays` and `specs/Running`.
+//! [`play`] reads a script line by line, and writes the reply to each line, over a store of its own on a disk in
+//! memory. [`run`] does so over the store that is on a disk. What they write is stated by the grammar of
+//! `script_syntax`, the answers by the machine of `store_model`, which knows no bytes. `specs/Scripts` states what a
+//! line asks of the machine, and `specs/Plays` and `specs/Running` state the text.
 //!
-//! What a run is made of is public, for runs of another kind: [`begin_on`] makes the store that a script's first line asks for,
-//! on a disk in memory that fails as a plan says; [`open_store`] opens the one that is on a disk, and [`open_engine`] does so
-//! without a session; a [`Interpreter`] answers one line after another; [`next_line`], [`end`] and [`wrong`] read a script's lines and
-//! tell how they end.
+//! The parts of a run are public, for other kinds of runs. [`begin_on`] makes the store that a script's first line asks
+//! for, on a disk in memory that fails as a plan says. [`open_store`] opens the store that is on a disk, and
+//! [`open_engine`] does so without a session. An [`Interpreter`] answers one line after another. [`next_line`], [`end`]
+//! and [`wrong`] read a script's lines and report how they end.
 #![tactic(auto)]
 
 mod background_work;

@@ -29,7 +29,8 @@ pub(crate) enum Operation {
     },
 }
 
-/// What the request asks for. Its path is tested first, then a value's name: refused as they are, and with `NoMemory`.
+/// What the request asks for. Its path is tested first, then a value's name: refused as the test refuses them, and with
+/// `NoMemory`.
 pub(crate) fn operation_of(alloc: Global, request: Request) -> Result<Operation, Refusal>
     ensures ok { IfOk result (λ asked. operation_of request ≡ Ok asked) }
     ensures refused { IfErr result (λ refusal. (operation_of request ≡ Err refusal)

@@ -8,8 +8,8 @@ use reg_tree::Value;
 use script_syntax::ReplyLine;
 use store_model::{Outcome, Progress, ReadResult, Reply};
 
-/// The reply to the line that asked. What is to be waited for is told as accepted, for the lines that wait have replies of
-/// their own. A receipt is no line's reply, and no line asks for a subkey by its index.
+/// The reply to the line that asked. A change that is to be waited for is reported as accepted, for the lines that wait
+/// have replies of their own. A receipt is no line's reply, and no line asks for a subkey by its index.
 pub(crate) fn reply_of(answer: Reply) -> ReplyLine
     ensures { result ≡ reply_of answer }
 {
@@ -28,7 +28,7 @@ pub(crate) fn reply_of(answer: Reply) -> ReplyLine
     }
 }
 
-/// Whether a reply tells of the device: that it failed in this call, or in an earlier one.
+/// Whether a reply reports a failure of the device, in this call or in an earlier one.
 pub(crate) fn is_device_reply(reported: &ReplyLine) -> bool
     ensures { result ≡ is_device_reply reported.now }
 {

@@ -1,4 +1,4 @@
-//! Runs a script over a store of its own in memory, or over a store that is there.
+//! Runs a script over a store of its own in memory, or over an existing store.
 ghost use Rattle.std.specs.Prelude.{◌≡◌, ℕ, List, [], ◌++◌, ◌∷◌, Some, OnOk, IfOk, IfErr, codes};
 ghost use Rattle.std.specs.Io.KnownBytes.{Appends, Keeps};
 ghost use Rattle.std.specs.Io.BufRead.{strip_last};
@@ -23,7 +23,7 @@ use std::io::{BufRead, Write};
 /// The byte that ends a line.
 const LINE_END: u8 = b'\n';
 
-/// What one turn of a run came to.
+/// The outcome of one line of a run.
 enum LineOutcome {
     /// A line was answered.
     Replied {
@@ -37,8 +37,8 @@ enum LineOutcome {
     },
 }
 
-/// Runs a script over a store in memory, and writes the replies to its lines, in order, each as soon as its line is
-/// read. No more of the script is held than one line.
+/// Runs a script over a store in memory. Writes the replies to its lines, in order, each as soon as its line is read.
+/// Only one line of the script is in memory at a time.
 ///
 /// `Err` says that a write failed, which ends the run; the program then ends with the status of a refusal.
 pub fn play<R: BufRead, W: Write>(
@@ -93,7 +93,7 @@ fn run<R: BufRead, W: Write>(alloc: Global, reader: &mut R, writer: &mut W) -> i
     }
 }
 
-/// Runs a script from its first line on, over the player's store, which works between the lines at this pace.
+/// Runs a script from its first line on, over the interpreter's store, which works between the lines by this policy.
 pub(crate) fn play_lines<D: Disk, R: BufRead, W: Write>(
     alloc: Global,
     interpreter: &mut Interpreter<D>,
@@ -133,12 +133,12 @@ fn go_on<D: Disk, R: BufRead, W: Write>(
         }
         work_between_lines(interpreter, policy, writer)?;
     }
-    // a script of so many lines isn't read on
+    // a script of so many lines isn't read further
     let status = end(writer, EndOfScript::Broken)?;
     Ok(status.after(has_refusal))
 }
 
-// what the store does between two lines at this pace; the replies so far are written out before, if that is anything
+// what the store does between two lines by this policy; the replies so far are written out before, if it does anything
 fn work_between_lines<D: Disk, W: Write>(
     interpreter: &mut Interpreter<D>,
     policy: FlushPolicy,
@@ -187,7 +187,7 @@ fn take_line<D: Disk, R: BufRead, W: Write>(
     match interpreter.reply_to(alloc, line) {
         Ok(Some(reported)) => {
             if policy.is_in_memory() && is_device_reply(&reported) {
-                // a disk in memory fails only where it finds no memory
+                // a disk in memory fails only if it finds no memory
                 let status = end(writer, EndOfScript::OutOfMemory)?;
                 return Ok(LineOutcome::Over { status });
             }
@@ -245,7 +245,7 @@ pub fn next_line<R: BufRead>(reader: &mut R, line: &mut Vec<u8>) -> Result<(), E
     }
 }
 
-// takes the byte that ends a line from its end, where it is there
+// removes the byte that ends a line from its end, if it is there
 fn strip_end(line: &mut Vec<u8>)
     ensures { line.new.items ≡ strip_last 10 line.old.items }
 {
@@ -255,8 +255,8 @@ fn strip_end(line: &mut Vec<u8>)
     }
 }
 
-/// Writes why there is no further line, and answers with which status the run ends by that: nothing is written of a script that was
-/// read to its end.
+/// Writes why there is no further line, and answers the status with which the run ends. Nothing is written for a script
+/// that was read to its end.
 pub fn end<W: Write>(writer: &mut W, end_of_script: EndOfScript) -> io::Result<Status>
     ensures { IfOk result (λ status. (text : List ℕ) × Ends end_of_script text status
         × Appends (W.contents writer.old) (W.contents writer.new) text) }

@@ -18,11 +18,11 @@ use refusals::Refusal;
 use std::alloc::Global;
 use store_model::{Event, Reply};
 
-/// The store that is on a disk, repaired where the power went while a hive was being written, with session 0 open; and the number of its
-/// last change.
+/// Opens the store that is on a disk, with session 0 open, and answers the number of its last change. If the power went
+/// while a hive was being written, the store is repaired.
 ///
-/// Refused where memory is wanting, where the device fails, and with a refusal that tells of the files where they recover
-/// nothing. The disk is handed back then, and whatever a crash leaves of it from then on recovers what the files recovered.
+/// Refused if memory is lacking, if the device fails, and with a refusal of the files only if they recover nothing. The
+/// disk is handed back then, and whatever a crash leaves of it from then on recovers what the files recovered.
 pub fn open_store<D: Disk>(alloc: Global, disk: D) -> Result<(Engine<D>, u64), (Refusal, D)>
     ensures ok { IfOk result (λ it. IsOpenedOn (D.faithful it.0.disk)
         (seen_in (D.state_at disk (D.clock disk))) it.0.store it.1 session_0 it.0.machine) }
@@ -37,7 +37,7 @@ pub fn open_store<D: Disk>(alloc: Global, disk: D) -> Result<(Engine<D>, u64), (
     Ok((begun, number))
 }
 
-/// The same with no session open, for whoever brings sessions of their own.
+/// The same with no session open, for callers that have sessions of their own.
 pub fn open_engine<D: Disk>(alloc: Global, disk: D) -> Result<(Engine<D>, u64), (Refusal, D)>
     ensures ok { IfOk result (λ it. IsOpenedOn (D.faithful it.0.disk)
         (seen_in (D.state_at disk (D.clock disk))) it.0.store it.1 [] it.0.machine) }

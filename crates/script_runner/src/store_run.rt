@@ -24,18 +24,20 @@ use std::alloc::Global;
 use std::io;
 use std::io::{BufRead, Write};
 
-/// Runs a script over the store that is on a disk: opens and repairs the store, prints `opened N` with the number of its last
-/// change, and writes the replies to the script's lines as [`play`](crate::play) does; but that none of them makes a store. At the end,
-/// also after a line that is not understood, and if the script can't be read on or a write fails, all accepted changes are made
-/// durable, and then they are moved into the hives. Each of the two is told only if it is refused; so is, as the last line, that the
-/// device failed in a step that no line asked for. That a run which ends with status 0 leaves hives with all its changes is tested:
-/// no clause says that the steps at its end leave nothing to do.
+/// Runs a script over the store that is on a disk: opens and repairs the store, prints `opened N` with the number of
+/// its last change, and writes the replies to the script's lines as [`play`](crate::play) does. But no line makes a
+/// store. At the end all accepted changes are made durable, and then they are moved into the hives. That is also done
+/// after a line that is not understood, if the script can't be read on, and if a write fails. Each of the two is
+/// reported only if it is refused. The last line reports a failure of the device in a step that no line asked for. That
+/// a run which ends with status 0 leaves hives with all its changes is tested: no clause says that the steps at its end
+/// leave nothing to do.
 ///
-/// Before the store waits for the disk, and after each commit and flush, the replies so far are written out. No reply tells of the
-/// device unless it failed in the run.
+/// Before the store waits for the disk, and after each commit and flush, the replies so far are written out. A reply
+/// reports the device only if it failed in the run.
 ///
-/// If no store is opened, why is told, and no line is read. The disk is handed back in any case, also if a write fails: whatever a
-/// crash leaves of it from then on recovers what was durable at the end. `Err` says that a write failed, which ends the run.
+/// If no store is opened, the reason is written, and no line is read. The disk is handed back in any case, even if a
+/// write fails. Whatever a crash leaves of it from then on recovers what was durable at the end. `Err` says that a
+/// write failed, which ends the run.
 pub fn run<D: Disk, R: BufRead, W: Write>(
     alloc: Global,
     disk: D,
@@ -66,7 +68,8 @@ pub fn run<D: Disk, R: BufRead, W: Write>(
     }
 }
 
-/// The same where the script can't be read at all: the store is opened, and then it is told that the script can't be read.
+/// The same if the script can't be read at all: the store is opened, and then it is reported that the script can't be
+/// read.
 pub fn run_unread<D: Disk, W: Write>(
     alloc: Global,
     disk: D,
@@ -89,7 +92,7 @@ pub fn run_unread<D: Disk, W: Write>(
     }
 }
 
-// opens the store, and tells its number; or why none is opened
+// opens the store, and writes its number; or why none is opened
 fn begin_run<D: Disk, W: Write>(
     alloc: Global,
     disk: D,
@@ -119,7 +122,7 @@ fn begin_run<D: Disk, W: Write>(
     }
 }
 
-// makes all that was accepted durable and moves it into the hives, and tells what is refused of that; the store ends
+// makes all that was accepted durable, moves it into the hives, and reports what is refused of that; the store ends
 fn end_run<D: Disk, W: Write>(
     interpreter: Interpreter<D>,
     played: io::Result<Status>,
@@ -165,8 +168,8 @@ fn written_out<W: Write>(writer: &mut W, played: io::Result<Status>) -> io::Resu
     Ok(came_to)
 }
 
-// what is told at the end of the steps that no line asked for: that the device failed in one of them; or what ended those of the
-// end, but for `Faulted`, whose cause was told then
+// what the end reports of the steps that no line asked for: that the device failed in one of them; or what ended the
+// steps of the end, except `Faulted`, whose cause was reported then
 fn undone(has_failed: bool, ended: Option<Refusal>) -> Option<Refusal>
     ensures { result ≡ undone has_failed ended }
 {

@@ -28,8 +28,8 @@ const GROWING_FILES: u32 = 1;
 /// More writes than the journal makes between two syncs.
 const MOST_WRITES: usize = 8;
 
-/// The store that a script's first line asks for, on a disk that fails in no call, with session 0 open; or nothing where the bytes
-/// are no such line.
+/// The store that a script's first line asks for, on a disk that fails in no call, with session 0 open; or `None` if
+/// the bytes are no such line.
 pub(crate) fn begin(alloc: Global, bytes: &[u8]) -> Result<Option<Engine<MemDisk>>, AllocError>
     ensures none { IfOk result (λ made. IfNone made (hives_asked bytes.now ≡ None)) }
     ensures some { IfOk result (λ made. IfSome made
@@ -39,10 +39,10 @@ pub(crate) fn begin(alloc: Global, bytes: &[u8]) -> Result<Option<Engine<MemDisk
     begin_on(alloc, bytes, Arc::new(alloc, Plan::new())?)
 }
 
-/// The store that a script's first line asks for, on a new disk in memory that fails as the plan says, with session 0 open; or
-/// nothing where the bytes are no such line.
+/// The store that a script's first line asks for, on a new disk in memory that fails as the plan says, with session 0
+/// open; or `None` if the bytes are no such line.
 ///
-/// Refused for want of memory alone, which is also what is told where the plan lets a call fail while the store is made.
+/// Refused only for lack of memory. That is also the answer if the plan lets a call fail while the store is made.
 pub fn begin_on(
     alloc: Global,
     bytes: &[u8],
@@ -55,7 +55,8 @@ pub fn begin_on(
 {
     script_syntax::grammar::parses_what_is_printed();
     match read_line(alloc, bytes) {
-        // a disk in memory fails only where it finds no memory, so the want of that is all that stands against a new store
+        // a disk in memory fails only if it finds no memory, so only a lack of memory can keep a new store from being
+        // made
         Ok(Line::Hives { count }) => match store_in_session_0(alloc, count, plan) {
             Ok(engine) => Ok(Some(engine)),
             Err(_) => Err(AllocError),
@@ -119,13 +120,13 @@ fn opened_on(alloc: Global, disk: MemDisk) -> Result<Opened<MemDisk>, Refusal>
     }
 }
 
-// an engine over a store: where that was opened at number 0, its journal has no change
+// an engine over a store: if that was opened at number 0, its journal has no change
 fn begun(alloc: Global, opened: Opened<MemDisk>) -> Result<Engine<MemDisk>, Refusal>
     requires { StoreIsRepaired opened }
     ensures { IfOk result (λ engine. opened.found.number ≡ 0 →
         engine.machine ≡ opened_machine (bounds_of opened.found.trees) opened.found.trees 0 [] 0) }
 {
-    // in two parts it tells what it keeps
+    // in two parts its invariant is known
     let (disk, found) = opened.into_parts();
     match Engine::new(alloc, Opened::from_parts(disk, found)) {
         Ok(engine) => Ok(engine),
@@ -133,8 +134,8 @@ fn begun(alloc: Global, opened: Opened<MemDisk>) -> Result<Engine<MemDisk>, Refu
     }
 }
 
-// A disk on which no call that a journal makes takes memory, up to the limit of its room: so no reply tells of a fault of
-// the device that the plan doesn't ask for.
+// A disk on which no call that a journal makes takes memory, up to the limit of its room: so a reply reports a fault of
+// the device only if the plan asks for it.
 fn roomy_disk(alloc: Global, plan: Arc<Plan>) -> Result<MemDisk, AllocError>
     ensures { IfOk result (IsRoomy GROWING_FILES MOST_JOURNAL_BYTES MOST_WRITES) }
 {
@@ -143,8 +144,8 @@ fn roomy_disk(alloc: Global, plan: Arc<Plan>) -> Result<MemDisk, AllocError>
     Ok(disk)
 }
 
-/// Takes memory ahead for the journal of the store on a disk, so that no call that it makes takes any, up to the limit of its
-/// room. The disk's files stay as they are.
+/// Takes memory ahead for the journal of the store on a disk, so that no call that it makes takes any, up to the limit
+/// of its room. The disk's files stay as they are.
 pub fn make_journal_room(disk: &mut MemDisk) -> Result<(), AllocError>
     ensures room { OnOk result (IsRoomy GROWING_FILES MOST_JOURNAL_BYTES MOST_WRITES disk.new) }
     ensures files { (k f : ℕ) →

@@ -1,6 +1,6 @@
-//! Tests of runs that no script can say: readers and writers that fail.
+//! Tests of runs that no script can express: readers and writers that fail.
 //!
-//! Expected texts are worked by hand from the stated rules. What a script can say is a file of `runs/`.
+//! Expected texts are worked by hand from the stated rules. What a script can express is a file of `runs/`.
 #![tactic(auto)]
 
 #[cfg(test)]

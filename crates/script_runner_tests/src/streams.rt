@@ -19,7 +19,7 @@ impl<'a> Read for Failing<'a> {
     }
 }
 
-// takes so many writes, and then fails
+// takes some writes, and then fails
 #[derive(Drop)]
 struct Full {
     taken: Vec<u8>,

@@ -1,4 +1,4 @@
--- What stands before and behind the first separator, byte by byte.
+-- What is before and after the first separator, byte by byte.
 use Rattle.std.proofs.Common.{◌≡◌, ℕ, suc, ◌+◌, ◌==◌, Bool, true, false, cond, List, [], ◌∷◌, ◌++◌, length, take, drop, Some, None, refl, sym, ◌∙◌, ap, arith, inl, inr}
 use Rattle.std.specs.Prelude.{nat_lt, ◌⊎◌}
 use Rattle.std.specs.Option.{option_map}
@@ -58,7 +58,7 @@ module _ (s : ℕ) where
   behind_front [] rest h = refl
   behind_front (b ∷ front) rest h = behind_further b (front ++ rest) h.0 ∙ behind_front front rest h.1
 
-  -- the bytes are what stands before the separator, it, and what stands behind it
+  -- the bytes are what is before the separator, the separator, and what is after it
   pub cut_back : (bytes back : List ℕ) → behind s bytes ≡ Some back → bytes ≡ before s bytes ++ s ∷ back
   cut_back [] back e = absurd (none-some back e)
   cut_back (b ∷ bs) back e = elim (is_or_not (b == s)) [
@@ -73,7 +73,7 @@ module _ (s : ℕ) where
       some_same : (x y : List ℕ) → Some x ≡ Some y → x ≡ y
       some_same x y f = cc
 
-  -- the parts are what stands before the first separator, and the parts behind it
+  -- the parts are what is before the first separator, and the parts after it
   pub parts_are : (bytes : List ℕ) → slice_split (λ byte. byte == s) bytes ≡ before s bytes ∷ parts_of s (behind s bytes)
   parts_are [] = refl
   parts_are (b ∷ bs) = elim (is_or_not (b == s)) [

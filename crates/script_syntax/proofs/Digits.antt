@@ -52,6 +52,6 @@ too_large most word fits none = sym (no_number _ _ (λ all.
     let within : digits_value 10 word ≤ most = grind (arith, nat_tests, parts.1) in
     none (some, omega (arith, within, fits))))
 
--- digits that don't parse spell no number that fits
+-- digits that don't parse are no number that fits
 pub not_parsed : {E : Type 0} (most : ℕ) (word : List ℕ) (e : E) → most < 2 ^ 64 → AreDigits word → ParsesUnsigned 64 10 word (Err e) → None ≡ number_of most word
 not_parsed most word e fits h parses = too_large most word fits (parse_digits numerals 64 word (Err e) parses h)

@@ -23,11 +23,11 @@ joined : (front more : List ℕ) (rest : Option (List ℕ)) → option_map (λ u
 joined front more None = refl
 joined front more (Some units) = ap Some (sym (append_assoc front more units))
 
--- one part more
+-- one more part
 pub one_more : (front more part : List ℕ) (parts : List (List ℕ)) → escaped part ≡ Some more → option_map (λ units. front ++ units) (all_escaped (part ∷ parts)) ≡ option_map (λ units. (front ++ more) ++ units) (all_escaped parts)
 one_more front more part parts e = rw e (joined front more (all_escaped parts))
 
--- a part that spells nothing
+-- a part that parses to nothing
 pub no_more : (front part : List ℕ) (parts : List (List ℕ)) → escaped part ≡ None → option_map (λ units. front ++ units) (all_escaped (part ∷ parts)) ≡ None
 no_more front part parts e = rw e refl
 
@@ -35,7 +35,7 @@ no_more front part parts e = rw e refl
 pub at_end : (front : List ℕ) → units_from front None ≡ Some front
 at_end front = ap Some (append-nil front)
 
--- the first part stands for itself
+-- the first part is its own units
 pub begins : (units first word : List ℕ) (rest : Option (List ℕ)) → units ≡ first → first ≡ before 37 word → rest ≡ behind 37 word → units_from units rest ≡ units_of word
 begins units first word rest e f g = rw e (rw f (rw g refl))
 
@@ -44,12 +44,12 @@ at_part : (front part escapes word : List ℕ) (parts : List (List ℕ)) (rest :
 at_part front part escapes word parts rest e f kept =
     ap (λ ps. option_map (λ units. front ++ units) (all_escaped ps)) (sym f) ∙ ap (units_from front) (sym e) ∙ kept
 
--- the next part spells units
+-- the next part parses to units
 pub goes_on : (front more part escapes word new : List ℕ) (left_over rest : Option (List ℕ)) → rest ≡ Some escapes → slice_split (λ byte. byte == 37) escapes ≡ part ∷ parts_of 37 left_over → units_from front rest ≡ units_of word → escaped part ≡ Some more → new ≡ front ++ more → units_from new left_over ≡ units_of word
 goes_on front more part escapes word new left_over rest e f kept parsed made =
     ap (λ units. units_from units left_over) made ∙ sym (one_more front more part (parts_of 37 left_over) parsed) ∙ at_part front part escapes word (parts_of 37 left_over) rest e f kept
 
--- the next part spells none
+-- the next part parses to none
 pub stops : (front part escapes word : List ℕ) (left_over rest : Option (List ℕ)) → rest ≡ Some escapes → slice_split (λ byte. byte == 37) escapes ≡ part ∷ parts_of 37 left_over → units_from front rest ≡ units_of word → escaped part ≡ None → units_of word ≡ None
 stops front part escapes word left_over rest e f kept none =
     sym (at_part front part escapes word (parts_of 37 left_over) rest e f kept) ∙ no_more front part (parts_of 37 left_over) none

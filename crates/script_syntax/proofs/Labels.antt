@@ -20,7 +20,7 @@ first a b left right same = cc
 behind_first : (a b : ℕ) (left right : List ℕ) → a ∷ left ≡ b ∷ right → left ≡ right
 behind_first a b left right same = cc
 
--- no letter stands among zeros
+-- no letter is among zeros
 only_zeros : (letter : ℕ) (rest : List ℕ) (zeros : ℕ) → is_ascii_alphanumeric letter ≡ true → letter ∷ rest ≡ replicate zeros 0 → ⊥
 only_zeros letter rest zero h e = cc
 only_zeros letter rest (suc zeros) h e = zero_is_none (subst (λ c. is_ascii_alphanumeric c ≡ true) (first letter 0 rest (replicate zeros 0) e) h)

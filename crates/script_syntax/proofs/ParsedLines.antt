@@ -1,4 +1,4 @@
--- What is read of a line's words is what they spell.
+-- What is parsed of a line's words is what the grammar says.
 use Rattle.std.proofs.Common.{◌≡◌, ℕ, ◌-◌, ◌^◌, ◌<◌, ◌≤◌, true, cond, List, [], ◌∷◌, Option, Some, None, refl, sym, ◌∙◌, ap, subst, arith, inl, inr}
 use Rattle.std.specs.Prelude.{nat_le, codes}
 use Rattle.std.specs.Option.{option_map, option_and_then}
@@ -89,7 +89,7 @@ read_words said (Outcome label) (word, e, l) = ap line_of_words e ∙ ap (option
 read_words said Flush e = ap line_of_words e
 read_words said (Lab line) s = read_lab said line s
 
--- a line that is spelled is read
+-- a line by the grammar is parsed
 pub read_line : (bytes : List ℕ) (line : Line) → BytesParseTo bytes line → line_of bytes ≡ Some line
 read_line bytes line s = read_words (words bytes) line s
 
@@ -241,11 +241,11 @@ parsed_words : (said : List (List ℕ)) (line : Line) → line_of_words said ≡
 parsed_words [] line e = absurd (none-some line e)
 parsed_words (verb ∷ args) line e = parsed_with verb args line e
 
--- and one that is read is spelled
+-- and one that is parsed is a line by the grammar
 pub parsed_line : (bytes : List ℕ) (line : Line) → line_of bytes ≡ Some line → BytesParseTo bytes line
 parsed_line bytes line e = parsed_words (words bytes) line e
 
--- no bytes spell two lines
+-- no bytes are two lines
 pub one_line : (bytes : List ℕ) (line other : Line) → BytesParseTo bytes line → BytesParseTo bytes other → line ≡ other
 one_line bytes line other s t = same (sym (read_line bytes line s) ∙ read_line bytes other t)
   where

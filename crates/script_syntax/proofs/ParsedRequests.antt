@@ -1,4 +1,4 @@
--- What is read of the words of a request is what they spell.
+-- What is parsed of the words of a request is what the grammar says.
 use Rattle.std.proofs.Common.{◌≡◌, ℕ, ◌-◌, ◌^◌, ◌<◌, ◌≤◌, cond, List, [], ◌∷◌, Option, Some, sym, ◌∙◌, ap, subst, arith, inl, inr}
 use Rattle.std.specs.Prelude.{codes}
 use Rattle.std.specs.Option.{option_map, option_and_then}
@@ -19,7 +19,7 @@ read_named : (key_ref named : List ℕ) (at : KeyRef) (name : List ℕ) → IsKe
 read_named key_ref named at name p n =
     ap (option_and_then (λ a. option_map (λ units. (a, units)) (name_of named))) (read_place key_ref at p) ∙ ap (option_map (λ units. (at, units))) (read_name named name n)
 
--- a request that is spelled is read
+-- a request by the grammar is parsed
 pub read_request : (said : List (List ℕ)) (request : Request) → RequestWords request said → request_of_words said ≡ Some request
 read_request said (Create at) (key_ref, e, p) = ap request_of_words e ∙ ap (option_map (λ a. Create a)) (read_place key_ref at p)
 read_request said (Delete at) (key_ref, e, p) = ap request_of_words e ∙ ap (option_map (λ a. Delete a)) (read_place key_ref at p)
@@ -58,7 +58,7 @@ four_words (a ∷ b ∷ c ∷ []) found e = absurd (none-some found e)
 four_words (a ∷ b ∷ c ∷ d ∷ []) found e = ap (λ f. f.0 ∷ f.1 ∷ f.2 ∷ f.3 ∷ []) (same_found (a, b, c, d) found e)
 four_words (a ∷ b ∷ c ∷ d ∷ f ∷ rest) found e = absurd (none-some found e)
 
--- a request that asks for a place alone
+-- a request that asks for a key alone
 of_place : (verb : List ℕ) (made : KeyRef → Request) → ((at : KeyRef) (said : List (List ℕ)) → VerbAndKeyRef verb at said → RequestWords (made at) said) → (args : List (List ℕ)) (request : Request) → option_map made (key_ref_in args) ≡ Some request → RequestWords request (verb ∷ args)
 of_place verb made shape args request e =
     let at = map_some made (key_ref_in args) request e in
@@ -66,7 +66,7 @@ of_place verb made shape args request e =
     subst (λ r. RequestWords r (verb ∷ args)) at.2
     (shape at.0 (verb ∷ args) (word.0, ap (λ ws. verb ∷ ws) (one_word args word.0 word.1), parsed_place word.0 at.0 word.2))
 
--- a request that asks for a place and a name
+-- a request that asks for a key and a name
 of_name : (verb : List ℕ) (made : KeyRef × List ℕ → Request) → ((at : KeyRef) (name : List ℕ) (said : List (List ℕ)) → VerbKeyRefAndName verb at name said → RequestWords (made (at, name)) said) → (args : List (List ℕ)) (request : Request) → option_map made (named_in args) ≡ Some request → RequestWords request (verb ∷ args)
 of_name verb made shape args request e =
     let found = map_some made (named_in args) request e in
@@ -103,7 +103,7 @@ first_word Parsed verb text args x this other here further e = elim (is_or_not (
   | inr not_same ↦ further (sym (ap (λ test. cond test this other) not_same) ∙ e)
 ]
 
--- and one that is read is spelled
+-- and one that is parsed is a request by the grammar
 pub parsed_request : (verb : List ℕ) (args : List (List ℕ)) (request : Request) → request_with verb args ≡ Some request → RequestWords request (verb ∷ args)
 parsed_request verb args request e =
     first_word RequestWords verb (codes "create") args request _ _ (of_place (codes "create") (λ at. Create at) (λ at said h. h) args request)

@@ -1,4 +1,4 @@
--- The units that are read of a word are those that it spells.
+-- The units that are parsed of a word are those by the grammar.
 use Rattle.std.proofs.Common.{◌≡◌, ◌≢◌, ℕ, zero, suc, ◌≤◌, ◌==◌, Bool, true, false, cond, List, [], ◌∷◌, ◌++◌, length, take, drop, Option, Some, None, Result, Ok, Err, refl, sym, ◌∙◌, ap, subst, arith, inl, inr}
 use Rattle.std.specs.Prelude.{nat_le, ◌⊎◌, IsOk, if◌then◌else◌}
 use Rattle.std.specs.Option.{option_map, option_and_then}
@@ -111,7 +111,7 @@ no_such : (b : ℕ) (test : Bool) → (b == 37) ≡ test → (b ≢ 37) → test
 no_such b true e h = absurd (h ((Decides-eqb b 37).0 e))
 no_such b false e h = refl
 
--- what a word spells is read of it
+-- the units of a word by the grammar are parsed
 pub read_units : (word units : List ℕ) → AreUnits word units → units_of word ≡ Some units
 read_units word [] e = ap units_of e
 read_units word (unit ∷ units) (piece, rest, e, inl plain, more) =
@@ -128,7 +128,7 @@ pub test_some : {A : Type 0} (test : Bool) (o : Option A) (y : A) → cond test 
 test_some true o y e = (refl, e)
 test_some false o y e = absurd (none-some y e)
 
--- a word that begins with `%`: four hex digits stand behind it
+-- a word that begins with `%`: four hex digits follow it
 pub percent_first : (rest units : List ℕ) → units_of (37 ∷ rest) ≡ Some units → (pair : List ℕ) × (4 ≤ length rest) × (decode_sized (take 4 rest) 2 ≡ Ok pair)
 percent_first rest units e =
     let here : (37 == 37) ≡ true = refl in
@@ -162,7 +162,7 @@ not_percent b e same = differs (sym e ∙ (Decides-eqb b 37).1 same)
 shorter : (rest : List ℕ) (n : ℕ) → suc (length rest) ≤ suc n → length (drop 4 rest) ≤ n
 shorter rest n h = let cut = length-drop 4 rest in omega (arith, h, cut)
 
--- what is read of a word is spelled by it
+-- units that are parsed of a word are its units by the grammar
 parsed_within : (n : ℕ) (word units : List ℕ) → length word ≤ n → units_of word ≡ Some units → AreUnits word units
 parsed_within n [] units h e = none_left units e
 parsed_within zero (b ∷ rest) units h e = absurd (omega (arith, h))

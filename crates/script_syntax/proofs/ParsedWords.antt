@@ -1,4 +1,4 @@
--- What is read of one word is what it spells: numbers, places, names and bytes.
+-- What is parsed of one word is what the grammar says: numbers, keys, names and bytes.
 use Rattle.std.proofs.Common.{◌≡◌, ◌≢◌, ℕ, ◌-◌, ◌≤◌, ◌==◌, ◌&&◌, Bool, true, false, cond, List, [], ◌∷◌, ◌++◌, length, Option, Some, None, refl, sym, ◌∙◌, ap, subst, arith, inl, inr}
 use Rattle.std.specs.Prelude.{nat_le, nat_lt, codes, replicate}
 use Rattle.std.specs.Option.{option_map, option_and_then}
@@ -19,7 +19,7 @@ use Rattle.script_syntax.specs.declared.line.KeyRef.{KeyRef}
 use Rattle.script_syntax.proofs.Cuts.{is_or_not, before_here, before_front, behind_here, behind_front, cut_back}
 use Rattle.script_syntax.proofs.ParsedUnits.{map_some, then_some, decoded_ok, read_units, parsed_units}
 
--- a number that is spelled is read
+-- a number by the grammar is parsed
 pub read_number : (most : ℕ) (word : List ℕ) (number : ℕ) → IsDecimal word number → number ≤ most → number_of most word ≡ Some number
 read_number most word number d h =
     let some : nat_lt 0 (length word) ≡ true = grind (arith, nat_tests, d.some) in
@@ -27,7 +27,7 @@ read_number most word number d h =
     let all = and_from (nat_lt 0 (length word) && list_all is_ascii_digit word) (nat_le (digits_value 10 word) most) (and_from (nat_lt 0 (length word)) (list_all is_ascii_digit word) some d.digits) within in
     ap (λ test. cond test (Some (digits_value 10 word)) None) all ∙ ap Some (sym d.value)
 
--- and one that is read is spelled
+-- and one that is parsed is a number by the grammar
 pub parsed_number : (most : ℕ) (word : List ℕ) (number : ℕ) → number_of most word ≡ Some number → IsDecimal word number × (number ≤ most)
 parsed_number most word number e =
     let found = cond_some (nat_lt 0 (length word) && list_all is_ascii_digit word && nat_le (digits_value 10 word) most) (digits_value 10 word) number e in
@@ -49,7 +49,7 @@ digits_without_colon (d ∷ ds) h =
     let parts = and_parts (is_ascii_digit d) (list_all is_ascii_digit ds) h in
     (no_colon d (d == 58) refl parts.0, digits_without_colon ds parts.1)
 
--- a place that is spelled is read
+-- a key by the grammar is parsed
 pub read_place : (word : List ℕ) (key_ref : KeyRef) → IsKeyRef word key_ref → key_ref_of word ≡ Some key_ref
 read_place word key_ref p =
     let here : (58 == 58) ≡ true = refl in
@@ -61,7 +61,7 @@ read_place word key_ref p =
     ∙ ap (λ hive. placed hive (units_of p.text)) (read_number 255 p.number key_ref.hive p.hive p.within)
     ∙ ap (λ units. placed (Some key_ref.hive) units) (read_units p.text key_ref.path p.path)
 
--- and one that is read is spelled
+-- and one that is parsed is a key by the grammar
 pub parsed_place : (word : List ℕ) (key_ref : KeyRef) → key_ref_of word ≡ Some key_ref → IsKeyRef word key_ref
 parsed_place word key_ref e =
     let hive = then_some (λ number. option_map (λ units. record { hive = number; path = units }) (option_and_then units_of (behind 58 word))) (number_of 255 (before 58 word)) key_ref e in
@@ -147,7 +147,7 @@ parsed_data word bytes e = elim (is_or_not (bytes_eq word (codes "-"))) [
       ]
 ]
 
--- a label that is spelled is read
+-- a label by the grammar is parsed
 pub read_label : (word label : List ℕ) → IsLabel word label → label_of word ≡ Some label
 read_label word label l =
     let some : nat_lt 0 (length word) ≡ true = grind (arith, nat_tests, l.some) in
@@ -156,7 +156,7 @@ read_label word label l =
     let all = and_from (nat_lt 0 (length word) && nat_le (length word) LONGEST_LABEL) (list_all is_ascii_alphanumeric word) front l.letters in
     ap (λ test. cond test (Some (word ++ replicate (LONGEST_LABEL - length word) 0)) None) all ∙ ap Some (sym l.filled)
 
--- and one that is read is spelled
+-- and one that is parsed is a label by the grammar
 pub parsed_label : (word label : List ℕ) → label_of word ≡ Some label → IsLabel word label
 parsed_label word label e =
     let found = cond_some (nat_lt 0 (length word) && nat_le (length word) LONGEST_LABEL && list_all is_ascii_alphanumeric word) (word ++ replicate (LONGEST_LABEL - length word) 0) label e in

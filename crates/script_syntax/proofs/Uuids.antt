@@ -1,9 +1,9 @@
--- What the reader of UUIDs answers.
+-- What the parser of UUIDs answers.
 use Rattle.std.proofs.Common.{◌≡◌, ℕ, List, Option, Some, None, refl, sym}
 use Rattle.uuid.specs.Text.{parsed}
 use Rattle.script_syntax.specs.Words.{uuid_of}
 
--- a text that is read
+-- a text that is parsed
 pub is_read : (word id : List ℕ) → Some id ≡ parsed word → uuid_of word ≡ Some id
 unfolding uuid_of
 is_read word id e = sym e

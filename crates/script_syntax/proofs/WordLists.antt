@@ -1,4 +1,4 @@
--- The words behind a line's first.
+-- The words after a line's first.
 use Rattle.std.proofs.Common.{◌≡◌, ℕ, ◌<◌, List, [], ◌∷◌, ◌==◌, length, None, refl, arith, ◌∙◌, ap}
 use Rattle.std.specs.List.{slice_split}
 use Rattle.std.proofs.lemmas.List.Splits.{length-slice_split}
@@ -19,7 +19,7 @@ no_line : (line : Line) (parts : List (List ℕ)) → 0 < length parts → alone
 no_line line [] h = absurd (omega (arith, h))
 no_line line (part ∷ parts) h = refl
 
--- behind a blank stands a word, if only one of no bytes
+-- after a blank there is a word, if only one of no bytes
 pub not_alone : (line : Line) (rest : List ℕ) → alone line (slice_split (λ byte. byte == 32) rest) ≡ None
 not_alone line rest =
     let long = length-slice_split (λ byte. byte == 32) rest in

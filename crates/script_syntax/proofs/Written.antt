@@ -1,4 +1,4 @@
--- What a writer holds after one write and another.
+-- What a writer contains after one write and another.
 use Rattle.std.proofs.Common.{◌≡◌, ℕ, ◌+◌, ◌<◌, List, [], ◌∷◌, ◌++◌, length, take, Option, Some, None, refl, sym, subst, ◌∙◌, ap, append_assoc}
 use Rattle.std.specs.Prelude.{slice_index_or, slice_index, ◌/◌, ◌%◌}
 use Rattle.std.specs.List.{flat_map}

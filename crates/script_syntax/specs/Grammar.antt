@@ -1,4 +1,4 @@
--- Which bytes spell which line, said as relations: a word and what it spells, piece by piece.
+-- Which bytes are which line, stated as relations: a word and its value, part by part.
 use Rattle.std.specs.Prelude.{◌≡◌, ◌≢◌, ℕ, ◌-◌, ◌^◌, ◌<◌, ◌≤◌, ◌⊎◌, true, List, [], ◌∷◌, ◌++◌, length, replicate, Some, Ok, codes}
 use Rattle.std.specs.List.{list_all}
 use Rattle.std.specs.Char.{is_ascii_digit, is_ascii_alphanumeric}
@@ -24,7 +24,7 @@ pub record IsDecimal (word : List ℕ) (number : ℕ) : Type 0 where
   pub digits : list_all is_ascii_digit word ≡ true
   pub value : number ≡ digits_value 10 word
 
--- a unit but `%` is spelled by the byte of its number, and any unit by `%` and four hex digits
+-- a unit except `%` is written as the byte of its number, and any unit as `%` and four hex digits
 abbrev pub IsPlain : List ℕ → ℕ → Type 0
 IsPlain piece unit = (unit ≢ 37) × (piece ≡ unit ∷ [])
 
@@ -65,11 +65,11 @@ pub record IsLabel (word label : List ℕ) : Type 0 where
   pub letters : list_all is_ascii_alphanumeric word ≡ true
   pub filled : label ≡ word ++ replicate (LONGEST_LABEL - length word) 0
 
--- a text form of a UUID, as its reader reads it
+-- a text form of a UUID, by its parser
 abbrev pub IsUuid : List ℕ → List ℕ → Type 0
 IsUuid word id = uuid_of word ≡ Some id
 
--- a word with a place behind it; with a place and a name; with a number; with a label
+-- a word with a key after it; with a key and a name; with a number; with a label
 abbrev pub VerbAndKeyRef : List ℕ → KeyRef → List (List ℕ) → Type 0
 VerbAndKeyRef verb at said = (key_ref : List ℕ) × (said ≡ verb ∷ key_ref ∷ []) × IsKeyRef key_ref at
 
@@ -112,7 +112,7 @@ LabLineWords (StopAt call) said = VerbAndNumber (codes "stop") call said × (1 �
 LabLineWords (FailAt call) said = VerbAndNumber (codes "fail") call said × (1 ≤ call) × (call < 2 ^ 64)
 LabLineWords (Crash tear) said = said ≡ codes "crash" ∷ tear_word tear ∷ []
 
--- the words of a line, likewise; a request stands alone, or behind `tx` and a label
+-- the words of a line, likewise; a request is alone, or after `tx` and a label
 abbrev pub LineWords : Line → List (List ℕ) → Type 0
 LineWords (Hives count) said = VerbAndNumber (codes "hives") count said × (1 ≤ count) × (count ≤ MOST_HIVES)
 LineWords (At moment) said = VerbAndNumber (codes "at") moment said × (moment < 2 ^ 64)
@@ -130,6 +130,6 @@ LineWords (Outcome label) said = VerbAndLabel (codes "outcome") label said
 LineWords Flush said = said ≡ codes "flush" ∷ []
 LineWords (Lab line) said = LabLineWords line said
 
--- bytes spell a line where their parts between blanks do
+-- bytes are a line if their parts between blanks are
 abbrev pub BytesParseTo : List ℕ → Line → Type 0
 BytesParseTo bytes line = LineWords line (words bytes)

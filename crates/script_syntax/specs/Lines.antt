@@ -1,4 +1,4 @@
--- Which line the words of a script's line spell, where they spell one.
+-- The line that the words of a script's line are parsed to, if any.
 use Rattle.std.specs.Prelude.{ℕ, ◌^◌, ◌-◌, nat_le, if◌then◌else◌, List, [], ◌∷◌, Option, Some, None, codes}
 use Rattle.std.specs.Option.{option_map, option_and_then}
 use Rattle.std.specs.Str.{bytes_eq}
@@ -13,7 +13,7 @@ use Rattle.script_syntax.specs.declared.lab_line.CrashTear.{CrashTear}
 use Rattle.script_syntax.specs.declared.lab_line.CrashTear.TheVariants.{Old, New, Torn}
 use Rattle.refusals.specs.declared.limits.TheConstants.{MOST_HIVES}
 
--- the words behind the first, where they are one, two or four
+-- the words after the first, if they are one, two or four
 abbrev pub one_of : List (List ℕ) → Option (List ℕ)
 one_of (a ∷ []) = Some a
 one_of _ = None
@@ -26,7 +26,7 @@ abbrev pub four_of : List (List ℕ) → Option (List ℕ × List ℕ × List �
 four_of (a ∷ b ∷ c ∷ d ∷ []) = Some (a, b, c, d)
 four_of _ = None
 
--- a place alone, and a place with the name of a value
+-- a key alone, and a key with the name of a value
 abbrev pub key_ref_in : List (List ℕ) → Option KeyRef
 key_ref_in args = option_and_then key_ref_of (one_of args)
 
@@ -73,7 +73,7 @@ session_line word = option_map (λ number. Session number) (number_of (2 ^ 32 - 
 abbrev pub end_line : List ℕ → Option Line
 end_line word = option_map (λ number. End number) (number_of (2 ^ 32 - 1) word)
 
--- a line of one word: nothing stands behind it
+-- a line of one word: nothing follows it
 abbrev pub alone : Line → List (List ℕ) → Option Line
 alone line [] = Some line
 alone line (word ∷ args) = None
@@ -155,6 +155,6 @@ abbrev pub line_of_words : List (List ℕ) → Option Line
 line_of_words [] = None
 line_of_words (verb ∷ args) = line_with verb args
 
--- the line that bytes spell, where they spell one
+-- the line that bytes are parsed to, if any
 abbrev pub line_of : List ℕ → Option Line
 line_of bytes = line_of_words (words bytes)

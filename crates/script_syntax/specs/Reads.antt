@@ -1,9 +1,9 @@
--- What a reader of words answers.
+-- What a parser of words answers.
 use Rattle.std.specs.Prelude.{◌≡◌, ⊤, Option, Some, None, Result, Ok, Err}
 use Rattle.script_syntax.specs.declared.parse_error.ParseError.{ParseError}
 use Rattle.script_syntax.specs.declared.parse_error.ParseError.TheVariants.{NoMemory, NotUnderstood}
 
--- for want of memory anything may be refused; nothing else is refused but what spells nothing
+-- for lack of memory anything may be refused; else only what parses to nothing is refused
 abbrev pub RefusedAs : {X : Type 0} → ParseError → Option X → Type 0
 RefusedAs NoMemory wanted = ⊤
 RefusedAs NotUnderstood wanted = wanted ≡ None

@@ -9,7 +9,7 @@ use Rattle.refusals.specs.Refusals.{refusal_text}
 use Rattle.script_syntax.specs.declared.reply.ReplyLine.{ReplyLine}
 use Rattle.script_syntax.specs.declared.reply.ReplyLine.TheVariants.{Done, Created, CreatedInside, Opened, Accepted, Value, Keys, Values, Info, Committed, Flushed, StepIdle, StepMore, StepDone, StillActive, HasCommitted, RolledBack, Refused}
 
--- a unit stands for itself from 0x21 to 0x7e, but for `%`; any other is `%` and four hex digits
+-- a unit from 0x21 to 0x7e except `%` is written as itself; any other is `%` and four hex digits
 abbrev pub unit_text : ℕ → List ℕ
 unit_text u = if nat_le 33 u && nat_le u 126 && not (u == 37) then u ∷ [] else 37 ∷ encode_lower (to_be_bytes w16 u)
 
@@ -17,7 +17,7 @@ unit_text u = if nat_le 33 u && nat_le u 126 && not (u == 37) then u ∷ [] else
 abbrev pub name_text : List ℕ → List ℕ
 name_text name = if length name == 0 then codes "@" else if bytes_eq name (64 ∷ []) then codes "%0040" else flat_map unit_text name
 
--- names, each behind a blank
+-- names, each after a blank
 abbrev pub names_text : List (List ℕ) → List ℕ
 names_text names = flat_map (λ name. 32 ∷ name_text name) names
 

@@ -3,7 +3,7 @@ use Rattle.std.specs.Prelude.{ℕ, Bool, true, false}
 use Rattle.script_syntax.specs.declared.status.Status.{Status}
 use Rattle.script_syntax.specs.declared.status.Status.TheVariants.{Clean, Refused, Wrong}
 
--- 0 where no reply was a refusal, 1 where one was, 2 at a line that is none
+-- 0 if no reply was a refusal, 1 if one was, 2 at a line that is none
 abbrev pub code_of : Status → ℕ
 code_of Clean = 0
 code_of Refused = 1

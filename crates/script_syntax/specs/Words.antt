@@ -1,4 +1,4 @@
--- The parts of a line, and what one word of it spells, where it spells something.
+-- The parts of a line, and what one word of it parses to, if anything.
 use Rattle.std.specs.Prelude.{◌≡◌, ℕ, ◌+◌, ◌-◌, ◌==◌, nat_lt, nat_le, ◌&&◌, if◌then◌else◌, List, [], ◌∷◌, ◌++◌, length, take, drop, replicate, Option, Some, None, Result, Ok, Err, codes}
 use Rattle.std.specs.Option.{option_map, option_and_then}
 use Rattle.std.specs.List.{list_all, slice_split, position, before_first}
@@ -13,15 +13,15 @@ use Rattle.uuid.specs.Text.{parsed}
 use Rattle.script_syntax.specs.declared.label.TheConstants.{LONGEST_LABEL}
 use Rattle.script_syntax.specs.declared.line.KeyRef.{KeyRef}
 
--- what stands behind the first separator, where there is one
+-- what follows the first separator, if there is one
 abbrev pub behind : ℕ → List ℕ → Option (List ℕ)
 behind separator bytes = option_map (λ at. drop (at + 1) bytes) (position (λ byte. byte == separator) bytes)
 
--- what stands before the first separator, or all
+-- what is before the first separator, or all
 abbrev pub before : ℕ → List ℕ → List ℕ
 before separator bytes = before_first (λ byte. byte == separator) bytes
 
--- the parts between the separators of what stands behind one
+-- the parts between the separators of what follows one
 abbrev pub parts_of : ℕ → Option (List ℕ) → List (List ℕ)
 parts_of separator None = []
 parts_of separator (Some bytes) = slice_split (λ byte. byte == separator) bytes
@@ -30,33 +30,33 @@ parts_of separator (Some bytes) = slice_split (λ byte. byte == separator) bytes
 abbrev pub words : List ℕ → List (List ℕ)
 words bytes = slice_split (λ byte. byte == 32) bytes
 
--- the number that one digit or more spell, if it is at most this
+-- the number that one or more digits parse to, if it is at most this
 abbrev pub number_of : ℕ → List ℕ → Option ℕ
 number_of most word =
     if nat_lt 0 (length word) && list_all is_ascii_digit word && nat_le (digits_value 10 word) most then Some (digits_value 10 word) else None
 
--- what hex text stands for, where it is some
+-- the bytes of hex text, if it is hex text
 abbrev pub decoded : Result (List ℕ) FromHexError → Option (List ℕ)
 decoded (Ok bytes) = Some bytes
 decoded (Err fault) = None
 
--- the bytes that pairs of hex digits spell, at least one pair; a minus alone spells none
+-- the bytes of pairs of hex digits, at least one pair; a minus alone is no bytes
 abbrev pub data_of : List ℕ → Option (List ℕ)
 data_of word = if bytes_eq word (codes "-") then Some [] else if length word == 0 then None else decoded (decode_of word)
 
--- the units that a part behind a `%` spells: four hex digits are one unit, and what follows stands for itself
+-- the units of a part after a `%`: four hex digits are one unit, and each byte that follows is its own unit
 abbrev pub escaped_unit : Option (List ℕ) → List ℕ → Option (List ℕ)
 escaped_unit digits rest = option_map (λ pair. from_be_bytes w16 pair ∷ rest) digits
 
 abbrev pub escaped : List ℕ → Option (List ℕ)
 escaped part = if nat_le 4 (length part) then escaped_unit (decoded (decode_sized (take 4 part) 2)) (drop 4 part) else None
 
--- the units of all parts, where each spells some
+-- the units of all parts, if each has some
 abbrev pub all_escaped : List (List ℕ) → Option (List ℕ)
 all_escaped [] = Some []
 all_escaped (part ∷ parts) = option_and_then (λ front. option_map (λ rest. front ++ rest) (all_escaped parts)) (escaped part)
 
--- the units that a text spells: `%` and four hex digits is that unit, any other byte is the unit of its number
+-- the units of a text: `%` and four hex digits is that unit, any other byte is the unit of its number
 abbrev pub units_of : List ℕ → Option (List ℕ)
 units_of word = option_map (λ rest. before 37 word ++ rest) (all_escaped (parts_of 37 (behind 37 word)))
 
@@ -81,6 +81,6 @@ label_of word =
 unfoldable pub uuid_of : List ℕ → Option (List ℕ)
 uuid_of word = parsed word
 
--- what a part behind a `%` spells has come behind the units before it
+-- the units of a part after a `%` are appended to the units before it
 abbrev pub AddsEscaped : List ℕ → List ℕ → List ℕ → Type 0
 AddsEscaped part old new = (units : List ℕ) × (escaped part ≡ Some units) × (new ≡ old ++ units)

@@ -1,4 +1,4 @@
-//! The lines that a laboratory takes beside those of any script.
+//! The lines that only a laboratory takes.
 
 use crate::label::Label;
 
@@ -16,7 +16,7 @@ pub enum CrashTear {
 /// A line that only a laboratory takes: a single step, a failure of the device to come, or a loss of power.
 #[derive(Drop)]
 pub enum LabLine {
-    /// `accept T`: commits the transaction, without waiting until that lasts.
+    /// `accept T`: commits the transaction, without waiting until the change is durable.
     Accept {
         /// The transaction's label.
         label: Label,

@@ -8,8 +8,8 @@ use std::marker::Model;
 /// Bytes of the longest label.
 pub const LONGEST_LABEL: usize = 16;
 
-/// A label of a transaction in a script: 1 to 16 ASCII letters or digits, filled up with zeros. It takes no memory.
-/// Two labels are one where their bytes are: a letter in upper case is another than in lower case.
+/// A label of a transaction in a script: 1 to 16 ASCII letters or digits, filled up with zeros. It takes no memory. Two
+/// labels are the same if their bytes are: a letter in upper case differs from the letter in lower case.
 #[derive(Clone, Copy)]
 pub struct Label([u8; LONGEST_LABEL]);
 
@@ -26,7 +26,7 @@ impl Model for Label {
 impl Label {
     ghost use Rattle.script_syntax.specs.Words.{label_of};
 
-    /// The label that a word spells, where it spells one.
+    /// The label that a word is, if it is one.
     pub(crate) fn read(word: &[u8]) -> Option<Label>
         ensures { result ≡ label_of word.now }
     {
@@ -38,7 +38,7 @@ impl Label {
         Some(Label(bytes))
     }
 
-    /// The letters and digits in order, and zeros behind them.
+    /// The letters and digits in order, and zeros after them.
     pub fn bytes(self) -> [u8; LONGEST_LABEL]
         ensures { result ≡ self }
     {

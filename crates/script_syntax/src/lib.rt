@@ -1,12 +1,12 @@
-//! The script language of the program: which lines there are, how bytes spell them, and the text of replies.
+//! The script language of the program: which lines there are, how they are parsed, and the text of replies.
 //!
-//! [`read_line`] reads the bytes of one line as a [`Line`], or says that they are none. A line is understood whole or not at
-//! all: paths and names stand in it as texts of units ([`Text`]), and whether they may be names is judged by whoever carries
-//! the line out. What a line is answered is a [`ReplyLine`], which writes its text into any writer without taking memory,
-//! so that a change that was accepted is always told. [`Status`] is how a run went.
+//! [`read_line`] parses the bytes of one line to a [`Line`], or refuses them. A line is understood whole or not at all.
+//! Paths and names in it are texts of units ([`Text`]); whoever carries the line out judges if they may be names. The
+//! reply to a line is a [`ReplyLine`], which writes its text into any writer without taking memory. So an accepted
+//! change is always reported. [`Status`] is how a run went.
 //!
-//! What is promised: a line is read exactly where the grammar spells it, and no bytes spell two lines ([`grammar`]); a reply
-//! has one text.
+//! What is promised: bytes are parsed to a line exactly if the grammar has them as that line, and no bytes are two
+//! lines ([`grammar`]). A reply has one text.
 #![tactic(auto)]
 
 pub mod grammar;

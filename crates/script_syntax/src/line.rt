@@ -7,8 +7,8 @@ use reg_tree::Data;
 use std::marker::Model;
 use uuid::Uuid;
 
-/// UTF-16 units as a word of a script spells them: the text of a path, or the name of a value. They may be no name
-/// that a call takes; the call judges that.
+/// UTF-16 units from a word of a script: the text of a path, or the name of a value. They may be no name that a call
+/// takes; the call judges that.
 #[derive(Drop)]
 pub struct Text {
     units: Vec<u16>,
@@ -37,7 +37,7 @@ impl Text {
     }
 }
 
-/// Where a key stands: `HIVE:PATH`.
+/// A reference to a key: `HIVE:PATH`.
 #[derive(Drop)]
 pub struct KeyRef {
     /// The hive's number.
@@ -51,17 +51,17 @@ pub struct KeyRef {
 pub enum Request {
     /// `create P`: creates a key.
     Create {
-        /// Where the key stands.
+        /// The key.
         key_ref: KeyRef,
     },
     /// `delete P`: deletes a key.
     Delete {
-        /// Where the key stands.
+        /// The key.
         key_ref: KeyRef,
     },
     /// `set P NAME TYPE HEX`: writes a value.
     Set {
-        /// Where the key stands.
+        /// The key.
         key_ref: KeyRef,
         /// The value's name.
         name: Text,
@@ -72,31 +72,31 @@ pub enum Request {
     },
     /// `unset P NAME`: deletes a value.
     Unset {
-        /// Where the key stands.
+        /// The key.
         key_ref: KeyRef,
         /// The value's name.
         name: Text,
     },
     /// `get P NAME`: reads a value.
     Get {
-        /// Where the key stands.
+        /// The key.
         key_ref: KeyRef,
         /// The value's name.
         name: Text,
     },
     /// `keys P`: lists the names of subkeys.
     Keys {
-        /// Where the key stands.
+        /// The key.
         key_ref: KeyRef,
     },
     /// `values P`: lists the names of values.
     Values {
-        /// Where the key stands.
+        /// The key.
         key_ref: KeyRef,
     },
-    /// `info P`: counts subkeys and values, and tells the moment of the last write.
+    /// `info P`: counts subkeys and values, and answers the moment of the last write.
     Info {
-        /// Where the key stands.
+        /// The key.
         key_ref: KeyRef,
     },
 }
@@ -114,7 +114,7 @@ pub enum Line {
         /// The moment.
         moment: u64,
     },
-    /// `session N`: opens the session where it isn't open, and makes it the current one.
+    /// `session N`: opens the session if it isn't open, and makes it the current one.
     Session {
         /// The session's number.
         number: u32,

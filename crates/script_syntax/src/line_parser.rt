@@ -16,10 +16,10 @@ use crate::words::{first_word, next_word, one_word, two_words};
 use refusals::limits::MOST_HIVES;
 use std::alloc::Global;
 
-/// Reads one line, without the byte that ends it.
+/// Parses one line, without the byte that ends it.
 ///
-/// Refused with `NotUnderstood` exactly where the bytes spell no line. A name or a path in a line may be no name that
-/// a call takes: that is for the call to judge.
+/// Refused with `NotUnderstood` exactly if the bytes are no line. A name or a path in a line may be no name that a call
+/// takes: the call judges that.
 pub fn read_line(alloc: Global, bytes: &[u8]) -> Result<Line, ParseError>
     ensures { Reads result (line_of bytes.now) }
 {
@@ -96,7 +96,7 @@ fn end(word: &[u8]) -> Result<Line, ParseError>
     Ok(Line::End { number })
 }
 
-/// A line of one word, behind which nothing stands.
+/// A line of one word, after which nothing follows.
 pub(crate) fn alone(line: Line, rest: Option<&[u8]>) -> Result<Line, ParseError>
     ensures { Reads result (alone line (parts_of 32 (option_copied rest.entry))) }
 {
@@ -123,7 +123,7 @@ fn inside(alloc: Global, rest: Option<&[u8]>) -> Result<Line, ParseError>
     Ok(Line::Inside { label, request })
 }
 
-/// The label that stands alone behind a blank.
+/// The label that is alone after a blank.
 pub(crate) fn label_alone(rest: Option<&[u8]>) -> Result<Label, ParseError>
     ensures { Reads result (label_in (parts_of 32 (option_copied rest.entry))) }
 {

@@ -1,10 +1,11 @@
-//! Numbers and bytes that words spell.
+//! Numbers and bytes that words parse to.
 ghost use Rattle.std.specs.Prelude.{◌≡◌};
 ghost use Rattle.std.specs.List.{list_all};
 ghost use Rattle.std.specs.Char.{is_ascii_digit};
 ghost use Rattle.script_syntax.specs.Words.{number_of};
 
-/// The number that one decimal digit or more spell, if it is at most `most`. No sign is a digit; leading zeros are.
+/// The number that one or more decimal digits parse to, if it is at most `most`. A sign is no digit; leading zeros are
+/// allowed.
 pub(crate) fn number(word: &[u8], most: u64) -> Option<u64>
     ensures { result ≡ number_of most word.now }
 {

@@ -66,7 +66,7 @@ pub fn write_data<W: Write>(writer: &mut W, bytes: &[u8]) -> io::Result<()>
     }
 }
 
-// the bytes as pairs of hex digits, a piece at a time
+// the bytes as pairs of hex digits, a chunk at a time
 fn write_hex<W: Write>(writer: &mut W, bytes: &[u8]) -> io::Result<()>
     ensures { OnOk result (Appends (W.contents writer.old) (W.contents writer.new)
         (encode_lower bytes.now)) }
@@ -80,7 +80,7 @@ fn write_hex<W: Write>(writer: &mut W, bytes: &[u8]) -> io::Result<()>
     Ok(())
 }
 
-// at most a piece of bytes as pairs of hex digits
+// at most a chunk of bytes as pairs of hex digits
 fn write_piece<W: Write>(writer: &mut W, piece: &[u8]) -> io::Result<()>
     requires { length piece.now ≤ PIECE }
     ensures { OnOk result (Appends (W.contents writer.old) (W.contents writer.new)

@@ -14,14 +14,14 @@ use std::io::Write;
 pub enum ReplyLine {
     /// `ok`: what was asked for is done.
     Done,
-    /// `created LEVELS accepted N`: so many keys were made, by the change of this number.
+    /// `created LEVELS accepted N`: LEVELS keys were made, by the change of number N.
     Created {
         /// How many keys were made.
         levels: usize,
         /// The change's number.
         number: u64,
     },
-    /// `created LEVELS`: so many keys were made in a transaction.
+    /// `created LEVELS`: LEVELS keys were made in a transaction.
     CreatedInside {
         /// How many keys were made.
         levels: usize,
@@ -59,7 +59,8 @@ pub enum ReplyLine {
         /// The moment of its last write.
         time: u64,
     },
-    /// `committed N`: the transaction's change has this number, and lasts; 0 where there was none.
+    /// `committed N`: the transaction's change has this number, and is durable; 0 if there was
+    /// none.
     Committed {
         /// The change's number.
         number: u64,
@@ -79,7 +80,7 @@ pub enum ReplyLine {
     StillActive,
     /// `committed`: the transaction ended with a commit.
     HasCommitted,
-    /// `rolledback`: the transaction ended, and nothing of it stands.
+    /// `rolledback`: the transaction ended without effect.
     RolledBack,
     /// `E` with its number, a blank and its name: a refusal.
     Refused {
@@ -89,7 +90,7 @@ pub enum ReplyLine {
 }
 
 impl Drop for ReplyLine {
-    // one drop for all that own a reply, whose proofs see no more of it than that
+    // one drop for all that own a reply, whose proofs see no more of it than this contract
     fn drop(self) {
         match self {
             ReplyLine::Value { kind: _, data: _ } => {}
@@ -121,7 +122,7 @@ impl Drop for ReplyLine {
 }
 
 impl ReplyLine {
-    /// Writes the reply's text and the byte that ends its line. It takes no memory of its own.
+    /// Writes the reply's text and the byte that ends its line. It takes no memory.
     pub fn write<W: Write>(&self, writer: &mut W) -> io::Result<()>
         ensures { OnOk result (Appends (W.contents writer.old) (W.contents writer.new)
             (reply_line self.now)) }
@@ -182,7 +183,7 @@ fn write_values<W: Write>(writer: &mut W, names: &Names) -> io::Result<()>
     writer.write_all(b"\n")
 }
 
-// each name behind a blank
+// each name after a blank
 fn write_names<W: Write>(writer: &mut W, names: &[Name]) -> io::Result<()>
     ensures { OnOk result (Appends (W.contents writer.old) (W.contents writer.new)
         (names_text names.now)) }

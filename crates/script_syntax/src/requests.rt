@@ -11,7 +11,7 @@ use crate::word_parser::{data, key_ref, name, whole_number};
 use crate::words::{four_words, next_word, one_word, two_words};
 use std::alloc::Global;
 
-/// The request that stands behind a blank.
+/// The request after a blank.
 pub(crate) fn request(alloc: Global, rest: Option<&[u8]>) -> Result<Request, ParseError>
     ensures { Reads result (request_of_words (parts_of 32 (option_copied rest.entry))) }
 {
@@ -19,7 +19,7 @@ pub(crate) fn request(alloc: Global, rest: Option<&[u8]>) -> Result<Request, Par
     request_with(alloc, verb, rest)
 }
 
-/// The request whose first word this is, with what stands behind that word's blank.
+/// The request whose first word is `verb`, with what follows that word's blank.
 pub(crate) fn request_with(
     alloc: Global,
     verb: &[u8],

@@ -7,14 +7,15 @@ ghost use Rattle.script_syntax.specs.Statuses.{code_of, with_refusal};
 pub enum Status {
     /// Nothing that was printed is a refusal: 0.
     Clean,
-    /// A refusal was printed, or what was to be read could not be read on: 1.
+    /// A refusal was printed, or the input could not be read on: 1.
     Refused,
     /// A line was not understood: 2.
     Wrong,
 }
 
 impl Status {
-    /// The status of a run, of which this is the status from some reply on, where one before that was a refusal.
+    /// The status of a run whose status is `self` from some reply on. `has_refusal` says whether a reply before that
+    /// was a refusal.
     pub fn after(self, has_refusal: bool) -> Status
         ensures { result ≡ with_refusal has_refusal self }
     {

@@ -1,4 +1,4 @@
-//! What one word spells: units, names, places, numbers, labels and bytes.
+//! What one word parses to: units, names, keys, numbers, labels and bytes.
 ghost use Rattle.std.specs.Prelude.{◌≡◌, ◌++◌, ◌∷◌, Some, None, IfOk, MatchResult, map};
 ghost use Rattle.script_syntax.specs.Words.{units_of, escaped, AddsEscaped, name_of, key_ref_of, data_of, number_of, label_of, uuid_of};
 ghost use Rattle.script_syntax.specs.Reads.{Reads, RefusedAs};

@@ -11,7 +11,7 @@ use crate::parse_error::ParseError;
 /// The blank between two words.
 const BLANK: u8 = b' ';
 
-/// What stands before the first separator, and what stands behind it where there is one.
+/// The bytes before the first separator, and those after it if there is one.
 pub(crate) fn first_part(bytes: &[u8], separator: u8) -> (&[u8], Option<&[u8]>)
     ensures before { result.0.now ≡ before separator bytes.now }
     ensures behind { option_copied result.1 ≡ behind separator bytes.now }
@@ -25,7 +25,7 @@ pub(crate) fn first_part(bytes: &[u8], separator: u8) -> (&[u8], Option<&[u8]>)
     }
 }
 
-/// The first word of a line, and what stands behind its blank where there is one.
+/// The first word of a line, and what follows its blank if there is one.
 pub(crate) fn first_word(line: &[u8]) -> (&[u8], Option<&[u8]>)
     ensures { slice_split (λ byte. byte == 32) line.now
         ≡ result.0.now ∷ parts_of 32 (option_copied result.1) }
@@ -33,7 +33,7 @@ pub(crate) fn first_word(line: &[u8]) -> (&[u8], Option<&[u8]>)
     first_part(line, BLANK)
 }
 
-/// The one word that stands behind a blank.
+/// The one word after a blank.
 pub(crate) fn one_word(rest: Option<&[u8]>) -> Result<&[u8], ParseError>
     ensures { ReadsAs (λ word. word.now) result (one_of (parts_of 32 (option_copied rest.entry))) }
 {
@@ -43,7 +43,7 @@ pub(crate) fn one_word(rest: Option<&[u8]>) -> Result<&[u8], ParseError>
     }
 }
 
-/// The two words that stand behind a blank.
+/// The two words after a blank.
 pub(crate) fn two_words(rest: Option<&[u8]>) -> Result<(&[u8], &[u8]), ParseError>
     ensures { ReadsAs (λ found. (found.0.now, found.1.now)) result
         (two_of (parts_of 32 (option_copied rest.entry))) }
@@ -53,7 +53,7 @@ pub(crate) fn two_words(rest: Option<&[u8]>) -> Result<(&[u8], &[u8]), ParseErro
     Ok((first, second))
 }
 
-/// The four words that stand behind a blank.
+/// The four words after a blank.
 pub(crate) fn four_words(rest: Option<&[u8]>) -> Result<(&[u8], &[u8], &[u8], &[u8]), ParseError>
     ensures { ReadsAs (λ found. (found.0.now, found.1.now, found.2.now, found.3.now)) result
         (four_of (parts_of 32 (option_copied rest.entry))) }
@@ -64,7 +64,7 @@ pub(crate) fn four_words(rest: Option<&[u8]>) -> Result<(&[u8], &[u8], &[u8], &[
     Ok((first, second, third, fourth))
 }
 
-/// The first word behind a blank, and what stands behind its blank where there is one.
+/// The first word after a blank, and what follows its blank if there is one.
 pub(crate) fn next_word(rest: Option<&[u8]>) -> Result<(&[u8], Option<&[u8]>), ParseError>
     ensures { MatchResult result (λ found. parts_of 32 (option_copied rest.entry)
         ≡ found.0.now ∷ parts_of 32 (option_copied found.1))
@@ -77,7 +77,7 @@ pub(crate) fn next_word(rest: Option<&[u8]>) -> Result<(&[u8], Option<&[u8]>), P
     }
 }
 
-// where the first separator stands
+// the index of the first separator
 fn separator_in(bytes: &[u8], separator: u8) -> Option<usize>
     ensures { result ≡ position (λ byte. byte == separator) bytes.now }
 {

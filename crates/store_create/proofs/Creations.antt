@@ -1,4 +1,4 @@
--- What a creation leaves, and what is told of it.
+-- What a creation leaves, and what is reported of it.
 use Rattle.std.proofs.Common.{ℕ, List, length, Option, Result, Ok, Err, OnOk, IfOk, IfErr, MatchResult, inl, inr}
 use Rattle.refusals.specs.declared.refusal.Refusal.{Refusal}
 use Rattle.script_syntax.specs.declared.status.Status.{Status}
@@ -32,7 +32,7 @@ not_made_as (Ok x) failed same reason other f h = tt
 not_made_as (Err why) failed same reason other f (inl fault) = inl fault
 not_made_as (Err why) failed same reason other f (inr refused) = inr (f why refused.0, refused.1)
 
--- what is told of a creation of trees
+-- what is reported of a creation of trees
 pub told_of : {E : Type 0} (result : Result Status E) (made : Result (Unit {0}) Refusal) (trees : List TreeMap) (before after : Option (List ℕ)) (stands : List TreeMap → Type 0) (not : Refusal → Type 0)
     → IfOk result (λ status. MatchResult made (λ _. (any : List TreeMap) → OutcomeIsWritten before after (Ok any) status) (λ why. OutcomeIsWritten before after (Err why) status)) → OnOk made (stands trees) → IfErr made not
     → (outcome : Result (List TreeMap) Refusal) × IfOk result (OutcomeIsWritten before after outcome) × MatchResult outcome stands not

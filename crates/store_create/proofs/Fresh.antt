@@ -34,7 +34,7 @@ each_fresh (suc n) (suc i) tree is = each_fresh n i tree is
 none_heavy : (n : ℕ) → SomeIsHeavy (replicate n fresh_tree) → ⊥
 none_heavy n (i, tree, is, heavy) = omega (arith, heavy, ap weight (each_fresh n i tree is), light)
 
--- so want of memory alone refuses them
+-- so only `NoMemory` refuses them
 pub refused_for_memory : (n : ℕ) (why : Refusal) → IsRefusedFor (replicate n fresh_tree) why → why ≡ NoMemory
 refused_for_memory n why (inl memory) = memory
 refused_for_memory n why (inr large) = absurd (none_heavy n large.1)

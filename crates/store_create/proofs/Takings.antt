@@ -1,4 +1,4 @@
--- One file more of an import.
+-- One more file of an import.
 use Rattle.std.proofs.Common.{◌≡◌, ◌⊎◌, ℕ, ◌+◌, zero, suc, List, [], ◌∷◌, ◌++◌, length, refl, sym, ◌∙◌, ap, subst, arith, inl, inr, Option, None, Some, IfSome, Ok, Err, slice_get, length-append}
 use Rattle.std.proofs.lemmas.Option.{same_Some, slice_get_within}
 use Rattle.refusals.specs.declared.refusal.Refusal.{Refusal}
@@ -8,7 +8,7 @@ use Rattle.hive_file_reader.specs.Hives.{FileHoldsHive}
 use Rattle.hive_file_reader.specs.Readings.{FileRefusedAs}
 use Rattle.store_create.specs.Imports.{AreHeldBy, HasTaken, IsRefusalOfFile, Taken, IsOutcomeOfFiles}
 
--- an entry of a list with one behind it is one before it, or that one
+-- an entry of a list with one more at the end is one of the list, or that one
 got_push : {X : Type 0} (xs : List X) (last : X) (i : ℕ) (x : X) → slice_get (xs ++ last ∷ []) i ≡ Some x → (slice_get xs i ≡ Some x) ⊎ ((i ≡ length xs) × (last ≡ x))
 got_push [] last zero x is = inr (refl, same_Some last x is)
 got_push [] last (suc i) x is = absurd (let no : ⊥ = cc in no)
@@ -25,7 +25,7 @@ got_last [] last = refl
 got_last (y ∷ ys) last = got_last ys last
 
 module _ (files : List (Option (List ℕ))) (known : Option (List ℕ)) where
-  -- the trees that files hold, and that of one more
+  -- the trees of files, and that of one more
   pub held_more : (trees : List TreeMap) (tree : TreeMap) → AreHeldBy files trees → IfSome known (λ file. FileHoldsHive file tree) → AreHeldBy (files ++ known ∷ []) (trees ++ tree ∷ [])
   held_more trees tree old holds = record {
     many = length-append trees (tree ∷ []) ∙ ap (λ n. n + 1) old.many ∙ sym (length-append files (known ∷ []));
@@ -38,7 +38,7 @@ module _ (files : List (Option (List ℕ))) (known : Option (List ℕ)) where
       each i file own (inr at) (inl there) = absurd (omega (arith, slice_get_within trees i own there, at.0, old.many))
       each i file own (inr at) (inr there) = subst (FileHoldsHive file) there.1 (subst (λ (o : Option (List ℕ)). IfSome o (λ f. FileHoldsHive f tree)) at.1 holds)
 
-  -- a refusal that was told stays told
+  -- a refusal that was reported stays reported
   pub told_before : (why : Refusal) → IsRefusalOfFile files why → IsRefusalOfFile (files ++ known ∷ []) why
   told_before why (i, other, at, stands) = (i, other, got_before files known i other at, stands)
 
@@ -46,7 +46,7 @@ module _ (files : List (Option (List ℕ))) (known : Option (List ℕ)) where
   pub told_last : (why : Refusal) (place : ℕ) → place ≡ length files → IfSome known (λ file. FileRefusedAs place file why) → IsRefusalOfFile (files ++ known ∷ []) why
   told_last why place is stands = (place, known, ap (slice_get (files ++ known ∷ [])) is ∙ got_last files known, stands)
 
--- want of memory may be told of any file
+-- `NoMemory` may be reported for any file
 memory_stands : (known : Option (List ℕ)) (place : ℕ) → IfSome known (λ file. FileRefusedAs place file NoMemory)
 memory_stands None place = tt
 memory_stands (Some file) place = (NoMemory, inl refl, refl)
@@ -73,7 +73,7 @@ module _ (files : List (Option (List ℕ))) (known : Option (List ℕ)) (old new
   pub taken_without_memory : new.outcome ≡ Err NoMemory → HasTaken (files ++ known ∷ []) new
   taken_without_memory now = taken_refused NoMemory now (memory_stands known old.count)
 
-  -- it holds a tree, as each before it does
+  -- it has a tree, as each file before it
   pub taken_held : (trees : List TreeMap) (tree : TreeMap) → old.outcome ≡ Ok trees → new.outcome ≡ Ok (trees ++ tree ∷ []) → IfSome known (λ file. FileHoldsHive file tree) → HasTaken (files ++ known ∷ []) new
   taken_held trees tree before now holds = record {
     many = more;

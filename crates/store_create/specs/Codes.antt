@@ -1,4 +1,4 @@
--- How what an import shows is told apart: by its parts.
+-- How what an import shows is split into its parts.
 use Rattle.std.specs.Prelude.{ℕ, List, Result, refl}
 use Rattle.std.specs.Coded.{Coded, code_by, coded×, coded_ℕ, coded_list, coded_result}
 use Rattle.std.specs.FinMap as finite

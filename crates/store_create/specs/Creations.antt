@@ -1,4 +1,4 @@
--- A store as it is made, and what is said of it.
+-- A store as it is made, and what is reported of it.
 use Rattle.std.specs.Prelude.{◌≡◌, ◌⊎◌, ℕ, List, length, Option, Result, Ok, Err}
 use Rattle.std.specs.Io.KnownBytes.{Appends}
 use Rattle.refusals.specs.declared.refusal.Refusal.{Refusal}
@@ -15,8 +15,8 @@ use Rattle.engine_invariant.specs.Prefixes.{IsPrimaryOf}
 use Rattle.recovery.specs.Created.{StoreIsCreated, new_store}
 use Rattle.recovery.specs.Recovered.{IsRecovered, seen_in}
 
--- A store of these trees stands on the disk under an id: all of its files is synced, and whatever a crash leaves of them, with
--- honest first sectors, recovers the trees at number 0, as does what a read gives.
+-- A store of these trees is durable on the disk under an id: all of its files are synced. Whatever a crash leaves of
+-- them, with honest first sectors, recovers the trees at number 0, as does what a read gives.
 pub record IsNewStore (id : List ℕ) (trees : List TreeMap) (state : ℕ → FileState) : Type 0 where
   pub made : StoreIsCreated id trees state
   pub recovers : (files : ℕ → List ℕ) → LeavesHonest (IsPrimaryOf (length trees)) state files → IsRecovered files (new_store id trees) 0 trees
@@ -26,16 +26,16 @@ pub record IsNewStore (id : List ℕ) (trees : List TreeMap) (state : ℕ → Fi
 abbrev pub IsNotMade : Type 0 → Type 0 → (Refusal → Type 0) → Refusal → Type 0
 IsNotMade failed same reason why = ((why ≡ DiskFault) × failed) ⊎ (reason why × same)
 
--- what whoever asked for a store is told: that it is made, or why not
+-- the reply to whoever asked for a store: that it is made, or why not
 abbrev pub creation_reply : Result (List TreeMap) Refusal → ReplyLine
 creation_reply (Ok trees) = reply.Done
 creation_reply (Err why) = reply.Refused why
 
--- and with which status
+-- the status of the reply
 abbrev pub creation_status : Result (List TreeMap) Refusal → Status
 creation_status (Ok trees) = status.Clean
 creation_status (Err why) = status.Refused
 
--- what was written is the line of what is told, and this status is its status
+-- what was written is the line of the reply, and this status is its status
 abbrev pub OutcomeIsWritten : Option (List ℕ) → Option (List ℕ) → Result (List TreeMap) Refusal → Status → Type 0
 OutcomeIsWritten before after outcome status = Appends before after (reply_line (creation_reply outcome)) × (status ≡ creation_status outcome)

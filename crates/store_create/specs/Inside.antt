@@ -9,6 +9,6 @@ use Rattle.store_create.specs.declared.import.Import.TheInside.{Inside}
 abbrev pub taken_in : Inside → Taken
 taken_in import = record { count = import.count; outcome = result_map_both (λ trees. trees.items) (λ why. why) import.outcome }
 
--- no more files than hives, and a tree for each of them where none was refused
+-- no more files than hives, and a tree for each of them if none was refused
 abbrev pub IsInPlace : Inside → Type 0
 IsInPlace import = (import.count ≤ MOST_HIVES) × IfOk import.outcome (λ trees. length trees.items ≡ import.count)

@@ -1,4 +1,4 @@
-//! Making a store of trees, and telling whether it is made.
+//! Making a store of trees, and reporting whether it is made.
 ghost use Rattle.std.specs.Prelude.{◌≡◌, ◌<◌, ◌≤◌, List, length, replicate, IfOk, IfErr, OnOk, MatchResult, Ok, Err, Result};
 ghost use Rattle.refusals.specs.declared.limits.TheConstants.{MOST_HIVES};
 ghost use Rattle.refusals.specs.declared.refusal.Refusal.{Refusal};
@@ -19,11 +19,13 @@ use std::io;
 use std::io::Write;
 use uuid::Uuid;
 
-/// Makes a store of so many empty hives, 1 to 16, under an id, and writes whether it is made: `ok`, or the refusal's line. Answers
-/// the status. Each hive has a root without a name, values and subkeys. Whatever the store's files held is gone.
+/// Makes a store of `hives` empty hives, 1 to 16, under an id, and writes whether it is made: `ok`, or the refusal's
+/// line. Answers the status. Each hive has a root without a name, values and subkeys. What the store's files contained
+/// before is lost.
 ///
-/// Refused, in the text, with `NoMemory`: nothing has changed on the disk then; and with `DiskFault` where the device failed:
-/// nothing is said of the store's files then. `Err` says that a write to the writer failed; of the disk the same holds then.
+/// The text reports `NoMemory`: nothing has changed on the disk then. It reports `DiskFault` if the device failed:
+/// nothing is promised of the store's files then. `Err` says that a write to the writer failed; the same holds of the
+/// disk then.
 pub fn make_new<D: Disk, W: Write>(
     alloc: Global,
     disk: &mut D,
@@ -48,7 +50,7 @@ pub fn make_new<D: Disk, W: Write>(
     write_outcome(writer, made)
 }
 
-// makes a store of so many empty hives
+// makes a store of `hives` empty hives
 fn make_fresh<D: Disk>(alloc: Global, disk: &mut D, id: Uuid, hives: usize) -> Result<(), Refusal>
     requires some { 1 ≤ hives }
     requires few { hives ≤ MOST_HIVES }
@@ -64,7 +66,7 @@ fn make_fresh<D: Disk>(alloc: Global, disk: &mut D, id: Uuid, hives: usize) -> R
     make_store(alloc, disk, id, &trees)
 }
 
-/// Makes a store of trees. Refused as [`recovery::create`] is.
+/// Makes a store of trees. Refused with the refusals of [`recovery::create`].
 pub(crate) fn make_store<D: Disk>(
     alloc: Global,
     disk: &mut D,
@@ -83,7 +85,7 @@ pub(crate) fn make_store<D: Disk>(
     create(alloc, disk, id, trees)
 }
 
-/// Writes whether a store was made, and answers the status. The line leaves at once. It takes no memory.
+/// Writes whether a store was made, and answers the status. The line is written out at once. It takes no memory.
 pub(crate) fn write_outcome<W: Write>(
     writer: &mut W,
     made: Result<(), Refusal>,

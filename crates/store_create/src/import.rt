@@ -26,11 +26,11 @@ use uuid::Uuid;
 #[derive(Clone, Copy, Debug, PartialEq, Eq)]
 pub struct SourceFailed;
 
-/// Hives that are imported from files, up to 16, each as the hive of the file's place. A refusal that stands in a file is kept until
-/// the store would be made: the first one is told, though any that stands may be. From then on no tree is kept, and what
-/// the files behind hold counts no more; but they are read.
+/// Hives that are imported from up to 16 files, in the order of the files. The refusal of a file is kept until the
+/// store would be made: the first one is reported, though any of them may be. From then on no tree is kept, and the
+/// content of later files doesn't count; but they are read.
 ///
-/// What is held are the trees, and within a call what [`read_hive`] holds of one file.
+/// The trees are in memory, and within a call what [`read_hive`] keeps of one file.
 #[derive(Drop)]
 pub struct Import {
     // how many files were taken
@@ -65,8 +65,8 @@ impl Import {
         }
     }
 
-    /// Takes the file that a reader gives, as the hive of the next number. It is read as [`read_hive`] does, and what it is
-    /// refused for is kept, want of memory too.
+    /// Takes the file that a reader gives, as the hive of the next number. It is read as [`read_hive`] does, and its
+    /// refusal is kept, `NoMemory` too.
     ///
     /// `Err` says that the reader failed: nothing was taken then.
     pub fn take<R: Read>(&mut self, alloc: Global, reader: &mut R) -> Result<(), SourceFailed>
@@ -84,7 +84,7 @@ impl Import {
         Ok(())
     }
 
-    // the next file, which holds a tree
+    // the next file, which has a tree
     fn keep(&mut self, tree: Tree)
         requires few { self.old.count < MOST_HIVES }
         ensures taken { (files : List (Option (List ℕ))) (known : Option (List ℕ)) →
@@ -114,12 +114,14 @@ impl Import {
         }
     }
 
-    /// Makes a store of the trees of all files that were taken, of which there is one at least, under an id, and writes whether
-    /// it is made: `ok`, or the refusal's line. Answers the status. Whatever the store's files held is gone.
+    /// Makes a store of the trees of all files that were taken, of which there is at least one, under an id. Writes
+    /// whether it is made: `ok`, or the refusal's line. Answers the status. What the store's files contained before is
+    /// lost.
     ///
-    /// Refused, in the text, as the first file that was refused: with `HiveDamaged` of the hive that it was to be, `Unsupported` or
-    /// `TooLarge`; and with `NoMemory`; nothing has changed on the disk then. And with `DiskFault` where the device failed: nothing
-    /// is said of the store's files then. `Err` says that a write to the writer failed; of the disk the same holds then.
+    /// The text reports the refusal of the first file that was refused: `HiveDamaged` of the hive that it was to be,
+    /// `Unsupported` or `TooLarge`; or `NoMemory`. Nothing has changed on the disk then. It reports `DiskFault` if the
+    /// device failed: nothing is promised of the store's files then. `Err` says that a write to the writer failed; the
+    /// same holds of the disk then.
     pub fn make<D: Disk, W: Write>(
         self,
         alloc: Global,

@@ -1,14 +1,15 @@
 //! Making a store: of new hives, or of hives that are imported from files.
 //!
-//! [`make_new`] makes a store of so many empty hives. An [`Import`] takes files one by one, each as the hive of its place, and makes
-//! a store of their trees. Both are told in a line: `ok`, or why there is no store. They work over any disk and writer, and an
-//! import over any readers: whoever calls them says where the store's files are and opens those to be imported.
+//! [`make_new`] makes a store of 1 to 16 empty hives. An [`Import`] takes files one by one, each as the hive of the
+//! next number, and makes a store of their trees. Both report in a line: `ok`, or why there is no store. They work over
+//! any disk and writer, and an import over any readers: whoever calls them chooses the store's files and opens those to
+//! be imported.
 //!
-//! What is promised: what is told is either a store of trees, those of new hives or just those that the files hold, each in its place,
-//! and on a disk that has answered as it should whatever a crash leaves from then on recovers them, at number 0. Or it is a refusal:
-//! that of the device, which failed; or nothing has changed on the disk, and it stands in one of the files, is `TooLarge`, where a
-//! tree is over the weight, or want of memory. Where every write succeeds, what was written is the line of what is told, and the
-//! status is its status.
+//! What is promised: either a store of trees is reported, or a refusal. A store has the trees of new hives, or exactly
+//! those of the files, in their order. On a disk that has answered as it should, whatever a crash leaves from then on
+//! recovers them, at number 0. A refusal is that of the device, which failed; or nothing has changed on the disk, and
+//! the refusal is that of one of the files, `TooLarge` if a tree is over the weight, or `NoMemory`. If every write
+//! succeeds, the line of that report was written, and the status is its status.
 #![tactic(auto)]
 
 mod creation;

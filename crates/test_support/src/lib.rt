@@ -1,7 +1,7 @@
 //! What ends a run of one of the repository's own programs early: of those that tests run and those that `bench/` runs.
 //!
-//! What becomes a [`Fault`] by `?` becomes the stated one: memory that was not given is `NoMemory`, whoever asked for it. The
-//! programs turn it into the status that they state.
+//! Errors that become a [`Fault`] by `?` become the stated one: memory that was not given is `NoMemory`, whoever asked
+//! for it. The programs turn it into the status that they state.
 #![tactic(auto)]
 
 use disk_model::Failed;
@@ -9,7 +9,7 @@ use refusals::Refusal;
 use std::alloc::{AllocError, AllocFailed};
 use std::io;
 
-/// Why a run ends early, or what came in place of what should.
+/// Why a run ends early, or what came instead of the expected.
 #[derive(Clone, Copy)]
 pub enum Fault {
     /// Memory was refused to the program itself.

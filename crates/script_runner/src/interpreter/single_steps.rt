@@ -1,4 +1,4 @@
-//! A script whose caller makes the steps of its store: what a commit and a flush ask, apart from the wait for it.
+//! A script whose caller makes the steps of its store: what a commit and a flush ask, without the wait for it.
 ghost use Rattle.std.specs.Prelude.{◌≡◌};
 ghost use Rattle.store_model.specs.Steps.{Step};
 ghost use Rattle.script_runner.specs.Later.{IsLater};
@@ -17,7 +17,7 @@ use std::alloc::Global;
 use store_model::{Event, Reply};
 
 impl<D: Disk> Interpreter<D> {
-    /// Commits the transaction of the label, without waiting until that lasts.
+    /// Commits the transaction of the label, without waiting until the change is durable.
     pub fn accept(&mut self, label: Label) -> ReplyLine
         ensures reported { IsLabelled ((script_of self.old).labels label)
             (λ tx. Asks (script_of self.old) (Event.CommitAccept (script_of self.old).session tx
@@ -37,7 +37,7 @@ impl<D: Disk> Interpreter<D> {
         }
     }
 
-    /// What the line `commit` asks: the number of the change to wait for, or the reply that it comes to without a wait.
+    /// What the line `commit` asks: answers the number of the change to wait for, or the reply if there is no wait.
     pub fn ask_commit(&mut self, label: Label) -> Result<u64, ReplyLine>
         ensures asked { AsksForCommit (script_of self.old) label result (script_of self.new) }
         ensures later { IsLater D.faithful D.failures (engine_of self.old) (engine_of self.new) }
@@ -62,7 +62,7 @@ impl<D: Disk> Interpreter<D> {
         self.ask_for(Event::FlushAsk)
     }
 
-    /// Asks the store one event beside the lines: nothing else of the script changes.
+    /// Asks the store one event outside the lines: nothing else of the script changes.
     pub fn step(&mut self, event: Event) -> Reply
         ensures step { Step (engine_of self.old).machine event result (engine_of self.new).machine }
         ensures rest { script_of self.new
@@ -85,7 +85,7 @@ impl<D: Disk> Interpreter<D> {
 }
 
 impl<D: Disk + Drop> Interpreter<D> {
-    /// Goes on over another store, at the same moment: no label names anything, and session 0 is the current one.
+    /// Continues over another store, at the same moment: no label names anything, and session 0 is the current one.
     pub fn reopen(&mut self, alloc: Global, engine: Engine<D>)
         ensures script { script_of self.new
             ≡ record (script_at engine.machine) { moment = (script_of self.old).moment } }

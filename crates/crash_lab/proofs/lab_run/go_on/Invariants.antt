@@ -5,7 +5,7 @@ use Rattle.crash_lab.specs.LabStates.{lab_state_of}
 use Rattle.crash_lab.specs.Runs.{IsExperimentOn}
 use Rattle.crash_lab.proofs.lab_run.go_on.Given as goal
 
--- however the run goes on from here, it is the whole run with the refusals so far
+-- however the run continues, it is the whole run with the refusals so far
 abbrev pub invariant-loop-number : goal.invariant-loop-number
 invariant-loop-number g l =
     let remaining = g.R.Read.remaining in

@@ -9,7 +9,7 @@ unequal : (same : Bool) → true ≡ not same → false ≡ same
 unequal true is = absurd cc
 unequal false is = refl
 
--- a journal of another store than the one that its header told before isn't there
+-- the journal is of no other store than the one that its header named before
 pub returns-then-ne-clause-fails : goal.returns-then-ne-clause-fails
 returns-then-ne-clause-fails g c = inr (inr (
   refl,

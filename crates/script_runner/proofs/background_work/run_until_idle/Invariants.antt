@@ -5,6 +5,6 @@ use Rattle.script_runner.specs.Later.{IsLater}
 use Rattle.script_runner.specs.Work.{MakesSteps}
 use Rattle.script_runner.proofs.background_work.run_until_idle.Given as goal
 
--- however the work goes on from here, it is the whole work; and the store has gone on so far
+-- however the work continues, it is the whole work; and the store was reached from the first one
 abbrev pub invariant-loop : goal.invariant-loop
 invariant-loop g l = IsLater g.D.Disk.faithful g.D.Disk.failures l.fn.engine l.engine × ((ended : Option Refusal) (new : Machine) → MakesSteps ended l.engine.machine new → MakesSteps ended l.fn.engine.machine new)

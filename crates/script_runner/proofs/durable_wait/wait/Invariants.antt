@@ -6,7 +6,7 @@ use Rattle.script_runner.specs.Later.{IsLater}
 use Rattle.script_runner.specs.Waits.{IsWaited}
 use Rattle.script_runner.proofs.durable_wait.wait.Given as goal
 
--- however the wait goes on from here, it is the whole wait; and the store has gone on so far
+-- however the wait continues, it is the whole wait; and the store was reached from the first one
 abbrev pub invariant-loop-engine : goal.invariant-loop-engine
 invariant-loop-engine g l = (l.number ≤ last_number l.engine.machine) × IsLater g.D.Disk.faithful g.D.Disk.failures l.fn.engine l.engine × ((ended : Option Refusal) (new : Machine) → IsWaited l.engine.machine l.number ended new → IsWaited l.fn.engine.machine l.number ended new)
 

@@ -7,7 +7,7 @@ use Rattle.script_runner.specs.Scripts.{Script}
 use Rattle.script_syntax.specs.declared.status.Status.{Status}
 use Rattle.script_runner.proofs.runner.go_on.Given as goal
 
--- however the run goes on from here, it is the whole run with the refusals so far; and the store has gone on so far
+-- however the run continues, it is the whole run with the refusals so far; and the store was reached from the first one
 abbrev pub invariant-loop-number : goal.invariant-loop-number
 invariant-loop-number g l =
     let remaining = g.R.Read.remaining in

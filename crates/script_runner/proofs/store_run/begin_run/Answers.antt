@@ -20,7 +20,7 @@ returns-in-Ok-writeln-clause-begun g c =
       reported = c.in-Ok-writeln.ensures.bytes;
     }
 
--- why no store was opened is told
+-- why no store was opened is reported
 pub returns-in-Err-clause-unopened : goal.returns-in-Err-clause-unopened
 returns-in-Err-clause-unopened g c = IfOk-weaker c.write_refusal.result _ _ (λ status reported.
     record { why = c.in-Err.why; may = c.in-Err.ensures.err; reported = reported.1; status_is = reported.0 }) c.write_refusal.ensures

@@ -5,7 +5,7 @@ use Rattle.script_runner.specs.Scripts.{Script}
 use Rattle.crash_lab.specs.Experiments.{Flushes, IsFlushedWhole, most_steps}
 use Rattle.crash_lab.proofs.lab_state.Laboratory.flush_whole.Given as goal
 
--- however the flush goes on from here, it is the whole flush; and nothing is asked of the device
+-- however the flush continues, it is the whole flush; and nothing is asked of the device
 abbrev pub invariant-loop-made : goal.invariant-loop-made
 invariant-loop-made l =
     (l.self.device ≡ l.fn.self.device)
