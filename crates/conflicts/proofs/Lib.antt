@@ -20,7 +20,7 @@ pub mod Commutes
 pub mod EitherOrder
 pub mod Tests
 pub mod Past
-pub mod Machine
+pub mod ClaimState
 pub mod Closed
 pub mod Levels
 pub mod Root

@@ -6,6 +6,6 @@ pub mod Index
 pub mod ClaimIndexes
 pub mod Skeleton
 pub mod Legal
-pub mod Machine
+pub mod ClaimState
 pub mod Closed
 pub mod Levels
