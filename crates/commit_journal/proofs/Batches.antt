@@ -97,7 +97,7 @@ all_taken P (suc n) (x ∷ xs) all = (all.0, all_taken P n xs all.1)
 module _ (hives : ℕ) (le : hives ≤ 256) where
   -- a change that fits is read as an element of the journal, whatever follows
   pub reads : (e : Element) (rest : List ℕ) → Fits hives e → timed_at hives (element_bytes e ++ rest) ≡ Some (timed_element e, rest)
-  reads e rest fits = ap (λ (o : Option (Element × List ℕ)). option_map (λ got. (timed_element got.0, got.1)) o) ((element_law hives le).sized_element e rest fits)
+  reads e rest fits = ap (λ (o : Option (Element × List ℕ)). option_map (λ got. (timed_element got.0, got.1)) o) ((element_law hives le).again e rest fits)
 
   abbrev Fitting : Type 0
   Fitting = (e : Element) × Fits hives e

@@ -57,7 +57,7 @@ module _ (hives : ℕ) (le : hives ≤ 256) where
         low = omega (arith, n);
         there = omega (arith, n, ap (λ (l : List ℕ). length l) b.0, length-append (element_bytes got.0) got.1, long);
         element = got.0;
-        read = ap (element_at hives) prefix ∙ (element_law hives le).sized_element got.0 [] b.1;
+        read = ap (element_at hives) prefix ∙ (element_law hives le).again got.0 [] b.1;
       })
 
   -- an element that was read of as many bytes as its length says is also read of more bytes
@@ -82,7 +82,7 @@ module _ (hives : ℕ) (le : hives ≤ 256) where
       let n : element_encoded_len e ≡ len = sym (length_read hives e rest bytes b.1 b.0) ∙ is in
       let prefix : take len bytes ≡ element_bytes e ++ []
       = ap (λ (l : List ℕ). take len l) b.0 ∙ take_at (element_bytes e) rest len (element_length e ∙ n) ∙ sym (append-nil (element_bytes e)) in
-      (ap (element_at hives) prefix ∙ (element_law hives le).sized_element e [] b.1, n)
+      (ap (element_at hives) prefix ∙ (element_law hives le).again e [] b.1, n)
 
   -- if bytes begin with no element, none is read of the first of them
   pub none_front : (bytes : List ℕ) (len : ℕ) → element_at hives bytes ≡ None → element_at hives (take len bytes) ≡ None
@@ -90,4 +90,4 @@ module _ (hives : ℕ) (le : hives ≤ 256) where
       let b = (element_law hives le).back (take len bytes) one.0 one.1 h in
       let whole : bytes ≡ element_bytes one.0 ++ (one.1 ++ drop len bytes)
       = sym (take-append-drop len bytes) ∙ ap (λ (l : List ℕ). l ++ drop len bytes) b.0 ∙ append_assoc (element_bytes one.0) one.1 (drop len bytes) in
-      none-some (one.0, one.1 ++ drop len bytes) (sym none ∙ ap (element_at hives) whole ∙ (element_law hives le).sized_element one.0 (one.1 ++ drop len bytes) b.1))
+      none-some (one.0, one.1 ++ drop len bytes) (sym none ∙ ap (element_at hives) whole ∙ (element_law hives le).again one.0 (one.1 ++ drop len bytes) b.1))

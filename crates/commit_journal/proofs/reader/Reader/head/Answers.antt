@@ -67,10 +67,10 @@ partial_body-requires c =
     let r = c.args.self.now in
     let goes = c.if-not-may_follow.ensures.0 refl in
     let start : c.count-start.result ≡ length (read_by r) = omega (arith, c.count-start.ensures, ap length c.requires.keeps.ghost_log, length-map (read_by r) timed_element) in
-    let sized_element : c.count-start.result ≡ length (logged_changes c.continue_at.new.self.read) = omega (arith, c.count-start.ensures, ap length c.requires.keeps.ghost_log, length-map (read_by r) timed_element, ap length c.continue_at.ensures.read) in
+    let again : c.count-start.result ≡ length (logged_changes c.continue_at.new.self.read) = omega (arith, c.count-start.ensures, ap length c.requires.keeps.ghost_log, length-map (read_by r) timed_element, ap length c.continue_at.ensures.read) in
     record {
       elements = head_keeps r.hives r.on_device (read_by r) (logged_changes c.continue_at.new.self.read) c.count-start.result c.continue_at.ensures.read start c.requires.keeps;
-      partial_body = head_part r.on_device (logged_changes c.continue_at.new.self.read) c.read_u64-first.result c.from-size.result c.from-count.result c.count-start.result sized_element goes (omega (arith, c.if-size-lt-HEAD_BYTES.false)) (omega (arith, c.if-size-gt-MOST_BODY_BYTES.false));
-      tied = omega (arith, c.continue_at.ensures.last, sized_element, length-drop c.count-start.result (logged_changes c.continue_at.new.self.read));
+      partial_body = head_part r.on_device (logged_changes c.continue_at.new.self.read) c.read_u64-first.result c.from-size.result c.from-count.result c.count-start.result again goes (omega (arith, c.if-size-lt-HEAD_BYTES.false)) (omega (arith, c.if-size-gt-MOST_BODY_BYTES.false));
+      tied = omega (arith, c.continue_at.ensures.last, again, length-drop c.count-start.result (logged_changes c.continue_at.new.self.read));
       kept = c.continue_at.ensures.kept;
     }
