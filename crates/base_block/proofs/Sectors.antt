@@ -26,7 +26,7 @@ block signature primary secondary last_written major minor file_type format root
       sum_is_right = sum_is_right;
     }
 
--- what is put so far, and the zeros behind it
+-- what is put so far, and the zeros after it
 pub record Laid (sector front : List ℕ) (at rest : ℕ) : Type 0 where
   pub parts : sector ≡ front ++ zeros rest
   pub len : length front ≡ at
@@ -57,7 +57,7 @@ laid_more old new front bytes at w rest put wide h =
       len = length-append front bytes ∙ rw (h.len, wide) refl;
     }
 
--- a block of the numbers that stand at the offsets
+-- a block of the numbers that are at the offsets
 pub read_as : (bytes store : List ℕ) (signature primary secondary last_written major minor file_type format root bins_size applied sum whole : ℕ)
     → signature ≡ number_at 0 4 bytes → primary ≡ number_at 4 4 bytes → secondary ≡ number_at 8 4 bytes → last_written ≡ number_at 12 8 bytes
     → major ≡ number_at 20 4 bytes → minor ≡ number_at 24 4 bytes → file_type ≡ number_at 28 4 bytes → format ≡ number_at 32 4 bytes
@@ -93,7 +93,7 @@ length-head : (b : BaseBlock) → length (head_of b) ≡ 48
 unfolding head_of
 length-head b = refl
 
--- the bytes behind the head
+-- the bytes after the head
 tail_of : BaseBlock → List ℕ
 tail_of b = little_bytes 8 b.applied.0 ++ (zeros 308 ++ little_bytes 4 (sum_of (body_of b)))
 

@@ -33,7 +33,7 @@ IsPrimary b = IsUsable b × IsPrimaryVersion b × (b.file_type.0 ≡ 0)
 abbrev pub IsLog : BaseBlock → Type 0
 IsLog b = IsUsable b × IsTrue (is_clean_block b) × IsLogVersion b × ((b.file_type.0 ≡ 1) ⊎ (b.file_type.0 ≡ 2))
 
--- why a primary file's block is refused: the refusal's reason stands in the block
+-- why a primary file's block is refused: the refusal's reason is true of the block
 abbrev pub PrimaryRefused : BaseBlock → Refusal → Type 0
 PrimaryRefused b (refusal.HiveDamaged zero cause.BadBase) = (b.signature.0 ≢ 0x6667_6572) ⊎ (¬ IsBinsSize b.bins_size)
 PrimaryRefused b refusal.Unsupported = ¬ (IsPrimaryVersion b × (b.file_type.0 ≡ 0))

@@ -50,7 +50,7 @@ fresh_primary number root bins_size store =
 unfoldable pub zeros : ℕ → List ℕ
 zeros n = replicate n 0
 
--- a list with some bytes put at an offset, over as many that stood there
+-- a list with some bytes put at an offset, over as many that were there
 unfoldable pub put_at : ℕ → List ℕ → List ℕ → List ℕ
 put_at offset bytes old = take offset old ++ (bytes ++ drop (offset + length bytes) old)
 
@@ -67,7 +67,7 @@ head_of b =
 unfoldable pub body_of : BaseBlock → List ℕ
 body_of b = head_of b ++ zeros 128 ++ b.store ++ little_bytes 8 b.applied.0 ++ zeros 308
 
--- the sector that is written of a block: that, and its sum
+-- the sector that is written of a block: those 508 bytes, and their sum
 unfoldable pub sector_of : BaseBlock → List ℕ
 sector_of b = body_of b ++ little_bytes 4 (sum_of (body_of b))
 

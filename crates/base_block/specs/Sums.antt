@@ -12,7 +12,7 @@ abbrev pub xor_of_words : ℕ → List ℕ → ℕ
 xor_of_words zero bytes = 0
 xor_of_words (suc n) bytes = bit_xor (xor_of_words n bytes) (word_at n bytes)
 
--- an XOR as it is stored: 0xfffffffe in place of 0xffffffff, and 1 in place of 0
+-- an XOR as it is stored: 0xfffffffe instead of 0xffffffff, and 1 instead of 0
 abbrev pub stored_sum : ℕ → ℕ
 stored_sum xor = if xor == 0xffff_ffff then 0xffff_fffe else (if xor == 0 then 1 else xor)
 

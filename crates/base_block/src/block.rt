@@ -52,16 +52,16 @@ pub struct BaseBlock {
     pub bins_size: u32,
     /// Offset 176: the store that the hive belongs to.
     pub store: Uuid,
-    /// Offset 192: the last accepted change that the hive holds.
+    /// Offset 192: the last accepted change that the hive has.
     pub applied: AppliedNumber,
-    /// Whether the sum at offset 508 is that of the 508 bytes before it. What is written has the right
-    /// sum, whatever stands here.
+    /// Whether the sum at offset 508 is the sum of the 508 bytes before it. What is written has the
+    /// right sum, whatever this field says.
     pub sum_is_right: bool,
 }
 
 impl BaseBlock {
-    /// A clean block of a primary file of the profile, which was never written since it was made: last
-    /// written at 0, and no change applied.
+    /// A clean block of a primary file of the profile, which was never written since it was made.
+    /// It was last written at 0, and no change is applied.
     pub fn of_primary(number: SequenceNumber, root: u32, bins_size: u32, store: Uuid) -> BaseBlock
         ensures { result ≡ fresh_primary number.0 root bins_size store }
     {
@@ -82,7 +82,7 @@ impl BaseBlock {
         }
     }
 
-    /// The fields of any sector, whatever they hold.
+    /// The fields of any sector, whatever its bytes are.
     pub fn read(sector: &[u8; 512]) -> BaseBlock
         ensures { result ≡ block_at sector.now }
     {
@@ -105,7 +105,7 @@ impl BaseBlock {
         }
     }
 
-    /// The fields of the first sector of a file that begins with these bytes, where they have one.
+    /// The fields of the first sector of a file that begins with these bytes, if they have one.
     pub fn read_first(bytes: &[u8]) -> Option<BaseBlock>
         ensures some { IfSome result (λ block. (block ≡ block_at (take 512 bytes.now))
             × (512 ≤ length bytes.now)) }

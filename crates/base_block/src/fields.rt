@@ -46,6 +46,6 @@ impl FileType {
     }
 }
 
-/// The number of the last accepted change that a hive holds; 0 where it holds none.
+/// The number of the last accepted change that a hive has; 0 if it has none.
 #[derive(Clone, Copy)]
 pub struct AppliedNumber(pub u64);

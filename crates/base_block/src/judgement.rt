@@ -1,5 +1,5 @@
-//! Whether a base block may be used. A block is judged only where it is used: that of a clean primary
-//! file, or that of the log which an unclean one is repaired from.
+//! Whether a base block may be used. A block is judged only if it is used. It is the block of a
+//! clean primary file, or of the log from which an unclean one is repaired.
 
 ghost use Rattle.std.specs.Prelude.{◌≡◌, ◌↔◌, IsOk, IfErr, IsTrue};
 ghost use Rattle.base_block.specs.Judgements.{IsPrimary, IsLog, IsUsable, IsBinsSize, IsPrimaryVersion, IsLogVersion, PrimaryRefused};
@@ -12,7 +12,7 @@ use refusals::{Cause, Refusal};
 // bins data come in bins of this many bytes, or of multiples of it
 const BIN_BYTES: u32 = 4096;
 
-// the numbers of the format, so that a slip in one of them is no crate
+// the numbers of the format, so that the crate isn't built with a wrong one
 const _: () = prove!(MAJOR_VERSION == 1);
 
 const _: () = prove!(MINOR_VERSION == 5);
@@ -22,11 +22,11 @@ const _: () = prove!(FILE_FORMAT == 1);
 const _: () = prove!(BIN_BYTES == 4096);
 
 impl BaseBlock {
-    /// Judges the block of a primary file that is used. Refused with `HiveDamaged` of hive 0 with the
-    /// cause `BadBase` where the signature isn't `regf` or the bins size is 0 or no multiple of 4,096,
-    /// with `Unsupported` where a version, the format or the type is outside a primary file's profile (1.5,
-    /// format 1, type 0), and with `TooLarge` where the bins size is over the limit. Where several of these hold,
-    /// one of them is told.
+    /// Judges the block of a primary file that is used. Refused with `HiveDamaged` of hive 0 and
+    /// the cause `BadBase` if the signature isn't `regf`. Refused so too if the bins size is 0 or
+    /// no multiple of 4,096. Refused with `Unsupported` if a version, the format or the type is
+    /// outside a primary file's profile (1.5, format 1, type 0). Refused with `TooLarge` if the
+    /// bins size is over the limit. If several of these hold, one of them is reported.
     pub fn judge_primary(&self) -> Result<(), Refusal>
         ensures ok { IsOk result ↔ IsPrimary self.now }
         ensures why { IfErr result (PrimaryRefused self.now) }
@@ -43,10 +43,11 @@ impl BaseBlock {
         Ok(())
     }
 
-    /// Judges the block of a log that is used. Refused with `HiveDamaged` of hive 0 with the cause
-    /// `BadLog` alone: where the sum is wrong or the numbers differ, where the signature isn't `regf`, where a
-    /// version or the format is outside a log's profile (1.5, format 1), where the type is neither 1 nor 2,
-    /// and where the bins size is 0, no multiple of 4,096 or over the limit.
+    /// Judges the block of a log that is used. Refused with `HiveDamaged` of hive 0 and the cause
+    /// `BadLog` alone. Refused if the sum is wrong, the numbers differ, or the signature isn't
+    /// `regf`. Refused if a version or the format is outside a log's profile (1.5, format 1), or
+    /// the type is neither 1 nor 2. Refused if the bins size is 0, no multiple of 4,096 or over the
+    /// limit.
     pub fn judge_log(&self) -> Result<(), Refusal>
         ensures ok { IsOk result ↔ IsLog self.now }
         ensures why { IfErr result (λ e. e ≡ Refusal.HiveDamaged 0 Cause.BadLog) }
@@ -57,7 +58,8 @@ impl BaseBlock {
         Err(Refusal::from(Cause::BadLog))
     }
 
-    // whether the signature and the bins size are those of a block that is used, whatever its file is
+    // whether the signature and the bins size are right for a block that is used, whatever its file
+    // is
     fn is_usable(&self) -> bool
         ensures { IsTrue result ↔ IsUsable self.now }
     {

@@ -10,8 +10,8 @@ const WORDS: usize = 127;
 
 const _: () = prove!(WORDS == 127);
 
-/// The sum of the first 508 bytes of a base block: the XOR of their 127 little-endian words, with two
-/// exceptions, 0xffff_fffe for 0xffff_ffff and 1 for 0.
+/// The sum of the first 508 bytes of a base block: the XOR of their 127 little-endian words. There
+/// are two exceptions: 0xffff_fffe for 0xffff_ffff, and 1 for 0.
 pub fn sum(bytes: &[u8; 508]) -> u32
     ensures { result ≡ sum_of bytes.now }
 {

@@ -1,4 +1,4 @@
--- What hangs on the front of a log and of a primary file alone.
+-- What depends on the front of a log and of a primary file alone.
 use Rattle.std.proofs.Common.{◌≡◌, ◌≢◌, ◌≤◌, ℕ, ◌+◌, ◌*◌, ◌/◌, ◌%◌, cond, Bool, List, length, take, drop, sym, ap, subst, ◌∙◌, inl, inr, arith, ◌↔◌}
 use Rattle.std.proofs.lemmas.Bool.{cases_eq, eq-eqb, ne_eqb}
 use Rattle.std.proofs.lemmas.List.{length-take, get_or-take, take-take, drop-take}
@@ -11,12 +11,12 @@ use Rattle.dirt_log.specs.LogEncoding.{bitmap_end, pages_at}
 use Rattle.dirt_log.specs.WholeLog.{LogIsWhole, HasBitmap, HasPages, IsCovered, block_of, bitmap_in, pages_in, page_bytes_in, log_end, repaired}
 use Rattle.dirt_log.proofs.Replaced.{repaired_same, repaired_by, dirty_counts}
 
--- a part of what stands in front
+-- a part of what is in front
 part_same : (n from count : ℕ) (xs : List ℕ) → from + count ≤ n → take count (drop from (take n xs)) ≡ take count (drop from xs)
 part_same n from count xs within =
     sym (drop-take from count (take n xs)) ∙ ap (drop from) (take-take (from + count) n xs within) ∙ drop-take from count xs
 
--- whether so many bytes are there
+-- whether a number of bytes are there
 long_same : (n k : ℕ) (xs : List ℕ) → k ≤ n → (k ≤ length (take n xs)) ↔ (k ≤ length xs)
 long_same n k xs within = ((λ h. omega (arith, length-take n xs)), (λ h. omega (arith, length-take n xs)))
 
@@ -38,7 +38,7 @@ bitmap_same log size n h =
     let there = long_same n (bitmap_end size) log h in
     ((λ b. (sym letters ∙ b.0, there.0 b.1)), (λ b. (letters ∙ b.0, there.1 b.1)))
 
--- the end of a log is behind its bitmap, and behind its pages if it marks any
+-- the end of a log is after its bitmap, and after its pages if it marks any
 end_of : (log : List ℕ) (n : ℕ) → log_end log ≤ n → (bitmap_end (block_of log).bins_size ≤ n) × (512 * dirty_count (pages_in log) ≢ 0 → pages_at (block_of log).bins_size + 512 * dirty_count (pages_in log) ≤ n)
 end_of log n h =
     let size = (block_of log).bins_size in

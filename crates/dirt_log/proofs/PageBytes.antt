@@ -131,7 +131,7 @@ count_le f (suc n) = elim (cases_Bool (f n)) [
 pub few_dirty : (v : Pages) → 512 * dirty_count v ≤ v.bins_size
 few_dirty v = omega (arith, count_le (is_dirty v) (v.bins_size / 512))
 
--- ---- the whole text
+-- ---- the whole encoding
 
 length-zeros : (n : ℕ) → length (zeros n) ≡ n
 unfolding zeros
@@ -154,7 +154,7 @@ unfolding bytes_behind
 length_log image v sector sizes whole =
     omega (arith, length-append (head_bytes v sector) (pages_from image v 0), length_head v sector whole, length_pages image v sizes)
 
--- ---- pieces
+-- ---- chunks
 
 -- all is laid
 pub all_laid : (buffer rest whole : List ℕ) (end : ℕ) → end ≤ 65536 → length buffer ≡ 65536 → rest ≡ [] → take end buffer ++ rest ≡ whole → take end buffer ≡ take 65536 whole
@@ -163,7 +163,7 @@ all_laid buffer rest whole end inside room none bytes =
     let short : length whole ≤ 65536 = omega (arith, sym (ap length same), length-take-le end buffer (omega (arith, inside, room))) in
     same ∙ sym (take_all 65536 whole short)
 
--- the piece is full
+-- the chunk is full
 pub full_laid : (buffer rest whole : List ℕ) (end : ℕ) → end ≡ 65536 → length buffer ≡ 65536 → take end buffer ++ rest ≡ whole → take end buffer ≡ take 65536 whole
 full_laid buffer rest whole end full room bytes =
     let len : length (take end buffer) ≡ 65536 = length-take-le end buffer (omega (arith, full, room)) ∙ full in
@@ -200,9 +200,9 @@ head_laid v sector letters b0 b1 b2 b3 b4 size pages whole are is at e1 e2 e3 e4
     zero_more : (n : ℕ) → 0 + n ≡ n
     zero_more n = omega arith
 
--- ---- pieces of the text
+-- ---- chunks of the encoding
 
--- a later piece begins among the pages
+-- a later chunk begins among the pages
 pub later_chunk : (image : List ℕ) (v : Pages) (sector : List ℕ) (start k : ℕ) → length sector ≡ 512 → pages_at v.bins_size ≤ start → 512 * k ≡ start - pages_at v.bins_size
     → drop start (bytes_behind image v sector) ≡ drop (512 * k) (pages_from image v 0)
 unfolding bytes_behind
@@ -212,7 +212,7 @@ later_chunk image v sector start k whole past skip =
     ∙ sym (drop-drop (512 * k) (pages_at v.bins_size) (head_bytes v sector ++ pages_from image v 0))
     ∙ ap (drop (512 * k)) (drop_at (head_bytes v sector) (pages_from image v 0) (pages_at v.bins_size) (length_head v sector whole))
 
--- how many bytes a piece has
+-- how many bytes a chunk has
 pub chunk_count : (buffer whole : List ℕ) (result : ℕ) → length buffer ≡ 65536 → result ≤ 65536 → take result buffer ≡ take 65536 whole → result ≡ length (take 65536 whole)
 chunk_count buffer whole result room within bytes = sym (length-take-le result buffer (omega (arith, room, within))) ∙ ap length bytes
 
@@ -227,7 +227,7 @@ first_chunk image v sector encoding buffer new index head result is zeroth at la
     ∙ ap (take 65536) is
     ∙ ap (λ (n : ℕ). take 65536 (drop n encoding)) (sym e)
 
--- the offset of a piece among the pages is that of whole pages
+-- the offset of a chunk among the pages is the offset of whole pages
 pub skipped_pages : (size index head skipped : ℕ) → size ≤ 67108864 → index ≢ 0 → head ≡ pages_at size → skipped ≡ (65536 * index - head) / 512 → (pages_at size ≤ 65536 * index) × (512 * skipped ≡ 65536 * index - pages_at size)
 skipped_pages size index head skipped small later at is = (omega (arith, small, later), omega (arith, small, later, at, is))
 

@@ -19,8 +19,8 @@ pub record PrimaryDecodesTo (primary : List ℕ) (block : BaseBlock) (bins : Lis
   pub long : 4096 + block.bins_size ≤ length primary
   pub part : bins ≡ take block.bins_size (drop 4096 primary)
 
--- why a clean primary file with this block and so many bytes may not be used: the block is refused, or the file ends before its
--- bins data do
+-- why a clean primary file with this block and this many bytes may not be used. The block is
+-- refused, or the file ends before its bins data do
 abbrev pub PrimaryFileRefused : BaseBlock → ℕ → Refusal → Type 0
 PrimaryFileRefused block long why = PrimaryRefused block why ⊎ ((why ≡ HiveDamaged 0 Truncated) × IsPrimary block × (long < 4096 + block.bins_size))
 
@@ -35,6 +35,6 @@ pub record LogRepairsTo (primary log : List ℕ) (block : BaseBlock) (bins : Lis
 abbrev pub FilesDecodeTo : List ℕ → List ℕ → BaseBlock → List ℕ → Type 0
 FilesDecodeTo primary log block bins = MatchBool (is_clean_file primary) (PrimaryDecodesTo primary block bins) (LogRepairsTo primary log block bins)
 
--- the primary file's bins data have the image's bytes where the page isn't dirty
+-- the primary file's bins data have the image's bytes in each page that isn't dirty
 abbrev pub SameWhereClean : List ℕ → List ℕ → Pages → Type 0
 SameWhereClean image primary v = (i : ℕ) → i < v.bins_size → is_dirty v (i / 512) ≡ false → slice_index primary i ≡ slice_index image i

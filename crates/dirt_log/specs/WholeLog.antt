@@ -52,8 +52,8 @@ pub record LogIsWhole (bytes : List ℕ) : Type 0 where
 abbrev pub IsCovered : ℕ → Pages → Type 0
 IsCovered len v = (page : ℕ) → page < v.bins_size / 512 → is_dirty v page ≡ false → 512 * (page + 1) ≤ len
 
--- a byte of the repaired bins data: that of the log where its page is dirty, else that of the primary file. The
--- log's pages stand in rising order.
+-- a byte of the repaired bins data: the log's if its page is dirty, else the primary file's. The
+-- log's pages are in rising order.
 abbrev pub repaired_byte : List ℕ → Pages → List ℕ → ℕ → ℕ
 repaired_byte image v pages i = if is_dirty v (i / 512) then slice_index pages (512 * marked_count (is_dirty v) (i / 512) + i % 512) else slice_index image i
 
@@ -61,8 +61,8 @@ repaired_byte image v pages i = if is_dirty v (i / 512) then slice_index pages (
 unfoldable pub repaired : List ℕ → Pages → List ℕ → List ℕ
 repaired image v pages = map (repaired_byte image v pages) (range_with_len 0 v.bins_size)
 
--- where the bytes of a log end that are read: behind the last page that it marks, or behind the bitmap where it marks
--- none
+-- where the bytes of a log end that are read: after the last page that it marks, or after the
+-- bitmap if it marks none
 abbrev pub log_end : List ℕ → ℕ
 log_end bytes =
     let size = (block_of bytes).bins_size in
@@ -76,7 +76,7 @@ pub record IsLoggable (b : BaseBlock) (v : Pages) : Type 0 where
   pub equal : b.primary.0 ≡ b.secondary.0
   pub size : b.bins_size ≡ v.bins_size
 
--- a log's text is whole, and has this block, these pages and their bytes
+-- a log's encoding is whole, and has this block, these pages and their bytes
 pub record LogDecodesTo (encoding : List ℕ) (b : BaseBlock) (v : Pages) (pages : List ℕ) : Type 0 where
   pub whole : LogIsWhole encoding
   pub base : block_of encoding ≡ b

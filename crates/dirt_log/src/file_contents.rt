@@ -17,8 +17,8 @@ pub fn clean_primary_decides()
         FilesDecodeTo primary other block bins }
 {}
 
-/// A law: bins data that have the bytes of an image wherever its page isn't dirty are repaired to that
-/// image by the log of the image and its dirty pages.
+/// A law of bins data that have the bytes of an image in each page that isn't dirty. The log of the
+/// image and its dirty pages repairs them to that image.
 pub fn log_repairs()
     ensures { (image primary : List ℕ) (v : Pages) → length image ≡ v.bins_size →
         v.bins_size % 512 ≡ 0 → SameWhereClean image primary v →

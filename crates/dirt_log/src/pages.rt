@@ -9,13 +9,13 @@ use dirty_vector::PAGE_BYTES;
 /// Bytes of bins data for which the bitmap has a byte.
 pub(crate) const BYTES_PER_BITMAP_BYTE: usize = 4096;
 
-/// Where the four letters stand.
+/// The offset of the four letters.
 pub(crate) const LETTERS_AT: usize = 512;
 
-/// The four letters behind the block.
+/// The four letters after the block.
 pub(crate) const LETTERS: &[u8] = b"DIRT";
 
-/// Where the bitmap stands.
+/// The offset of the bitmap.
 pub(crate) const BITMAP_AT: usize = 516;
 
 const _: () = prove!(BYTES_PER_BITMAP_BYTE == 4096);

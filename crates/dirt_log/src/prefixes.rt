@@ -1,13 +1,13 @@
-//! Which bytes of a log and of a primary file are needed, so that both are read in pieces.
+//! Which bytes of a log and of a primary file are needed, so that both are read in chunks.
 
 ghost use Rattle.std.specs.Prelude.{◌≡◌, ◌≤◌, ◌*◌, ◌%◌, ◌↔◌, List, ℕ, take, length};
 ghost use Rattle.dirt_log.specs.LogEncoding.{bitmap_end};
 ghost use Rattle.dirt_log.specs.WholeLog.{LogIsWhole, HasBitmap, IsCovered, block_of, pages_in, page_bytes_in, log_end, repaired};
 ghost use Rattle.dirty_vector.specs.Pages.{Pages, dirty_count};
 
-/// A law: a log is read by its front, whatever is behind. Its block hangs on the first 512 bytes alone, its marks on
-/// those up to the end of the bitmap, and whether it is whole and what it logs on those up to the end of the last page
-/// that it marks.
+/// A law: a log is read by its front, whatever follows. Its block depends on the first 512 bytes
+/// alone, and its marks on the bytes up to the end of the bitmap. Whether it is whole and what it
+/// logs depends on the bytes up to the end of the last page that it marks.
 pub fn log_prefix_decides()
     ensures block { (log : List ℕ) (n : ℕ) → 512 ≤ n → block_of (take n log) ≡ block_of log }
     ensures marked { (log : List ℕ) (n : ℕ) → bitmap_end (block_of log).bins_size ≤ n →
@@ -19,8 +19,8 @@ pub fn log_prefix_decides()
         page_bytes_in (take n log) ≡ page_bytes_in log }
 {}
 
-/// A law: bins data are repaired by as many bytes of the primary file as the repaired data have, and by the bytes of
-/// the marked pages, whatever is behind either.
+/// A law of the repair of bins data. It takes as many bytes of the primary file as the repaired
+/// data have, and the bytes of the marked pages, whatever follows either.
 pub fn repair_prefix_decides()
     ensures covered { (primary : List ℕ) (v : Pages) (n : ℕ) → v.bins_size ≤ n →
         IsCovered (length (take n primary)) v ↔ IsCovered (length primary) v }

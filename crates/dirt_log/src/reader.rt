@@ -26,10 +26,10 @@ pub struct DirtLog<'a> {
     pub ghost enough: { 512 * dirty_count vector ≤ length pages.now },
 }
 
-/// Reads a log. Refused with `HiveDamaged` of hive 0 with the cause `BadLog` where it isn't whole: where
-/// its block's sum, signature, versions, format, type or bins size is wrong or its numbers differ, where
-/// the letters `DIRT` aren't there, or bytes are missing; and else only for want of memory. What follows
-/// the last page is unread.
+/// Reads a log. Refused with `HiveDamaged` of hive 0 and the cause `BadLog` if it isn't whole. Then
+/// its block's sum, signature, versions, format, type or bins size is wrong, or its numbers differ.
+/// Or the letters `DIRT` aren't there, or bytes are missing. Otherwise refused only for want of
+/// memory. What follows the last page is unread.
 pub fn read(alloc: Global, bytes: &[u8]) -> Result<DirtLog<'_>, Refusal>
     ensures whole { IfOk result (λ log. LogIsWhole bytes.now) }
     ensures base { IfOk result (λ log. log.base ≡ block_of bytes.now) }
@@ -50,7 +50,7 @@ pub fn read(alloc: Global, bytes: &[u8]) -> Result<DirtLog<'_>, Refusal>
     })
 }
 
-// the block of the first sector, judged as that of a log
+// the block of the first sector, judged as the block of a log
 fn read_block(bytes: &[u8]) -> Result<BaseBlock, Refusal>
     ensures ok { IfOk result (λ base. (base ≡ block_of bytes.now) × IsLog base
         × (512 ≤ length bytes.now)) }
@@ -69,7 +69,7 @@ fn read_block(bytes: &[u8]) -> Result<BaseBlock, Refusal>
     }
 }
 
-// the bitmap behind the letters
+// the bitmap after the letters
 fn read_bitmap(bytes: &[u8], bins_size: usize) -> Result<&[u8], Refusal>
     requires { bins_size ≤ MOST_BINS_BYTES }
     ensures ok { IfOk result (λ bitmap. HasBitmap bytes.now bins_size
@@ -83,7 +83,7 @@ fn read_bitmap(bytes: &[u8], bins_size: usize) -> Result<&[u8], Refusal>
     Ok(&bytes[BITMAP_AT..end])
 }
 
-// the bytes of the pages, where there are any
+// the bytes of the pages, if there are any
 fn read_pages(bytes: &[u8], start: usize, len: usize) -> Result<&[u8], Refusal>
     ensures ok { IfOk result (λ pages. HasPages bytes.now start len
         × (pages.now ≡ take len (drop start bytes.now))) }

@@ -11,10 +11,10 @@ use dirty_vector::{DirtyVector, PAGE_BYTES};
 use refusals::{Cause, Refusal};
 
 impl DirtLog<'_> {
-    /// Repairs the bins data of the primary file that the log belongs to: cuts or lengthens it to the
-    /// log's bins size and replaces each page that the log marks. Refused with `HiveDamaged` of hive 0
-    /// with the cause `BadLog` where a page is neither marked nor in the bins data whole, and else only
-    /// for want of memory; then the bins data are as before.
+    /// Repairs the bins data of the primary file that the log belongs to. Cuts or lengthens them to
+    /// the log's bins size and replaces each page that the log marks. Refused with `HiveDamaged` of
+    /// hive 0 and the cause `BadLog` if a page is neither marked nor in the bins data whole.
+    /// Otherwise refused only for want of memory. A refusal leaves the bins data as before.
     pub fn apply_to(&self, image: &mut Vec<u8>) -> Result<(), Refusal>
         ensures covered { OnOk result (IsCovered (length image.old.items) self.now.vector) }
         ensures ok { OnOk result (image.new.items

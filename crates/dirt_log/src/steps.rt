@@ -1,4 +1,4 @@
-//! Writing a log in pieces.
+//! Writing a log in chunks.
 
 ghost use Rattle.std.specs.Prelude.{◌≡◌, ◌≤◌, ◌+◌, ◌-◌, ◌/◌, ◌*◌, ◌%◌, ◌++◌, take, drop, length};
 ghost use Rattle.dirt_log.specs.LogEncoding.{pages_from, head_bytes, log_bytes, bitmap_end, pages_at};
@@ -13,13 +13,13 @@ use base_block::{BaseBlock, FileType};
 use dirty_vector::{DirtyVector, PAGE_BYTES};
 use std::marker::Model;
 
-/// The most bytes in a piece of a log.
+/// The most bytes in a chunk of a log.
 pub const CHUNK_BYTES: usize = 65_536;
 
 const _: () = prove!(CHUNK_BYTES == 65_536);
 
-/// The text of a log, which is given in pieces and held by nobody. Contracts see it as the list of its
-/// bytes.
+/// The encoding of a log, which is given in chunks and never kept whole. Contracts see it as the
+/// list of its bytes.
 #[derive(Drop)]
 pub struct LogSteps<'a> {
     image: &'a [u8],
@@ -43,9 +43,9 @@ impl<'a> Model for LogSteps<'a> {
         × (length a.sector ≡ 512) };
 }
 
-/// The log of a flush: of the image of the bins data as it will be, its dirty pages, and the base block
-/// of the primary file as it will be. The log's own block is the same with the type of a log. Takes no
-/// memory.
+/// The log of a flush. It is of the image of the bins data as it will be, its dirty pages, and the
+/// base block of the primary file as it will be. The log's own block is the same with the type of a
+/// log. Takes no memory.
 pub fn write_steps<'a>(image: &'a [u8], vector: &'a DirtyVector, base: &BaseBlock) -> LogSteps<'a>
     requires { length image.now ≡ vector.now.bins_size }
     ensures encoding { result ≡ log_bytes image.now vector.now base.now }
@@ -75,8 +75,8 @@ impl LogSteps<'_> {
         pages_start(self.vector.bins_size()) + PAGE_BYTES * self.vector.count()
     }
 
-    /// Lays the piece of a number, from 0 on, at the front of a buffer: how many bytes it has. Each piece
-    /// but the last is full, and past the last there is none.
+    /// Lays the chunk of a number, from 0 on, at the front of a buffer, and answers how many bytes
+    /// it has. Each chunk but the last is full, and past the last there is none.
     pub fn chunk(&self, index: u32, buffer: &mut [u8]) -> usize
         requires { length buffer.old ≡ 65536 }
         ensures bytes { take result buffer.new ≡ take 65536 (drop (65536 * index) self.now) }
@@ -95,7 +95,8 @@ impl LogSteps<'_> {
     }
 }
 
-// Lays the dirty pages from `from` on behind the first `at` bytes, until the buffer is full: where they end.
+// Lays the dirty pages from `from` on after the first `at` bytes, until the buffer is full, and
+// answers where they end.
 fn put_pages(image: &[u8], vector: &DirtyVector, from: usize, at: usize, buffer: &mut [u8]) -> usize
     requires sizes { length image.now ≡ vector.now.bins_size }
     requires room { length buffer.old ≡ 65536 }
@@ -120,7 +121,7 @@ fn put_pages(image: &[u8], vector: &DirtyVector, from: usize, at: usize, buffer:
     end
 }
 
-// Lays what stands before the pages.
+// Lays what comes before the pages.
 fn put_head(vector: &DirtyVector, sector: &[u8], buffer: &mut [u8])
     requires room { length buffer.old ≡ 65536 }
     requires sector { length sector.now ≡ 512 }
@@ -137,7 +138,7 @@ fn put_head(vector: &DirtyVector, sector: &[u8], buffer: &mut [u8])
     );
 }
 
-// Lays the bitmap at its place.
+// Lays the bitmap at its offset.
 fn put_bitmap(vector: &DirtyVector, buffer: &mut [u8])
     requires { length buffer.old ≡ 65536 }
     ensures { take (bitmap_end vector.now.bins_size) buffer.new
@@ -147,7 +148,7 @@ fn put_bitmap(vector: &DirtyVector, buffer: &mut [u8])
     vector.write(&mut buffer[BITMAP_AT..end]);
 }
 
-// Lays zeros from a place to another.
+// Lays zeros from an offset to another.
 fn put_zeros(buffer: &mut [u8], from: usize, to: usize)
     requires order { from ≤ to }
     requires inside { to ≤ length buffer.old }
@@ -156,7 +157,7 @@ fn put_zeros(buffer: &mut [u8], from: usize, to: usize)
     buffer[from..to].fill(0);
 }
 
-// Lays bytes at a place.
+// Lays bytes at an offset.
 fn put(buffer: &mut [u8], at: usize, bytes: &[u8])
     requires { at + length bytes.now ≤ length buffer.old }
     ensures { take (at + length bytes.now) buffer.new ≡ take at buffer.old ++ bytes.now }

@@ -59,7 +59,7 @@ fn sums_have_two_exceptions(rt: HostRuntime) {
     assert_eq!(rt; sum(&bytes), 0x7fff_fffe);
 }
 
-// the sum stands last
+// the sum comes last
 const SMALLEST: [Part; 4] = [
     (0, b"regf"),
     (4, &[1, 0, 0, 0, 1, 0, 0, 0]),

@@ -34,7 +34,7 @@ fn a_range_marks_what_it_touches(rt: HostRuntime) {
     }
 }
 
-// the bitmap of a bin of which the first and the fourth page are dirty
+// the bitmap of a bin whose first and fourth page are dirty
 fn bitmap(alloc: Global) -> Result<u8, Refusal> {
     let vector = marked(alloc, 4096, &[(0, 1), (1536, 1537)])?;
     let mut bitmap = [0xff];

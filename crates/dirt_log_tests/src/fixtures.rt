@@ -16,7 +16,8 @@ pub const BAD_LOG: Refusal = Refusal::HiveDamaged {
 /// A range of bytes: where it begins, and where it ends.
 pub type Span = (usize, usize);
 
-/// Dirty pages of bins data of a size, of which these ranges were marked in turn. TooLarge where one ends past the data.
+/// Dirty pages of bins data of a size, after these ranges were marked in turn. TooLarge if one ends
+/// past the data.
 pub fn marked(alloc: Global, bins_size: usize, spans: &[Span]) -> Result<DirtyVector, Refusal> {
     let mut vector = DirtyVector::new(alloc, bins_size)?;
     for span in spans {
@@ -33,7 +34,8 @@ fn mark(vector: &mut DirtyVector, span: Span) -> Result<(), Refusal> {
     Ok(())
 }
 
-/// The block of a hive's primary file behind its first flush. TooLarge where the size has more than 32 bits.
+/// The block of a hive's primary file after its first flush. TooLarge if the size has more than 32
+/// bits.
 pub fn block_of(bins_size: usize) -> Result<BaseBlock, Refusal> {
     let Ok(bins_size) = u32::try_from(bins_size) else {
         return Err(Refusal::TooLarge);
@@ -47,7 +49,7 @@ pub fn filled(alloc: Global, len: usize, with: u8) -> Result<Vec<u8>, AllocError
     vec![in alloc; with; len]
 }
 
-/// An image whose bytes tell their pages.
+/// An image whose bytes are the numbers of their pages.
 pub fn numbered(alloc: Global, bins_size: usize) -> Result<Vec<u8>, AllocError> {
     let mut image = vec![in alloc; 0; bins_size]?;
     for (i, byte) in image.iter_mut().enumerate() {
@@ -64,7 +66,7 @@ pub fn fill_page(image: &mut Vec<u8>, page: usize, with: u8) {
     }
 }
 
-/// The log of an image's dirty pages. TooLarge where they are of another size.
+/// The log of an image's dirty pages. TooLarge if they are of another size.
 pub fn steps_of<'a>(
     image: &'a [u8],
     vector: &'a DirtyVector,
@@ -76,7 +78,7 @@ pub fn steps_of<'a>(
     Ok(write_steps(image, vector, base))
 }
 
-/// Joins the pieces of a log.
+/// Joins the chunks of a log.
 pub fn joined(alloc: Global, steps: &LogSteps<'_>) -> Result<Vec<u8>, AllocError> {
     let mut log = Vec::new(alloc);
     for index in 0..2000 {
@@ -89,7 +91,7 @@ pub fn joined(alloc: Global, steps: &LogSteps<'_>) -> Result<Vec<u8>, AllocError
     Ok(log)
 }
 
-/// The bytes of a log's piece.
+/// The bytes of a log's chunk.
 pub fn one_chunk(alloc: Global, steps: &LogSteps<'_>, index: u32) -> Result<Vec<u8>, AllocError> {
     let mut buffer = vec![in alloc; 0xaa; CHUNK_BYTES]?;
     let count = steps.chunk(index, &mut buffer);

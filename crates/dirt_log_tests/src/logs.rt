@@ -8,7 +8,7 @@ use refusals::Refusal;
 use std::alloc::{AllocError, Global};
 use std::test::Fail;
 
-// the log of an image of which ranges are dirty; refused where it isn't as long as it tells
+// the log of an image with dirty ranges; refused if it isn't as long as it says
 fn log_of(
     alloc: Global,
     image: &[u8],
@@ -25,7 +25,7 @@ fn log_of(
     }
 }
 
-// the log of a numbered image of which ranges are dirty
+// the log of a numbered image with dirty ranges
 fn numbered_log(alloc: Global, bins_size: usize, spans: &[Span]) -> Result<Vec<u8>, Refusal> {
     log_of(
         alloc,
@@ -63,7 +63,7 @@ fn a_small_log(rt: HostRuntime) -> Result<(), Fail> {
     Ok(())
 }
 
-// the log of two bins, of which the second page and the second bin are dirty
+// the log of two bins, whose second page and second bin are dirty
 fn two_bins_log(alloc: Global) -> Result<Vec<u8>, Refusal> {
     numbered_log(alloc, 8192, &[(512, 1024), (4096, 8192)])
 }
@@ -149,7 +149,7 @@ fn refusal_of_spoiled(
     Ok(refusal_of(alloc, &spoiled))
 }
 
-// the log of a bin of which the second page is dirty
+// the log of a bin whose second page is dirty
 fn one_page_log(alloc: Global) -> Result<Vec<u8>, Refusal> {
     numbered_log(alloc, 4096, &[(512, 1024)])
 }
@@ -203,7 +203,7 @@ const BEGINNINGS: [(usize, usize); 4] = [
     (4_194_304, 2048),
 ];
 
-// the log of an image of which the first page alone is dirty, and alone has the byte 0x55
+// the log of an image whose first page alone is dirty, and alone has the byte 0x55
 fn first_page_log(alloc: Global, bins_size: usize) -> Result<Vec<u8>, Refusal> {
     let mut image = numbered(alloc, bins_size)?;
     fill_page(&mut image, 0, 0x55);
@@ -229,7 +229,7 @@ fn pages_begin_behind_the_bitmap(rt: HostRuntime) {
     }
 }
 
-// whether the pieces of a log have these lengths
+// whether the chunks of a log have these lengths
 fn has_chunks(alloc: Global, steps: &LogSteps<'_>, lengths: &[usize]) -> Result<bool, AllocError> {
     let mut index = 0u32;
     for length in lengths {
@@ -241,7 +241,7 @@ fn has_chunks(alloc: Global, steps: &LogSteps<'_>, lengths: &[usize]) -> Result<
     Ok(true)
 }
 
-// whether the log of an image of which a range is dirty has pieces of these lengths
+// whether the log of an image with a dirty range has chunks of these lengths
 fn is_cut_in(alloc: Global, image: &[u8], span: Span, lengths: &[usize]) -> Result<bool, Refusal> {
     let vector = marked(alloc, image.len(), &[span])?;
     let steps = steps_of(image, &vector, &block_of(image.len())?)?;
@@ -271,7 +271,7 @@ fn one_page_of_the_largest_hive(rt: HostRuntime) -> Result<(), Fail> {
 
 const MEBIBYTE: usize = 1_048_576;
 
-// the pieces of a log of all pages of a mebibyte
+// the chunks of a log of all pages of a mebibyte
 const MEBIBYTE_PIECES: [usize; 18] = [
     CHUNK_BYTES,
     CHUNK_BYTES,

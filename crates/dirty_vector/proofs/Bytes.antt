@@ -12,7 +12,7 @@ use Rattle.dirty_vector.specs.Marks.{is_marked, is_marked_in_bitmap}
 use Rattle.dirty_vector.specs.Pages.{bit_of, bitmap_byte, bitmap_of}
 use Rattle.dirty_vector.proofs.Words.{or_test, same_leb}
 
--- a byte shifted to its place in a word fits the word
+-- a byte shifted to its position in a word fits the word
 pub shifted_fits : (byte index : ℕ) → byte < 256 → index < 8 → byte * 2 ^ (8 * index) < 2 ^ 64
 shifted_fits byte index small inside =
     let p = 2 ^ (8 * index) in
@@ -24,7 +24,7 @@ shifted_fits byte index small inside =
     let up : 1 * 2 ^ (8 * index) ≤ 2 ^ (56 - 8 * index) * 2 ^ (8 * index) = mul-le-mul_right (2 ^ (8 * index)) rest in
     omega (arith, pos, whole, less, up)
 
--- a bit of a word, from a place on
+-- a bit of a word, from a bit on
 pub bit_from : (w s j : ℕ) → bit_at (w / 2 ^ s) j ≡ bit_at w (s + j)
 bit_from w s j = ap (λ (n : ℕ). n % 2) (div-div-eq-div-mul w (2 ^ s) (2 ^ j) ∙ ap (λ (n : ℕ). w / n) (sym (pow-add 2 s j)))
 
@@ -78,7 +78,7 @@ written_all words old new index same done all = fill_by_all (bitmap_byte (is_mar
 
 -- ---- reading
 
--- a bit of a byte that was shifted to its place
+-- a bit of a byte that was shifted to its position
 shifted_bit : (byte index bit : ℕ) → byte < 256 → bit_at (byte * 2 ^ (8 * index)) bit ≡ cond (eqb (bit / 8) index) (bit_at byte (bit % 8)) 0
 shifted_bit byte index bit small =
     let s = 8 * index in

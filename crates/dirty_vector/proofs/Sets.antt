@@ -101,7 +101,7 @@ pub same_below : (f g : ℕ → Bool) (n : ℕ) → ((p : ℕ) → f p ≡ g p) 
 same_below f g n same = set.same_set nat_cmp_total set.nat_cmp-IsAntisymmetric (marked_below f n) (marked_below g n)
     (λ q. contains_below f n q ∙ ap (λ (b : Bool). ltb q n && b) (same q) ∙ sym (contains_below g n q))
 
--- where nothing is marked, the set is empty
+-- if nothing is marked, the set is empty
 pub none_below : (mark : ℕ → Bool) (n : ℕ) → ((p : ℕ) → mark p ≡ false) → marked_below mark n ≡ set.empty
 none_below mark n none = set.same_set nat_cmp_total set.nat_cmp-IsAntisymmetric (marked_below mark n) set.empty
     (λ q. contains_below mark n q ∙ never (ltb q n) (mark q) (none q) ∙ sym (set.contains-empty nat_cmp q))
@@ -165,11 +165,11 @@ made_read size words new bitmap blank same =
     ap (λ (d : set.FinSet nat_cmp). done (pages size d)) (same_below (is_marked new) (is_marked_in_bitmap bitmap) (size / 512) same)
     ∙ sym (ap (λ (b : Bool). cond b (done (pages size (marked_below (is_marked_in_bitmap bitmap) (size / 512)))) (failed TooLarge)) blank.good)
 
--- words without a mark are those of clean bins data
+-- words without a mark are the words of clean bins data
 pub made_clean : (size : ℕ) (old words : List ℕ) (v : Pages) → pages_of size old ≡ v → words ≡ replicate (length words) 0 → pages_of size words ≡ clean_pages v.bins_size
 made_clean size old words v is zeros = ap (λ (d : set.FinSet nat_cmp). pages size d) (none_below (is_marked words) (size / 512) (none_marked words zeros)) ∙ ap (λ (u : Pages). clean_pages u.bins_size) is
 
--- the same words are those of larger bins data
+-- the same words are the words of larger bins data
 pub kept_larger : (size larger : ℕ) (words : List ℕ) → AreMarkWords size words → is_bins_size larger ≡ true → size ≤ larger → AreMarkWords larger words
 kept_larger size larger words kept good more =
     let most : larger ≤ 67108864 = leb-true larger 67108864 (and_parts (eqb (larger % 4096) 0 && leb 4096 larger) (leb larger 67108864) good).1 in
@@ -286,7 +286,7 @@ bit_of_eight a b c d e f g h (suc (suc (suc (suc (suc (suc zero)))))) ha hb hc h
 bit_of_eight a b c d e f g h (suc (suc (suc (suc (suc (suc (suc zero))))))) ha hb hc hd he hf hg hh hj = omega arith
 bit_of_eight a b c d e f g h (suc (suc (suc (suc (suc (suc (suc (suc j)))))))) ha hb hc hd he hf hg hh hj = absurd (omega arith)
 
--- the marks of the pages of a byte, by their places
+-- the marks of the pages of a byte, by their indexes
 marks_of_byte : (mark : ℕ → Bool) (k j : ℕ) → j < 8
     → get_or (bit_of (mark (8 * k)) ∷ bit_of (mark (8 * k + 1)) ∷ bit_of (mark (8 * k + 2)) ∷ bit_of (mark (8 * k + 3)) ∷ bit_of (mark (8 * k + 4)) ∷ bit_of (mark (8 * k + 5)) ∷ bit_of (mark (8 * k + 6)) ∷ bit_of (mark (8 * k + 7)) ∷ []) j 0 ≡ bit_of (mark (8 * k + j))
 marks_of_byte mark k zero h = let e : 8 * k ≡ 8 * k + 0 = omega arith in ap (λ (p : ℕ). bit_of (mark p)) e

@@ -137,7 +137,7 @@ mark_none words first last = λ page.
     early : (a x y z : Bool) → x ≡ false → (a || (false && y)) ≡ (a || (x && y && z))
     early a x y z e = ap (λ (t : Bool). a || (t && y && z)) (sym e)
 
--- behind the last word each page of the range is marked
+-- after the last word each page of the range is marked
 pub mark_all : (old words : List ℕ) (first last index : ℕ) → last / 64 < index → MarkedTo old words first last index → (page : ℕ) → is_marked words page ≡ (is_marked old page || (leb first page && leb page last))
 mark_all old words first last index done all page =
     all page
@@ -158,7 +158,7 @@ same_count f g (suc n) same =
     ap (λ (m : ℕ). m + cond (f n) 1 0) (same_count f g n (λ k h. same k (omega arith)))
     ∙ ap (λ (t : Bool). marked_count g n + cond t 1 0) (same n (omega arith))
 
--- the count below a + k is that below a and that of the next k
+-- the count below a + k is the count below a and the count of the next k
 pub count_split : (f : ℕ → Bool) (a k : ℕ) → marked_count f (a + k) ≡ marked_count f a + marked_count (λ j. f (a + j)) k
 count_split f a zero = let e : a + 0 ≡ a = omega arith in ap (marked_count f) e ∙ sym (add-zero (marked_count f a))
 count_split f a (suc k) =

@@ -26,7 +26,7 @@ marked_below mark (suc n) = if mark n then set.insert (marked_below mark n) n el
 abbrev pub IsMask : ℕ → ℕ → ℕ → Type 0
 IsMask word low high = (bit : ℕ) → bit < 64 → ((bit_at word bit == 1) ≡ ((nat_le low bit) && (nat_le bit high)))
 
--- the first bit from low on that is set, or where marked is false that is not set; 64 where there is none
+-- the first bit from low on that is set, or that is not set if marked is false; 64 if there is none
 pub record IsFirstBit (word : ℕ) (marked : Bool) (low result : ℕ) : Type 0 where
   pub after : low ≤ result
   pub within : result ≤ 64

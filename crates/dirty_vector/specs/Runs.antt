@@ -8,7 +8,7 @@ use Rattle.dirty_vector.specs.Pages.{Pages, NoneFrom, IsFirstRun}
 abbrev pub IteratorIsAt : Runs → Pages → ℕ → Type 0
 IteratorIsAt runs v page = (runs.vector.now ≡ v) × (runs.from ≡ page)
 
--- a step: the first run from where the iterator is, which it then stands behind; or none is left
+-- a step: the first run from where the iterator is, and then it is after the run; or none is left
 abbrev pub NextRun : Runs → Option (Range ℕ) → Runs → Type 0
 NextRun old None new = NoneFrom old.vector.now old.from
 NextRun old (Some run) new = IsFirstRun old.vector.now old.from run.start run.end × IteratorIsAt new old.vector.now run.end

@@ -1,4 +1,4 @@
-//! Marks of pages in a bitmap: that of a page is bit `page % 8` of byte `page / 8`, the least
+//! Marks of pages in a bitmap. The mark of a page is bit `page % 8` of byte `page / 8`, the least
 //! significant bit of a byte first.
 
 ghost use Rattle.std.specs.Prelude.{◌≡◌, ℕ, ◌*◌, ◌/◌, ◌%◌, ◌^◌, ◌<◌, ◌≤◌, length, replicate};

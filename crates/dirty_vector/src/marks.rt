@@ -1,4 +1,4 @@
-//! Marks of pages in words of 64 bits: that of a page is bit `page % 64` of word `page / 64`.
+//! Marks of pages in words of 64 bits: the mark of a page is bit `page % 64` of word `page / 64`.
 
 ghost use Rattle.std.specs.Prelude.{◌≡◌, ℕ, ◌+◌, ◌*◌, ◌/◌, ◌<◌, ◌≤◌, ◌^◌, ◌||◌, ◌&&◌, nat_le, not, true, length, MatchOption};
 ghost use Rattle.dirty_vector.specs.Marks.{is_marked, marked_count, IsMask, IsFirstBit, IsNthMark};
@@ -49,8 +49,8 @@ fn mask(low: usize, high: usize) -> u64
     (u64::MAX << low) & (u64::MAX >> (WORD_BITS - 1 - high))
 }
 
-/// The first page from `from` on and below `end` whose mark is `marked`, found a word at a time; `end`
-/// where there is none.
+/// The first page from `from` on and below `end` whose mark is `marked`, found a word at a time;
+/// `end` if there is none.
 pub(crate) fn first_page(words: &[u64], marked: bool, from: usize, end: usize) -> usize
     requires order { from ≤ end }
     requires inside { end ≤ 64 * length words.now }
@@ -91,8 +91,8 @@ pub(crate) fn nth_mark(words: &[u64], index: usize) -> Option<usize>
     None
 }
 
-// Passes whole words with at most `index` marks together: the first page behind them, and how many marks
-// are left to pass.
+// Passes whole words with at most `index` marks together: the first page after them, and how many
+// marks are left to pass.
 fn skip_words(words: &[u64], index: usize) -> (usize, usize)
     requires { length words.now < 2 ^ 32 }
     ensures within { result.0 ≤ 64 * length words.now }
@@ -109,8 +109,8 @@ fn skip_words(words: &[u64], index: usize) -> (usize, usize)
     (WORD_BITS * words.len(), left)
 }
 
-// The first bit of a word from `low` on that is set, or where `marked` is false that is not; 64 where there
-// is none.
+// The first bit of a word from `low` on that is set, or that is not set if `marked` is false; 64 if
+// there is none.
 fn first_bit(word: u64, marked: bool, low: usize) -> usize
     requires { low < 64 }
     ensures { IsFirstBit word marked low result }

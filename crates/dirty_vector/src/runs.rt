@@ -5,8 +5,8 @@ ghost use Rattle.std.specs.Iterator.{at_most};
 use crate::vector::DirtyVector;
 use std::ops::Range;
 
-/// An iterator over the runs of adjacent dirty pages, in rising order, as ranges of page numbers. Each run
-/// is as long as it goes.
+/// An iterator over the runs of adjacent dirty pages, in rising order, as ranges of page numbers.
+/// Each run is as long as possible.
 #[derive(Drop)]
 pub struct Runs<'a> {
     pub(crate) vector: &'a DirtyVector,

@@ -33,7 +33,8 @@ const _: () = prove!(MOST_WORDS == 2048);
 
 /// The set of the dirty pages of hive bins data of one size.
 ///
-/// It is made with words for the largest bins data, which are 16,384 bytes, so that it grows without memory.
+/// It is made with words for the largest bins data, 16,384 bytes of them, so that it grows without
+/// memory.
 #[derive(Drop)]
 pub struct DirtyVector {
     bins_size: usize,
@@ -57,8 +58,9 @@ impl Model for DirtyVector {
 impl DirtyVector {
     ghost use Rattle.dirty_vector.specs.Runs.{IteratorIsAt};
 
-    /// A vector of bins data of a size, with no dirty page. Refused with `TooLarge` where the size isn't
-    /// a multiple of 4,096 from 4,096 to the limit, and else only for want of memory.
+    /// A vector of bins data of a size, with no dirty page. Refused with `TooLarge` if the size
+    /// isn't a multiple of 4,096 from 4,096 to the limit. Otherwise refused only for want of
+    /// memory.
     pub fn new(alloc: Global, bins_size: usize) -> Result<DirtyVector, Refusal>
         ensures { IsOrNoMemory result (fresh_pages bins_size) }
     {
@@ -83,8 +85,8 @@ impl DirtyVector {
         page < self.bins_size / PAGE_BYTES && is_page_marked(&self.words, page)
     }
 
-    /// Marks each page of which the range, counted in bytes from the start of the bins data, has a byte.
-    /// An empty range marks none.
+    /// Marks each page that has a byte of the range, which is counted in bytes from the start of
+    /// the bins data. An empty range marks none.
     pub fn mark(&mut self, range: Range<usize>)
         requires { range.end ≤ self.old.bins_size }
         ensures size { self.new.bins_size ≡ self.old.bins_size }
@@ -100,15 +102,15 @@ impl DirtyVector {
         }
     }
 
-    /// Marks no page any more. Takes no memory.
+    /// Clears all marks. Takes no memory.
     pub fn clear(&mut self)
         ensures { self.new ≡ clean_pages self.old.bins_size }
     {
         self.words.fill(0);
     }
 
-    /// Makes this a vector of larger bins data: the pages that are dirty stay so, and each page that has a byte
-    /// past the old size is dirty too. Takes no memory.
+    /// Makes this a vector of larger bins data. The pages that are dirty stay so, and each page
+    /// that has a byte past the old size is dirty too. Takes no memory.
     pub fn grow(&mut self, bins_size: usize)
         requires size { is_bins_size bins_size ≡ true }
         requires larger { self.old.bins_size ≤ bins_size }
@@ -142,8 +144,8 @@ impl DirtyVector {
         if page < pages { Some(page) } else { None }
     }
 
-    /// The dirty page with `index` dirty pages before it, found a word at a time; none where there are no
-    /// more than `index` dirty pages.
+    /// The dirty page with `index` dirty pages before it, found a word at a time; none if there are
+    /// no more than `index` dirty pages.
     pub fn nth_dirty(&self, index: usize) -> Option<usize>
         ensures { MatchOption result (dirty_count self.now ≤ index) (IsNthDirty self.now index) }
     {
@@ -151,8 +153,8 @@ impl DirtyVector {
         nth_mark(words, index)
     }
 
-    /// The first run of adjacent dirty pages from a page on, as long as it goes; none where no page from
-    /// there on is dirty.
+    /// The first run of adjacent dirty pages from a page on, as long as possible; none if no page
+    /// from there on is dirty.
     pub fn next_run(&self, from: usize) -> Option<Range<usize>>
         ensures { MatchOption result (NoneFrom self.now from)
             (λ run. IsFirstRun self.now from run.start run.end) }
@@ -209,7 +211,8 @@ impl DirtyVector {
     }
 }
 
-// Words without a mark, with a bit for each page of the largest bins data, where this is a size of such data.
+// Words without a mark, with a bit for each page of the largest bins data, if this is a size of
+// bins data.
 fn blank_words(alloc: Global, bins_size: usize) -> Result<Vec<u64>, Refusal>
     ensures ok { IfOk result (λ words. IsBlank bins_size words.items) }
     ensures refused { IfErr result (RefusedFor Refusal.TooLarge (is_bins_size bins_size ≡ false)) }

@@ -16,7 +16,8 @@ written-reverse (range ∷ ranges) p here =
     ⊎_elim (λ behind. inr (written-reverse ranges p behind)) (λ first. ⊎_elim (λ covers. inl covers) (λ none. absurd none) first)
     (written-append (reverse ranges) (range ∷ []) p (subst (λ (l : List WrittenRange). IsWritten l p) (reverse-append (range ∷ []) ranges) here))
 
--- what a sound file was synced with differs from what a read gives only where it was written since
+-- what a sound file was synced with differs from what a read gives only at offsets that were
+-- written since
 pub apart_of_sound : (file : FileState) (ranges : List WrittenRange) → file.ranges ≡ reverse ranges → IsSound file → IsApart ranges file.least file.synced file.seen
 apart_of_sound file ranges is sound = record {
   in_synced = sound.was_longer;

@@ -37,5 +37,5 @@ state_of_replaced (m ∷ files) file other zero is same (suc f) = refl
 state_of_replaced (m ∷ files) file other (suc i) is same zero = refl
 state_of_replaced (m ∷ files) file other (suc i) is same (suc f) = state_of_replaced files file other i is same f
 
--- a list of files of which one is changed
+-- a list of files, one of which is changed
 pub ruleset one_changed = (state_of_set_same, state_of_set_other, state_of_there)

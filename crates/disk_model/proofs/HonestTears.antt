@@ -1,4 +1,5 @@
--- Each of the three crashes leaves an honest first sector, where first sectors are written by themselves and with the right sum.
+-- Each of the three crashes leaves an honest first sector, if first sectors are written by themselves and with the
+-- right sum.
 use Rattle.std.proofs.Common.{◌≡◌, ◌⊎◌, inl, inr, ℕ, zero, suc, ◌+◌, ◌-◌, ◌*◌, ◌<◌, ◌≤◌, Bool, true, false, List, [], ◌∷◌, length, get_or, take, refl, sym, ◌∙◌, ap, subst, arith, length-take}
 use Rattle.std.specs.Prelude.{Some, if◌then◌else◌, ◌==◌, ◌&&◌, nat_le, nat_lt, bit_xor}
 use Rattle.std.proofs.lemmas.Bool.Decides.{nat_tests}

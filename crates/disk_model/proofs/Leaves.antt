@@ -11,7 +11,7 @@ left_at_rest bytes c left =
     same_lists _ _ (omega (arith, left.no_shorter, left.no_longer))
     (λ k d h. get_or_default c k d 0 h ∙ left.kept k (omega (arith, left.no_longer)) (λ none. none) ∙ get_or_default bytes k 0 d (omega (arith, left.no_longer)))
 
--- whichever a call was told to be, it is done, in part or not at all
+-- whichever way a call is reported, it is done, in part or not at all
 pub any_write : {T E F : Type 0} (result : Result T E) (offset : ℕ) (bytes : List ℕ) (old new : FileState)
     → F → OnOk result (F → Writes offset bytes old new) → OnErr result (F → MayWrite offset bytes old new) → MayWrite offset bytes old new
 any_write (Ok x) offset bytes old new faithful done failed = done_may_write offset bytes old new (done faithful)
@@ -86,7 +86,7 @@ module _ (file bytes seen c : List ℕ) (offset : ℕ) (left : Leaves (after_wri
       get_or-take offset c k d below ∙ get_or_default c k d 0 (omega (arith, left.no_shorter)) ∙ byte_kept k (omega arith) (λ covers. omega (arith, covers.0))
       ∙ get_or_default file k 0 d (omega arith) ∙ sym (get_or-take offset file k d below))
 
-  -- and what was behind it, where the file didn't get longer
+  -- and what was after it, if the file didn't get longer
   pub same_length : offset + length bytes ≤ length file → length c ≡ length file
   same_length le = omega (arith, left.no_shorter, left.no_longer, length-put_within file bytes offset le)
 

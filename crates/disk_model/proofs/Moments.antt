@@ -7,7 +7,7 @@ use Rattle.disk_model.specs.MemDisk.{earlier, states}
 use Rattle.disk_model.specs.declared.mem_file.MemFile.{MemFile}
 use Rattle.disk_model.specs.declared.history.DiskHistory.{DiskHistory, Begun}
 
--- at the present moment a file's state is that of the files as they are
+-- at the present moment a file's state is its state in the files as they are
 pub states_now : (past : DiskHistory) (files : List MemFile) (f : ℕ) → states past files (length (earlier past)) f ≡ state_of files f
 unfolding states
 states_now past files f =

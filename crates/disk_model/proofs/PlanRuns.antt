@@ -1,4 +1,5 @@
--- What a plan makes of calls in turn: `stop_at(k)` stops the disk at the k-th write, cut or sync, and `fail_at(k)` makes the k-th call fail.
+-- What a plan makes of calls in turn: `stop_at(k)` stops the disk at the k-th write, cut or sync, and `fail_at(k)`
+-- makes the k-th call fail.
 use Rattle.std.proofs.Common.{◌≡◌, ◌≢◌, ℕ, ◌+◌, ◌<◌, ◌≤◌, Bool, true, false, List, [], ◌∷◌, ◌++◌, length, replicate, refl, arith}
 use Rattle.std.specs.Prelude.{◌==◌, nat_lt}
 use Rattle.std.proofs.lemmas.Bool.Decides.{nat_tests}
@@ -13,7 +14,7 @@ changes_in [] = 0
 changes_in (true ∷ calls) = changes_in calls + 1
 changes_in (false ∷ calls) = changes_in calls
 
--- what becomes of calls in turn, each by whether it is a change, after so many calls and changes
+-- what becomes of calls in turn, each by whether it is a change, after a number of calls and changes
 abbrev fates : FailurePoints → ℕ → ℕ → List Bool → List Fate
 fates marks calls changes [] = []
 fates marks calls changes (true ∷ rest) = fate_of marks (record { call = calls + 1; changes_before = changes; is_change = true }) ∷ fates marks (calls + 1) (changes + 1) rest
@@ -62,7 +63,7 @@ all_fail n calls changes [] some past = refl
 all_fail n calls changes (true ∷ rest) some past = same_cons _ _ _ _ (after_stop n calls changes true some past) (all_fail n (calls + 1) (changes + 1) rest some (omega arith))
 all_fail n calls changes (false ∷ rest) some past = same_cons _ _ _ _ (after_stop n calls changes false some past) (all_fail n (calls + 1) changes rest some past)
 
--- with k - 1 changes among the calls before it, the k-th stops the disk: those before succeed, and all behind it fail
+-- with k - 1 changes among the calls before it, the k-th stops the disk: those before succeed, and all after it fail
 pub stops_at_kth : (n calls changes : ℕ) (front back : List Bool) → n ≡ changes + changes_in front + 1
     → fates (stop_on n) calls changes (front ++ true ∷ back) ≡ replicate (length front) Succeeds ++ Stops ∷ replicate (length back) Fails
 stops_at_kth n calls changes [] back is = same_cons _ _ _ _ (at_stop n calls changes (omega arith)) (all_fail n (calls + 1) (changes + 1) back (omega arith) (omega arith))

@@ -18,7 +18,7 @@ honest_behind old offset bytes seen c behind honest =
     = ap (λ (b : Bool). if b then Some (take 512 bytes) else last_sector old.ranges) test in
     subst (λ (o : Option (List ℕ)). (take 512 c ≡ take 512 old.synced) ⊎ ((o ≡ Some (take 512 c)) ⊎ (HasRightSum (take 512 c) → ⊥))) same honest
 
--- after a write of a first sector to a file that was at rest, it is the old one, the new one, or one whose sum tells
+-- after a write of a first sector to a file that was at rest, it is the old one, the new one, or one whose sum is wrong
 pub honest_sector : (file sector seen c : List ℕ) → length sector ≡ 512 → IsHonest (after_write (at_rest file) 0 sector seen) c
     → (take 512 c ≡ take 512 file) ⊎ ((take 512 c ≡ sector) ⊎ (HasRightSum (take 512 c) → ⊥))
 honest_sector file sector seen c size honest =

@@ -23,7 +23,7 @@ done_may_write offset bytes old new done = inr (put old.seen offset bytes, puts_
 pub done_may_cut : (len : ℕ) (old new : FileState) → Cuts len old new → MayCut len old new
 done_may_cut len old new done = inr (resized old.seen len, inr refl, done)
 
--- whichever a call was told to be
+-- whichever way a call is reported
 pub told_may_write : {T E : Type 0} (result : Result T E) (offset : ℕ) (bytes : List ℕ) (old new : FileState)
     → OnOk result (Writes offset bytes old new) → OnErr result (new ≡ old) → MayWrite offset bytes old new
 told_may_write (Ok x) offset bytes old new done failed = done_may_write offset bytes old new done

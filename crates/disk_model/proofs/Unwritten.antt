@@ -21,7 +21,8 @@ pub synced_on : (old mid new : FileState) → IsSyncedOrSame old mid → IsSynce
 synced_on old mid new first (inl same) = subst (IsSyncedOrSame old) (sym same) first
 synced_on old mid new first (inr syncs) = inr (syncs ∙ ap at_rest (seen_same old mid first))
 
--- what a crash leaves of a file that was synced it might have left before, with its first sector as honest as what a read gave
+-- what a crash leaves of a file that was synced it might have left before, with its first sector as honest as what a
+-- read gave
 left_before : (old new : FileState) (c : List ℕ) → IsSound old → IsSyncedOrSame old new → Leaves new c → Leaves old c
 left_before old new c sound (inl same) left = subst (λ (s : FileState). Leaves s c) same left
 left_before old new c sound (inr syncs) left = subst (Leaves old) (sym (left_at_rest old.seen c (subst (λ (s : FileState). Leaves s c) syncs left))) sound.left

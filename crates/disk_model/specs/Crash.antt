@@ -1,4 +1,5 @@
--- What a crash leaves of all files, at one moment or at some moment since another. Files are left independently, but at one moment.
+-- What a crash leaves of all files, at one moment or at some moment since another. Files are left independently, but at
+-- one moment.
 use Rattle.std.specs.Prelude.{ℕ, ◌≤◌, List}
 use Rattle.disk_model.specs.FileState.{FileState, Leaves}
 use Rattle.disk_model.specs.Sector.{IsHonest}
@@ -11,9 +12,9 @@ LeavesAll state files = (f : ℕ) → Leaves (state f) (files f)
 abbrev pub LeavesHonest : (ℕ → Type 0) → (ℕ → FileState) → (ℕ → List ℕ) → Type 0
 LeavesHonest has_sector state files = LeavesAll state files × ((f : ℕ) → has_sector f → IsHonest (state f) (files f))
 
--- What a read gives has an honest first sector, in each file that is to have one. A write that failed may have left any part
--- of what it wrote there, and a life that ends in a fault goes on from it without a crash: so this is its premise, as an
--- honest first sector of what a crash leaves is that of a crash.
+-- What a read gives has an honest first sector, in each file that is to have one. A write that failed may have left any
+-- part of what it wrote there. A life that ends in a fault goes on from it without a crash. So this is its premise,
+-- just as an honest first sector of what a crash leaves is the premise of a crash.
 abbrev pub ShowsHonest : (ℕ → Type 0) → (ℕ → FileState) → Type 0
 ShowsHonest has_sector state = (f : ℕ) → has_sector f → IsHonest (state f) (state f).seen
 

@@ -30,15 +30,16 @@ abbrev pub IsWritten : List WrittenRange → ℕ → Type 0
 IsWritten [] p = ⊥
 IsWritten (range ∷ ranges) p = Covers range p ⊎ IsWritten ranges p
 
--- A crash at this moment may leave these bytes: of some length that the file has had since the last sync, and as they
--- were at that sync below the least length and outside what was written. All else is anything: nothing here says that what
--- is left there are bytes, so a definition that reads what a crash left has to answer at lists of any numbers.
+-- A crash at this moment may leave these bytes. They have some length that the file has had since the last sync. They
+-- are as they were at that sync below the least length and outside what was written. All else is anything. Nothing here
+-- says that what is left there are bytes, so a definition that reads what a crash left has to answer at lists of any
+-- numbers.
 pub record Leaves (file : FileState) (bytes : List ℕ) : Type 0 where
   pub no_shorter : file.least ≤ length bytes
   pub no_longer : length bytes ≤ file.greatest
   pub kept : (p : ℕ) → p < file.least → (IsWritten file.ranges p → ⊥) → slice_index bytes p ≡ slice_index file.synced p
 
--- the bytes made this long: cut at the end, or with zeros behind them
+-- the bytes made this long: cut at the end, or with zeros after them
 abbrev pub resized : List ℕ → ℕ → List ℕ
 resized bytes len = take len bytes ++ replicate (len - length bytes) 0
 
@@ -61,8 +62,8 @@ after_write file offset bytes seen = record {
 abbrev pub Writes : ℕ → List ℕ → FileState → FileState → Type 0
 Writes offset bytes old new = new ≡ after_write old offset bytes (put old.seen offset bytes)
 
--- What may stand after a write that failed: any bytes in its range, and the length before, after or between. Elsewhere it
--- is as if the write were done.
+-- What may be there after a write that failed: any bytes in its range, and the length before, after or between.
+-- Elsewhere it is as if the write were done.
 pub record PutsPart (offset : ℕ) (bytes old new : List ℕ) : Type 0 where
   pub no_shorter : length old ≤ length new
   pub no_longer : length new ≤ length (put old offset bytes)

@@ -15,6 +15,6 @@ abbrev pub failed_calls : DiskHistory → ℕ
 failed_calls Begun = 0
 failed_calls (Then' shape before files has_failed) = cond has_failed (failed_calls before + 1) (failed_calls before)
 
--- the state of each file at each moment, of which the present is the last
+-- the state of each file at each moment, the last of which is the present
 unfoldable pub states : DiskHistory → List MemFile → ℕ → ℕ → FileState
 states past files k f = state_of (slice_index_or (files ∷ earlier past) (length (earlier past) - k) []) f

@@ -11,7 +11,8 @@ file_state file = file_of file.synced.items file.seen.items file.written.items f
 abbrev pub state_of : List MemFile → ℕ → FileState
 state_of files f = slice_index_or (map file_state files) f (at_rest [])
 
--- the file has the memory to get so many bytes longer and for so many writes before the next sync, and for that sync
+-- the file has the memory to get a number of bytes longer and for a number of writes before the next sync, and for that
+-- sync
 pub record FileHasRoom (bytes writes : ℕ) (file : MemFile) : Type 0 where
   pub to_write : length file.seen.items + bytes ≤ vec_capacity file.seen
   pub to_sync : length file.seen.items + bytes ≤ vec_capacity file.synced

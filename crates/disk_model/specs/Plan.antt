@@ -13,6 +13,7 @@ is_after_stop marks turn = not (marks.stop_on == 0) && nat_lt marks.stop_on (tur
 abbrev pub is_stop : FailurePoints → PlannedCall → Bool
 is_stop marks turn = turn.is_change && (marks.stop_on == turn.changes_before + 1)
 
--- The call that is to fail does nothing, and so does each after the stop. The one at which the disk stops is done, and fails.
+-- The call that is to fail does nothing, and so does each after the stop. The one at which the disk stops is done, and
+-- fails.
 abbrev pub fate_of : FailurePoints → PlannedCall → Fate
 fate_of marks turn = if (turn.call == marks.fail_on) || is_after_stop marks turn then Fails else (if is_stop marks turn then Stops else Succeeds)

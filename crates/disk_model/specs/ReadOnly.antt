@@ -1,4 +1,4 @@
--- What several calls of a disk leave at each moment, where none of them writes or cuts.
+-- What several calls of a disk leave at each moment, if none of them writes or cuts.
 use Rattle.std.specs.Prelude.{◌≡◌, ◌⊎◌, ℕ, ◌≤◌}
 use Rattle.disk_model.specs.FileState.{FileState, Syncs}
 use Rattle.disk_model.specs.Call.{Extends}

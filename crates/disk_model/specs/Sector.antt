@@ -1,4 +1,5 @@
--- The first sector of a registry file, the base block (regf format, base block): 512 bytes, of which the last four are the sum.
+-- The first sector of a registry file, the base block (regf format, base block): 512 bytes, the last four of which are
+-- the sum.
 use Rattle.std.specs.Prelude.{◌≡◌, ◌⊎◌, ℕ, zero, suc, ◌+◌, ◌*◌, ◌≤◌, List, [], ◌∷◌, length, take, slice_index, bit_xor, if◌then◌else◌, ◌==◌, ◌&&◌, nat_le, Option, Some, None}
 use Rattle.disk_model.specs.FileState.{WrittenRange, FileState}
 
@@ -29,7 +30,7 @@ abbrev pub last_sector : List WrittenRange → Option (List ℕ)
 last_sector [] = None
 last_sector (range ∷ ranges) = if (range.from == 0) && nat_le 512 (length range.bytes) then Some (take 512 range.bytes) else last_sector ranges
 
--- A first sector that is not torn in a way that its sum can't tell: it is the one last synced, or the one that was last
+-- A first sector is honest if its sum can tell whether it is torn. It is the one last synced, or the one that was last
 -- handed to a write since, or its sum doesn't match.
 abbrev pub IsHonest : FileState → List ℕ → Type 0
 IsHonest file bytes = (take 512 bytes ≡ take 512 file.synced) ⊎ ((last_sector file.ranges ≡ Some (take 512 bytes)) ⊎ ¬ (HasRightSum (take 512 bytes)))

@@ -29,7 +29,7 @@ LeftBy Torn file bytes = IsTorn file bytes
 abbrev pub IsCrashOf : Tear → FileState → FileState → Type 0
 IsCrashOf tear old new = (bytes : List ℕ) × LeftBy tear old bytes × (new ≡ at_rest bytes)
 
--- Of the writes since the last sync each either is one whole first sector with the right sum, or begins behind the first
+-- Of the writes since the last sync each either is one whole first sector with the right sum, or begins after the first
 -- sector; and the file was never shorter than it.
 abbrev pub AllWholeSectors : List WrittenRange → Type 0
 AllWholeSectors [] = ⊤

@@ -25,17 +25,17 @@ impl From<Failed> for Refusal {
     }
 }
 
-/// Files by number. A file that was never written is empty, but where the type of the disk says what its files first hold.
+/// Files by number. A file that was never written is empty, unless the type of the disk says what its files first have.
 ///
 /// Each call, also one that reads or fails, is one moment of the disk's clock. After a call that failed the disk may be
-/// used further; what a failed write or cut has done is any part of it.
+/// used further. A failed write or cut may have done any part of it.
 ///
-/// What is said of bytes stands under `faithful` of the disk *after* the call: that the device has answered, up to and with
-/// this call, as this contract says. So a disk over real files, of which no proof knows what they give, keeps a record of
-/// the calls and their answers that only contracts read, and its premise is that each answer is one that the states
-/// allow, beginning at what a type parameter says that the files first hold. Such a premise can be true. (A fact that a
-/// disk must keep from before a call to after it could not be: only an impossible one stays true whatever a file
-/// gives.) A caller has it of the disk as it is at the end, and so of each moment before.
+/// What is said of bytes is under `faithful` of the disk *after* the call: that the device has answered, up to and with
+/// this call, as this contract says. No proof knows what real files give. So a disk over them keeps a record of the
+/// calls and their answers that only contracts read. Its premise is that each answer is one that the states allow,
+/// beginning at what a type parameter says that the files first hold. Such a premise can be true. (A fact that a disk
+/// must keep from before a call to after it could not be: only an impossible one stays true whatever a file gives.) A
+/// caller has the premise of the disk as it is at the end, and so of each moment before.
 pub trait Disk {
     /// The state of each file at each moment: first the moment, then the file.
     ghost state_at: { Self → ℕ → ℕ → FileState };
@@ -46,8 +46,8 @@ pub trait Disk {
     /// How many calls have failed.
     ghost failures: { Self → ℕ };
 
-    /// The device has done so far what this contract says of bytes. It is a premise for a real device, which no proof can
-    /// give; what holds of a later disk held of it at each earlier moment.
+    /// The device has done so far what this contract says of bytes. It is a premise for a real device, which no proof
+    /// can give; what holds of a later disk held of it at each earlier moment.
     ghost faithful: { Self → Type 0 };
 
     /// The length of a file in bytes.
@@ -73,8 +73,8 @@ pub trait Disk {
         ensures failures { CountsFailure result (failures self.old) (failures self.new) }
         ensures faithful { faithful self.new → faithful self.old };
 
-    /// Writes at an offset in bytes. Past the end the file gets longer, with zeros between. Until a sync a crash may leave
-    /// any bytes in the range.
+    /// Writes at an offset in bytes. Past the end the file gets longer, with zeros between. Until a sync a crash may
+    /// leave any bytes in the range.
     fn write_at(&mut self, file: u32, offset: u64, bytes: &[u8]) -> Result<(), Failed>
         ensures written { OnOk result (faithful self.new → Writes offset bytes.now
             (state_at self.old (clock self.old) file) (state_at self.new (clock self.new) file)) }
@@ -87,7 +87,7 @@ pub trait Disk {
         ensures failures { CountsFailure result (failures self.old) (failures self.new) }
         ensures faithful { faithful self.new → faithful self.old };
 
-    /// Makes a file `len` bytes long: cuts it, or puts zeros behind it.
+    /// Makes a file `len` bytes long: cuts it, or puts zeros after it.
     fn cut(&mut self, file: u32, len: u64) -> Result<(), Failed>
         ensures cut { OnOk result (faithful self.new → Cuts len
             (state_at self.old (clock self.old) file) (state_at self.new (clock self.new) file)) }

@@ -1,4 +1,4 @@
-//! What the words for calls and for all files say, as contracts of functions without a body.
+//! What the definitions for calls and for all files say, as contracts of functions without a body.
 ghost use Rattle.std.specs.Prelude.{◌≡◌, ◌+◌, ◌≤◌, ℕ, List};
 ghost use Rattle.disk_model.specs.FileState.{FileState, IsSound, at_rest};
 ghost use Rattle.disk_model.specs.Call.{Passes, KeepsOthers, Extends, OneCall};
@@ -6,8 +6,8 @@ ghost use Rattle.disk_model.specs.Crash.{HonestSince, LeavesAll, LeavesHonest, S
 ghost use Rattle.disk_model.specs.StoreFiles.{IsPrimaryFile};
 ghost use Rattle.disk_model.specs.ReadOnly.{OnlySyncs};
 
-/// A law: what a read gives of a store's files is what a crash might have left of them with honest first sectors. So a life
-/// that ends in a fault, and is followed by another without a crash, ends like one that a crash ended.
+/// A law: what a read gives of a store's files is what a crash might have left of them with honest first sectors. So a
+/// life that ends in a fault, and is followed by another without a crash, ends like one that a crash ended.
 pub fn shown_files_are_left()
     ensures { (state : ℕ → FileState) → ((f : ℕ) → IsSound (state f)) →
         ShowsHonest IsPrimaryFile state →
@@ -16,7 +16,7 @@ pub fn shown_files_are_left()
 
 /// Laws of a part that makes at most one device call on files of its own.
 ///
-/// - `none`: it makes none where nothing has changed.
+/// - `none`: it makes none if nothing has changed.
 /// - `call`: each call of a disk is one on its file.
 /// - `extends`: after it time has gone on, and what was before is as it was.
 pub fn one_call()
@@ -40,9 +40,11 @@ pub fn left_files_rest()
         others ≡ files }
 {}
 
-/// Laws of calls that write nothing, where what a read gave of a store's files had honest first sectors as they began.
+/// Laws of calls that write nothing. They apply if what a read gave of a store's files had honest first sectors as they
+/// began.
 ///
-/// - `left`: what a crash leaves at a moment from then on, with honest first sectors, might have been left as they began.
+/// - `left`: what a crash leaves at a moment from then on, with honest first sectors, might have been left as they
+///   began.
 /// - `honest`: at each such moment what a read gives still has honest first sectors.
 pub fn syncs_leave_what_was()
     ensures left { (old new : ℕ → ℕ → FileState) (start now : ℕ) → OnlySyncs old new start now →

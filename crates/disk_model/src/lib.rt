@@ -1,16 +1,17 @@
 //! Numbered files on a disk that may fail, and what a crash leaves of them.
 //!
-//! All that lasts stands on one trait, [`Disk`]: `len`, `read`, `write_at`, `cut` and `sync` on files with numbers. What it
-//! promises is what a power cut may leave, file by file and call by call, and nothing about when a call succeeds. For
-//! each file and each moment (a moment is a call) contracts know what was last synced, what a read gives, which ranges were
-//! written since, and the least and the greatest length since; `specs/FileState` says what follows for a crash. Only `sync`
-//! orders: once it has answered Ok, a crash leaves what a read gives.
+//! All that lasts rests on one trait, [`Disk`]: `len`, `read`, `write_at`, `cut` and `sync` on files with numbers. What
+//! it promises is what a power cut may leave, file by file and call by call, and nothing about when a call succeeds.
+//! For each file and each moment (a moment is a call) contracts know what was last synced and what a read gives. They
+//! know which ranges were written since, and the least and the greatest length since; `specs/FileState` says what
+//! follows for a crash. Only `sync` orders: once it has answered Ok, a crash leaves what a read gives.
 //!
-//! A first sector with a sum of its own may be torn like any other; `specs/Sector` says when what is left of it is honest.
+//! A first sector with a sum of its own may be torn like any other; `specs/Sector` says when what is left of it is
+//! honest.
 //!
 //! [`MemDisk`] is files in memory that are such a disk, with nothing assumed. It fails as its [`Plan`] says, and
-//! [`MemDisk::crashed`] is the disk after a power cut with one of three [`Tear`]s. [`laws`] says what the words mean for
-//! parts that make at most one call, and for a life that ends in a fault without a crash.
+//! [`MemDisk::crashed`] is the disk after a power cut with one of three [`Tear`]s. [`laws`] says what the definitions
+//! mean for parts that make at most one call, and for a life that ends in a fault without a crash.
 #![tactic(auto)]
 
 mod disk;

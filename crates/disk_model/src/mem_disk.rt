@@ -1,4 +1,4 @@
-//! Files in memory, as a disk. It fails as a plan says, and where it finds no memory.
+//! Files in memory, as a disk. It fails as a plan says, and if it finds no memory.
 ghost use Rattle.std.specs.Prelude.{◌≡◌, ℕ, ◌≤◌, [], length, IfOk, OnOk, OnErr, IsErr};
 ghost use Rattle.disk_model.specs.FileState.{Writes, MayWrite, Cuts, MayCut, Syncs, at_rest, Leaves};
 ghost use Rattle.disk_model.specs.Sector.{IsHonest};
@@ -15,10 +15,11 @@ use std::alloc::{AllocError, Global};
 use std::snapshot::Snapshot;
 use std::sync::Arc;
 
-/// The files that a disk in memory holds have numbers below this. Others read as empty, and a write or a cut of one fails.
+/// The files that a disk in memory keeps have numbers below this. Others read as empty, and a write or a cut of one
+/// fails.
 pub const FILES: u32 = 64;
 
-/// What a failed call of it does: a write and a cut are done where the plan stops the disk, and else nothing is.
+/// A failed write or cut of it is done if the plan stops the disk there. Any other failed call does nothing.
 #[derive(Drop)]
 pub struct MemDisk {
     files: Vec<MemFile>,
@@ -42,9 +43,9 @@ impl MemDisk {
         }
     }
 
-    /// Takes memory ahead for the files with numbers below `files`: of the next `calls` calls none on such a file takes any,
-    /// where none of these files gets more than `bytes` bytes longer. What other files would need is not taken. A refused
-    /// one may have taken some of it.
+    /// Takes memory ahead for the files with numbers below `files`. Then none of the next `calls` calls on such a file
+    /// takes any, if none of these files gets more than `bytes` bytes longer. What other files would need is not taken.
+    /// A refused call may have taken some of it.
     pub fn room(&mut self, files: u32, bytes: usize, calls: usize) -> Result<(), AllocError>
         requires { files ≤ FILES }
         ensures room { OnOk result (IsRoomy files bytes calls self.new) }
@@ -58,7 +59,8 @@ impl MemDisk {
         reserve(&mut self.files, files as usize, bytes, calls)
     }
 
-    /// The disk after a crash now, as `tear` says. What is left counts as synced. `plan` is that of the new disk; this one stays.
+    /// The disk after a crash now, as `tear` says. What is left counts as synced. `plan` is the new disk's plan; this
+    /// one stays.
     pub fn crashed(&self, tear: Tear, plan: Arc<Plan>) -> Result<MemDisk, AllocError>
         ensures left { IfOk result (λ disk. (f : ℕ) → IsCrashOf tear
             (⟦<MemDisk as Disk>⟧.state_at self.now (⟦<MemDisk as Disk>⟧.clock self.now) f)
@@ -94,7 +96,7 @@ fn files_after(files: &Vec<MemFile>, tear: Tear) -> Result<Vec<MemFile>, AllocEr
     Ok(after)
 }
 
-// So many files are there then, and the state of each is as before.
+// At least `count` files are there then, and the state of each is as before.
 #[tactic(auto, using(crate::proofs::Files::state_of_push))]
 fn make_up_to(files: &mut Vec<MemFile>, count: usize) -> Result<(), AllocError>
     ensures made { OnOk result (count ≤ length files.new.items) }
@@ -107,7 +109,7 @@ fn make_up_to(files: &mut Vec<MemFile>, count: usize) -> Result<(), AllocError>
     Ok(())
 }
 
-/// Takes the memory that each of the first `count` files needs to get so many bytes longer in so many calls.
+/// Takes the memory that each of the first `count` files needs to get `bytes` bytes longer in `calls` calls.
 fn reserve(
     files: &mut Vec<MemFile>,
     count: usize,

@@ -39,7 +39,7 @@ impl MemFile {
         }
     }
 
-    /// Takes the memory that it needs to get so many bytes longer, and for so many writes before the next sync.
+    /// Takes the memory that it needs to get `bytes` bytes longer, and for `writes` writes before the next sync.
     pub fn reserve(&mut self, bytes: usize, writes: usize) -> Result<(), AllocError>
         ensures same { file_state self.new ≡ file_state self.old }
         ensures room { OnOk result (FileHasRoom bytes writes self.new) }
@@ -117,7 +117,7 @@ impl MemFile {
     }
 }
 
-/// Makes the bytes this long: cut at the end, or with zeros behind them.
+/// Makes the bytes this long: cut at the end, or with zeros after them.
 fn lengthen(bytes: &mut Vec<u8>, len: usize) -> Result<(), AllocError>
     ensures done { OnOk result (bytes.new.items ≡ resized bytes.old.items len) }
     ensures failed { OnErr result (bytes.new.items ≡ bytes.old.items) }
@@ -125,7 +125,7 @@ fn lengthen(bytes: &mut Vec<u8>, len: usize) -> Result<(), AllocError>
     bytes.resize(len, 0)
 }
 
-/// Makes the file long enough to reach an offset, with zeros behind it.
+/// Makes the file long enough to reach an offset, with zeros after it.
 fn reach(file: &mut Vec<u8>, end: usize) -> Result<(), AllocError>
     ensures done { OnOk result (file.new.items
         ≡ resized file.old.items (max (length file.old.items) end)) }

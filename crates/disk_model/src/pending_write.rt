@@ -3,7 +3,7 @@ ghost use Rattle.std.specs.Prelude.{◌≡◌, length, take, drop};
 
 use std::snapshot::Snapshot;
 
-/// The place of one write. Its bytes are read off what the file held after it.
+/// The range of one write. Its bytes are read off what the file had after it.
 #[derive(Drop)]
 pub(crate) struct PendingWrite {
     pub offset: usize,

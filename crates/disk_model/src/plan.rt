@@ -1,4 +1,4 @@
-//! When a disk in memory is to fail, told from outside while it is used.
+//! When a disk in memory is to fail, set from outside while it is used.
 ghost use Rattle.std.specs.Prelude.{◌≡◌, ◌+◌, ◌<◌, ◌≤◌, ◌^◌};
 ghost use Rattle.disk_model.specs.Plan.{fate_of};
 
@@ -8,13 +8,13 @@ use std::sync::atomic::{AtomicU64, Ordering};
 #[derive(Clone, Copy)]
 pub(crate) enum Fate {
     Succeeds,
-    /// It is done, and told as failed.
+    /// It is done, and reported as failed.
     Stops,
     /// It is not done.
     Fails,
 }
 
-/// One call, by its place among all calls.
+/// One call, by its number among all calls.
 #[derive(Clone, Copy)]
 pub(crate) struct PlannedCall {
     /// Which of all calls it is; the first is 1.
@@ -56,7 +56,8 @@ impl FailurePoints {
     }
 }
 
-/// When the calls of a [`MemDisk`](crate::MemDisk) fail. It is shared with the disk, and may be changed while that is used.
+/// When the calls of a [`MemDisk`](crate::MemDisk) fail. It is shared with the disk, and may be changed while that is
+/// used.
 #[derive(Drop)]
 pub struct Plan {
     calls: AtomicU64,
@@ -76,8 +77,8 @@ impl Plan {
         }
     }
 
-    /// The `k`-th write, cut or sync from now on fails, and so does every call after it, reads too. The `k`-th is done if it
-    /// is a write or a cut; a sync isn't. It takes the place of an earlier stop.
+    /// The `k`-th write, cut or sync from now on fails, and so does every call after it, reads too. The `k`-th is done
+    /// if it is a write or a cut; a sync isn't. It replaces an earlier stop.
     pub fn stop_at(&self, k: u64)
         requires { 1 ≤ k }
     {
@@ -85,7 +86,7 @@ impl Plan {
         self.stop_on.store(mark, Ordering::SeqCst);
     }
 
-    /// The `k`-th call of any kind from now on fails, alone, and does nothing. It takes the place of an earlier one.
+    /// The `k`-th call of any kind from now on fails, alone, and does nothing. It replaces an earlier one.
     pub fn fail_at(&self, k: u64)
         requires { 1 ≤ k }
     {
@@ -113,7 +114,7 @@ impl Plan {
     }
 }
 
-/// The number of the `k`-th call after so many.
+/// The number of the `k`-th call after `so_far` calls.
 fn mark_at(so_far: u64, k: u64) -> u64
     requires { 1 ≤ k }
     ensures { so_far + k < 2 ^ 64 → result ≡ so_far + k }

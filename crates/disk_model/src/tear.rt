@@ -13,7 +13,8 @@ pub enum Tear {
     Old,
     /// All that was written and cut.
     New,
-    /// The same, with the last byte inverted of each range that is written and not synced. A later range goes over an earlier.
+    /// The same, with the last byte inverted of each range that is written and not synced. A later range goes over an
+    /// earlier.
     Torn,
 }
 

@@ -14,7 +14,7 @@ open_entries-push : (es : List ℕ) (byte : ℕ) (rest : List ℕ) → open_entr
 open_entries-push [] byte rest = refl
 open_entries-push (e ∷ es) byte rest = ap (λ (l : List ℕ). 0xc3 ∷ e ∷ l) (open_entries-push es byte rest)
 
--- behind a closed gate nothing counts
+-- after a closed gate nothing counts
 entries_of-closed : (es rest : List ℕ) → entries_of (open_entries es ++ 0 ∷ rest) ≡ es
 entries_of-closed [] [] = refl
 entries_of-closed [] (r ∷ rest) = refl
@@ -31,7 +31,7 @@ entries_of-gate [] gate byte = by_test (gate == 0xc3)
     by_test false = inl refl
 entries_of-gate (e ∷ es) gate byte = elim (entries_of-gate es gate byte) [ inl none ↦ inl (ap (λ (l : List ℕ). e ∷ l) none) | inr one ↦ inr (ap (λ (l : List ℕ). e ∷ l) one) ]
 
--- the log with an entry behind its closed gate
+-- the log with an entry after its closed gate
 abbrev pub staged : List ℕ → ℕ → List ℕ
 staged es byte = open_entries es ++ 0 ∷ byte ∷ 0 ∷ []
 
@@ -65,7 +65,7 @@ module _ (es : List ℕ) (count byte : ℕ) (counted : count ≡ length es) wher
       ∙ append_assoc (open_entries es) (0xc3 ∷ []) (byte ∷ 0 ∷ [])
       ∙ sym (open_entries-push es byte (0 ∷ []))
 
-  -- the closed gate stands in whatever the first write leaves
+  -- the closed gate is in whatever the first write leaves
   pub left_behind : (seen c : List ℕ) → Leaves (after_write (at_rest (log_of es)) (2 * count + 1) (byte ∷ 0 ∷ []) seen) c → entries_of c ≡ es
   left_behind seen c left =
       let kept : take (2 * count + 1) c ≡ log_of es
@@ -74,7 +74,7 @@ module _ (es : List ℕ) (count byte : ℕ) (counted : count ≡ length es) wher
       = sym (take-append-drop (2 * count + 1) c) ∙ ap (λ (l : List ℕ). l ++ drop (2 * count + 1) c) kept ∙ append_assoc (open_entries es) (0 ∷ []) (drop (2 * count + 1) c) in
       ap entries_of whole ∙ entries_of-closed es (drop (2 * count + 1) c)
 
-  -- the entry stands whole in whatever the second write leaves
+  -- the entry is whole in whatever the second write leaves
   pub left_gate : (seen c : List ℕ) → Leaves (after_write (at_rest (staged es byte)) (2 * count) (0xc3 ∷ []) seen) c → (entries_of c ≡ es) ⊎ (entries_of c ≡ es ++ byte ∷ [])
   left_gate seen c left =
       let gate = get_or c (2 * count) 0 in

@@ -29,7 +29,7 @@ module _ (old : ℕ → FileState) (count byte : ℕ) (settled : IsSettled old c
       let worst = left_of_write (2 * count + 1) (byte ∷ 0 ∷ []) (at_rest (log_of es)) log [] (files 0) (subst (λ (s : FileState). MayWrite (2 * count + 1) (byte ∷ 0 ∷ []) s log) settled.log may) left in
       (inl (left_behind es count byte settled.counted [] (files 0) worst), other_left other (files 1) same other_may)
 
-  -- once it is synced the entry stands behind the closed gate
+  -- once it is synced the entry is after the closed gate
   pub is_staged : (log synced : FileState) → Writes (2 * count + 1) (byte ∷ 0 ∷ []) (old 0) log → Syncs log synced → synced ≡ at_rest (staged es byte)
   is_staged log synced wrote syncs =
       let at_log : Writes (2 * count + 1) (byte ∷ 0 ∷ []) (at_rest (log_of es)) log = subst (λ (s : FileState). Writes (2 * count + 1) (byte ∷ 0 ∷ []) s log) settled.log wrote in

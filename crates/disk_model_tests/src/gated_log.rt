@@ -1,7 +1,8 @@
-//! A log of bytes on one file of a disk, beside a second file that it leaves alone: an example of what the disk's contract proves.
+//! A log of bytes on one file of a disk, beside a second file that it leaves alone: an example of what the disk's
+//! contract proves.
 //!
-//! Each entry is a gate and a byte. An entry counts if its gate is open and so are those before it. A closed gate stands
-//! after the last entry, on the disk before anything is written behind it.
+//! Each entry is a gate and a byte. An entry counts if its gate is open and so are those before it. A closed gate comes
+//! after the last entry, on the disk before anything is written after it.
 ghost use Rattle.std.specs.Prelude.{◌≡◌, ℕ, ◌+◌, ◌*◌, ◌^◌, ◌<◌, ◌≤◌, List, [], ◌∷◌, ◌++◌, OnOk, OnErr};
 ghost use Rattle.disk_model.specs.Crash.{LeavesOnly};
 ghost use Rattle.disk_model_tests.specs.GatedLog.{entries_of, IsSettled, HasOneMore, IsBeforeOrAfter};
@@ -16,7 +17,7 @@ const OPEN: u8 = 0xc3;
 
 const CLOSED: u8 = 0;
 
-/// Makes an empty log, whatever the file held, and puts both files on the disk.
+/// Makes an empty log, whatever was in the file, and puts both files on the disk.
 pub fn create<D: Disk>(disk: &mut D) -> Result<(), Failed>
     ensures settled { OnOk result (D.faithful disk.new →
         IsSettled (D.state_at disk.new (D.clock disk.new)) 0) }
@@ -36,7 +37,8 @@ pub fn append<D: Disk>(disk: &mut D, count: u64, byte: u8) -> Result<(), Failed>
         HasOneMore (D.state_at disk.old (D.clock disk.old))
         (D.state_at disk.new (D.clock disk.new)) count byte) }
 
-    // A crash at any moment of the call leaves the entries from before it, with the new one or without, and the other file as it was.
+    // A crash at any moment of the call leaves the entries from before it, with the new one or without, and the other
+    // file as it was.
     ensures any_moment { D.faithful disk.new →
         LeavesOnly (D.state_at disk.new) (D.clock disk.new) (D.clock disk.old)
         (IsBeforeOrAfter (D.state_at disk.old (D.clock disk.old)) byte) }

@@ -14,7 +14,7 @@ past_all : (n m : ℕ) → m < n → nat_le n m ≡ false
 past_all n m lt = elim (cases_Bool (nat_le n m)) [ inl t ↦ absurd (omega (arith, lt, leb-true n m t)) | inr f ↦ f ]
 
 module _ (seen : Seen) (old : List Call) (last : Call) where
-  -- the files behind it, and at each moment before
+  -- the files after it, and at each moment before
   pub state_now : (f : ℕ) → states seen (last ∷ old) (length (last ∷ old)) f ≡ after last (seen.torn (length old)) (states seen old (length old)) f
   unfolding states
   state_now f = ap (λ (b : Bool). if b then states seen old (length (last ∷ old)) f else after last (seen.torn (length old)) (states seen old (length old)) f) (past_all (length (last ∷ old)) (length old) (omega arith))
@@ -36,7 +36,7 @@ back seen old new last is f = (faithful_parts seen old last (subst (AreFaithful 
 pub allowed : (seen : Seen) (old new : List Call) (last : Call) → new ≡ last ∷ old → AreFaithful seen new → Allows last (seen.torn (length old)) (states seen old (length old))
 allowed seen old new last is f = (faithful_parts seen old last (subst (AreFaithful seen) is f)).1
 
--- what a call makes of the files, where that is the same as some other state
+-- what a call makes of the files, if that is the same as some other state
 behind : (seen : Seen) (old new : List Call) (last : Call) → new ≡ last ∷ old → (f : ℕ) (state : FileState) → after last (seen.torn (length old)) (states seen old (length old)) f ≡ state → states seen new (length new) f ≡ state
 behind seen old new last is f state same = ap (λ (l : List Call). states seen l (length l) f) is ∙ state_now seen old last f ∙ same
 
@@ -95,7 +95,7 @@ is_read seen old new file offset before later count was is first then' by f =
     subst (λ (l : List ℕ). ReadGives offset (states seen old (length old) file).seen l is count) first
     (subst (λ (l : List ℕ). ReadGives offset (states seen old (length old) file).seen (bytes_in before.value) l count) then' (allowed seen old new _ by f))
 
--- what holds whatever was told holds where a refusal was
+-- what holds whatever was reported holds if a refusal was
 pub told_anyway : {T E P : Type 0} (result : Result T E) → P → OnErr result P
 told_anyway (Ok x) p = tt
 told_anyway (Err e) p = p

@@ -32,8 +32,8 @@ abbrev pub failures_in : List Call → ℕ
 failures_in [] = 0
 failures_in (last ∷ calls) = cond (has_failed last) (failures_in calls + 1) (failures_in calls)
 
--- What the files of a folder hold as it is opened, by their numbers; and what a file shows after a write or a cut that failed, by
--- the number of calls before it.
+-- What the files of a folder hold as it is opened, by their numbers; and what a file shows after a write or a cut that
+-- failed, by the number of calls before it.
 pub record Seen : Type 0 where
   pub first : ℕ → List ℕ
   pub torn : ℕ → List ℕ
@@ -42,7 +42,7 @@ pub record Seen : Type 0 where
 abbrev pub changed : ℕ → FileState → (ℕ → FileState) → ℕ → FileState
 changed file new state f = if f == file then new else state f
 
--- the files after a call, where a file shows this after one that failed
+-- the files after a call, if a file shows this after one that failed
 abbrev pub after : Call → List ℕ → (ℕ → FileState) → ℕ → FileState
 after (call.Measured file length) torn state = state
 after (call.Read file offset before later count) torn state = state
@@ -51,7 +51,7 @@ after (call.Cut file length failed) torn state = changed file (after_cut (state 
 after (call.Synced file) torn state = changed file (at_rest (state file).seen) state
 after call.Denied torn state = state
 
--- the files after the first calls, so many; after all of them, where there are no more
+-- the files after a number of first calls, or after all of them if there are no more
 unfoldable pub states : Seen → List Call → ℕ → ℕ → FileState
 states seen [] k f = at_rest (seen.first f)
 states seen (last ∷ calls) k f = if nat_le k (length calls) then states seen calls k f else after last (seen.torn (length calls)) (states seen calls (length calls)) f

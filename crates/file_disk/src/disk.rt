@@ -11,14 +11,15 @@ use std::fs::File;
 use std::marker::PhantomData;
 use std::rt::Files;
 
-/// The files of a store in a folder. A file that isn't there reads as empty, its sync and its cut to nothing do nothing, and the
-/// first write makes it. The first sync of a file syncs the folder too, and so does the first one after a file was made: names that
-/// an earlier run left are kept too. The journal is `journal`, and hive 0 has the files `hive00.dat` and `hive00.log`, and so on.
+/// The files of a store in a folder. A file that isn't there reads as empty. Its sync and its cut to nothing do
+/// nothing, and the first write makes it. The first sync of a file syncs the folder too, and so does the first one
+/// after a file was made. So names that an earlier run left are kept too. The journal is `journal`, and hive 0 has the
+/// files `hive00.dat` and `hive00.log`, and so on.
 ///
-/// No other program that holds the folder so has it until this is dropped.
+/// No other program that locks folders in this way can lock the folder until this is dropped.
 ///
-/// What is proved of its files stands under the premise that each answer of the system is one that they allow, from what the world
-/// `W` says that they first hold.
+/// What is proved of its files has a premise: each answer of the system is one that they allow, from what the world `W`
+/// says that they first hold.
 #[derive(Drop)]
 pub struct FileDisk<R: Files<File = File> + Drop, W: World> {
     folder: Folder<R>,
@@ -27,10 +28,10 @@ pub struct FileDisk<R: Files<File = File> + Drop, W: World> {
 }
 
 impl<R: Files<File = File> + Drop, W: World> FileDisk<R, W> {
-    /// Takes hold of a folder, which may be missing: then its files read as empty and none can be made, also if the folder is
+    /// Locks a folder, which may be missing: then its files read as empty and none can be made, also if the folder is
     /// made later.
     ///
-    /// Refused where another program has it, where it is no folder, where the system refuses it, and for want of memory.
+    /// Refused if another program has it, if it is no folder, if the system refuses it, and for want of memory.
     pub fn open_locked(rt: R, alloc: Global, folder: &str) -> Result<FileDisk<R, W>, LockError> {
         Ok(FileDisk {
             folder: Folder::open_locked(rt, alloc, folder)?,
@@ -39,8 +40,8 @@ impl<R: Files<File = File> + Drop, W: World> FileDisk<R, W> {
         })
     }
 
-    /// How many bytes the journal and the hives have, without the hives' logs: what an opening reads, where nothing is to be
-    /// repaired. What can't be asked of counts nothing.
+    /// How many bytes the journal and the hives have, without the hives' logs: what an opening reads, if nothing is to
+    /// be repaired. A file that can't be measured counts nothing.
     pub fn store_bytes(&mut self) -> u64
         ensures { self.new.calls ≡ self.old.calls }
     {
@@ -52,7 +53,7 @@ impl<R: Files<File = File> + Drop, W: World> FileDisk<R, W> {
 }
 
 impl<R: Files<File = File> + Drop, W: World> FileDisk<R, W> {
-    /// Whether the folder was there as this took hold of it.
+    /// Whether the folder was there as this was opened.
     pub fn has_folder(&self) -> bool {
         self.folder.is_there()
     }
@@ -62,7 +63,8 @@ impl<R: Files<File = File> + Drop, W: World> FileDisk<R, W> {
         self.folder.denial()
     }
 
-    /// The first file that was read and wasn't there, of those that each store has: the journal and the hives' primary files.
+    /// The first file that was read and wasn't there, of those that each store has: the journal and the hives' primary
+    /// files.
     pub fn missing_file(&self) -> Option<FileName> {
         self.folder.missing_file()
     }

@@ -8,8 +8,8 @@ use std::io::{self, ErrorKind};
 use std::os::unix::fs::FileExt;
 use std::rt::Files;
 
-/// How many files the folder of a store may have: a journal, and two files for each of 16 hives. Others read as empty, and a write
-/// of one fails.
+/// How many files the folder of a store may have: a journal, and two files for each of 16 hives. Others read as empty,
+/// and a write of one fails.
 pub const MOST_FILES: u32 = 33;
 
 /// The name in its folder of the file of this number: `journal`, `hive00.dat`, `hive00.log`, `hive01.dat`, and so on.
@@ -33,16 +33,16 @@ impl fmt::Display for FileName {
 // the longest name of a file, with the slash before it, in bytes
 const LONGEST_NAME: usize = 11;
 
-/// What the system refused of a folder that is held.
+/// What the system refused of a locked folder.
 #[derive(Clone, Copy, Debug)]
 pub struct Denial {
-    /// The file of which it refused a call; none if that was a sync of the folder itself.
+    /// The file of the refused call; none if it was a sync of the folder itself.
     pub file: Option<FileName>,
     /// Its error.
     pub error: io::Error,
 }
 
-/// Why a folder can't be held.
+/// Why a folder can't be locked.
 #[derive(Debug, Drop)]
 pub enum LockError {
     /// Memory was not given.
@@ -75,21 +75,21 @@ impl From<io::Error> for LockError {
     }
 }
 
-/// A folder whose files are opened as they are first asked for and stay open. A file that isn't there reads as empty, and is made
-/// by the first write.
+/// A folder whose files are opened as they are first asked for and stay open. A file that isn't there reads as empty,
+/// and is made by the first write.
 ///
-/// No other program that holds folders so has it until this is dropped.
+/// No other program that locks folders in this way can lock it until this is dropped.
 #[derive(Drop)]
 pub(crate) struct Folder<R: Files<File = File> + Drop> {
     rt: R,
-    // the folder's path, and that of a file that is being opened, for which there is room
+    // the folder's path, and the path of a file that is being opened, for which there is room
     folder: String,
     path: String,
     // the folder itself, which is locked; none if it wasn't there, and then no file is
     handle: Option<File>,
     files: Vec<Option<File>>,
-    // a crash may take a file's name out of the folder: a run was ended after it had made the file and before it synced the
-    // folder, or this one has made it
+    // a crash may take a file's name out of the folder: a run was ended after it had made the file and before it synced
+    // the folder, or this one has made it
     has_news: bool,
     // what the system refused first
     denial: Option<Denial>,
@@ -98,7 +98,7 @@ pub(crate) struct Folder<R: Files<File = File> + Drop> {
 }
 
 impl<R: Files<File = File> + Drop> Folder<R> {
-    /// Takes hold of a folder. One that isn't there has no files, and none can be made in it, also if somebody makes the folder
+    /// Locks a folder. One that isn't there has no files, and none can be made in it, also if somebody makes the folder
     /// later: nothing locks it. What isn't a folder is refused.
     pub(crate) fn open_locked(rt: R, alloc: Global, folder: &str) -> Result<Folder<R>, LockError> {
         let path = String::with_capacity(alloc, folder.len().saturating_add(LONGEST_NAME))?;
@@ -129,7 +129,7 @@ impl<R: Files<File = File> + Drop> Folder<R> {
         })
     }
 
-    /// Whether the folder was there as it was taken hold of.
+    /// Whether the folder was there as it was opened.
     pub(crate) fn is_there(&self) -> bool {
         self.handle.is_some()
     }
@@ -168,15 +168,15 @@ impl<R: Files<File = File> + Drop> Folder<R> {
         self.record_denial(Some(number), told)
     }
 
-    /// Makes a file so long. One that isn't there is made, but where it is to be empty.
+    /// Makes a file `length` bytes long. One that isn't there is made, unless it is to be empty.
     pub(crate) fn cut(&mut self, number: u32, length: u64) -> io::Result<()> {
         let told = self.resize(number, length);
         self.record_denial(Some(number), told)
     }
 
-    /// Syncs a file, and the folder if it is the first sync since the folder was held or since a file was made: else a crash may
-    /// leave the folder without the file. What is synced are the bytes and the length (`fdatasync`), not the moment of the last
-    /// change, which nothing reads.
+    /// Syncs a file. Syncs the folder too if it is the first sync since the folder was locked or since a file was made.
+    /// Without this a crash may leave the folder without the file. What is synced are the bytes and the length
+    /// (`fdatasync`), not the moment of the last change, which nothing reads.
     pub(crate) fn sync(&mut self, number: u32) -> io::Result<()> {
         let told = self.sync_bytes(number);
         if self.record_denial(Some(number), told)? {
@@ -186,7 +186,7 @@ impl<R: Files<File = File> + Drop> Folder<R> {
         Ok(())
     }
 
-    /// The length of a file in bytes, of which nothing is remembered.
+    /// The length of a file in bytes, which isn't remembered.
     pub(crate) fn size(&mut self, number: u32) -> io::Result<u64> {
         match self.find(number)? {
             Some(file) => Ok(file.metadata()?.len()),
@@ -220,7 +220,7 @@ impl<R: Files<File = File> + Drop> Folder<R> {
         self.make(number)?.set_len(length)
     }
 
-    // syncs what a file holds; answers whether the file is there
+    // syncs a file's bytes; answers whether the file is there
     fn sync_bytes(&mut self, number: u32) -> io::Result<bool> {
         match self.find(number)? {
             Some(file) => {
@@ -258,7 +258,7 @@ impl<R: Files<File = File> + Drop> Folder<R> {
         told
     }
 
-    // remembers the first file that isn't there, though each store has it; an odd number is that of a primary file
+    // remembers the first file that isn't there, though each store has it; an odd number is a primary file's
     fn look_for(&mut self, number: u32) {
         let is_of_each_store = number == 0 || number % 2 == 1;
         if is_of_each_store && self.missing_file.is_none() && self.is_closed(number) {
@@ -266,7 +266,7 @@ impl<R: Files<File = File> + Drop> Folder<R> {
         }
     }
 
-    // the file of a number, where it is there
+    // the file of a number, if it is there
     fn find(&mut self, number: u32) -> io::Result<Option<&File>> {
         if self.is_closed(number) {
             let how = File::options();
@@ -275,7 +275,7 @@ impl<R: Files<File = File> + Drop> Folder<R> {
         Ok(self.opened(number))
     }
 
-    // the file of a number, which is made where it isn't there
+    // the file of a number, which is made if it isn't there
     fn make(&mut self, number: u32) -> io::Result<&File> {
         if self.find(number)?.is_none() {
             let mut how = File::options();
@@ -297,8 +297,8 @@ impl<R: Files<File = File> + Drop> Folder<R> {
         }
     }
 
-    // opens a file to read and to write, if it is there or is made; there is none after the last one, and none in a folder that
-    // isn't locked
+    // opens a file to read and to write, if it is there or is made; there is none after the last one, and none in a
+    // folder that isn't locked
     fn open(&mut self, number: u32, how: OpenOptions) -> io::Result<()> {
         if number >= MOST_FILES || self.handle.is_none() {
             return Ok(());
@@ -318,7 +318,7 @@ impl<R: Files<File = File> + Drop> Folder<R> {
         }
     }
 
-    // sets the path to that of a file
+    // sets the path to the path of a file
     fn name(&mut self, number: u32) -> io::Result<()> {
         self.path.clear();
         self.path.push_str(self.folder.as_str())?;
@@ -327,7 +327,7 @@ impl<R: Files<File = File> + Drop> Folder<R> {
     }
 }
 
-// takes the lock on a folder, where no other program has it
+// takes the lock on a folder, if no other program has it
 fn lock(handle: &File) -> Result<(), LockError> {
     match handle.try_lock() {
         Ok(()) => Ok(()),

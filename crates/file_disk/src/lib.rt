@@ -1,7 +1,8 @@
 //! A disk over the files of a folder, by std's files.
 //!
-//! A proof can't know what a real file holds. So a [`FileDisk`] keeps a record of its calls and their answers, which only contracts
-//! read, and promises what a disk promises where each answer is one that the files allow: a premise that can be true.
+//! A proof can't know what a real file holds. So a [`FileDisk`] keeps a record of its calls and their answers, which
+//! only contracts read. It promises what a disk promises if each answer is one that the files allow: a premise that can
+//! be true.
 #![tactic(auto)]
 
 mod disk;

@@ -8,19 +8,20 @@ use std::snapshot::Snapshot;
 #[derive(Drop)]
 pub(crate) enum Bytes {
     None,
-    /// Bytes, and one behind them.
+    /// Bytes, and one after them.
     Then(Snapshot<Bytes>, u8),
 }
 
 /// A call of the device and its answer.
 #[derive(Drop)]
 pub(crate) enum Call {
-    /// The length of a file was told.
+    /// The length of a file was reported.
     Measured {
         file: u32,
         length: u64,
     },
-    /// A file was read from an offset on into a buffer, which held some bytes before and others behind it: so many came.
+    /// A file was read from an offset on into a buffer. The buffer's bytes before and after the call are kept, and how
+    /// many bytes came.
     Read {
         file: u32,
         offset: u64,
@@ -28,14 +29,14 @@ pub(crate) enum Call {
         after: Snapshot<Bytes>,
         count: usize,
     },
-    /// Bytes were written at an offset of a file, or a part of them where the call failed.
+    /// Bytes were written at an offset of a file, or a part of them if the call failed.
     Written {
         file: u32,
         offset: u64,
         bytes: Snapshot<Bytes>,
         failed: bool,
     },
-    /// A file was made so long, or may have been where the call failed.
+    /// A file was made this long, or may have been if the call failed.
     Cut {
         file: u32,
         length: u64,
@@ -53,7 +54,7 @@ pub(crate) enum Call {
 #[derive(Drop)]
 pub(crate) enum Record {
     Begun,
-    /// Calls, and one behind them.
+    /// Calls, and one after them.
     Then(Snapshot<Record>, Call),
 }
 

@@ -1,8 +1,8 @@
 //! What is supposed of the files of a folder.
 ghost use Rattle.file_disk.specs.Records.{Seen};
 
-/// What the files of a folder hold as it is opened, and what they show after calls that fail. No code can read it: what is proved
-/// of code over any world is proved whatever the files hold.
+/// What the files of a folder hold as it is opened, and what they show after calls that fail. No code can read it: what
+/// is proved of code over any world is proved whatever the files hold.
 pub trait World: Drop {
     ghost seen: { Seen };
 }

@@ -1,11 +1,12 @@
-//! Makes hives of scripts, and times how long they take to be loaded. `bench/` and `examples/` have what it is called for.
+//! Makes hives of scripts, and times how long they take to be loaded. `bench/` and `examples/` have what it is called
+//! for.
 //!
 //! | words | |
 //! |---|---|
-//! | `hive_bench make LEAST` | reads a script of one hive from standard input, without sessions and transactions, and writes the primary file of the tree that it leaves, with at least so many bytes of bins data, to standard output |
+//! | `hive_bench make LEAST` | reads a script of one hive from standard input, without sessions and transactions, and writes the primary file of the tree that it leaves, with at least LEAST bytes of bins data, to standard output |
 //! | `hive_bench load FILE` | loads the bins data of a file, and prints the processor time that it took, in microseconds |
 //!
-//! The status is 0 where it was done, else 1, and nothing is said of why.
+//! The status is 0 if it was done, else 1, and nothing is said of why.
 #![tactic(auto)]
 
 mod loading;

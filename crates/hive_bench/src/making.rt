@@ -11,7 +11,7 @@ use std::io::{BufRead, BufReader, BufWriter, Write};
 use test_support::Fault;
 use uuid::Uuid;
 
-// the bytes behind the first sector of a base block
+// the bytes after the first sector of a base block
 const REST_BYTES: usize = 3_584;
 
 /// Writes the primary file of the tree that the lines of standard input make.
@@ -47,12 +47,12 @@ fn trees_of<R: BufRead + Drop>(alloc: Global, reader: R) -> Result<Trees, Fault>
     Ok(trees)
 }
 
-// the path of a place
+// the path of a key
 fn path_of(alloc: Global, key_ref: &KeyRef) -> Result<Path, Refusal> {
     Path::parse(alloc, key_ref.path.units())
 }
 
-// the operation on hive 0 that a request asks for, where it writes
+// the operation on hive 0 that a request asks for, if it writes
 fn op_of(alloc: Global, request: Request) -> Result<Option<Op>, Fault> {
     Ok(Some(match request {
         Request::Create { key_ref } => Op::CreateKey {

@@ -49,7 +49,7 @@ same_cell bytes at = record { begins = λ found. found; began = λ found. found;
 
 -- ---- bounds over a change
 
--- the bounds hold but for the second of two cells, where they hold of the first
+-- the bounds hold but for the second of two cells, if they hold of the first
 pub bounds_on : (old new bounds : List ℕ) (a b : ℕ) → AreBounds old bounds → OtherCells old new a b → length new ≡ length old → (a ≢ b → IsFreeCell new a → cell_size new a ≤ bound_at bounds a) → AreBoundsBut new bounds b
 bounds_on old new bounds a b m cells len first =
     record {

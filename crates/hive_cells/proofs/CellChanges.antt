@@ -11,7 +11,7 @@ use Rattle.hive_cells.proofs.Reached.{whole_at_mark, starts_at_mark, mark_at_sta
 use Rattle.hive_cells.proofs.Marking.{SetsMark, set_mark}
 use Rattle.hive_cells.proofs.Region.{ChangesCells, size_same, kind_same, all_again, stays_at, same_at, words_same}
 
--- a size that is put leaves the words before and behind it
+-- a size that is put leaves the words before and after it
 pub puts_beside : (old new : List ℕ) (at size : ℕ) (kind : Bool) → PutsSize old new at size kind → (other : ℕ) → ((other + 4 ≤ at) ⊎ (at + 4 ≤ other)) → u32_at new other ≡ u32_at old other
 puts_beside old new at size kind p other (inl low) = words_same old new other (λ i after before. p.others i (inl (omega arith)))
 puts_beside old new at size kind p other (inr high) = words_same old new other (λ i after before. p.others i (inr (omega arith)))
@@ -376,15 +376,15 @@ module _ (bytes bytes' : List ℕ) (marks : List Mark) (k a rest : ℕ) (m : IsM
 
 -- ---- the same by offsets, with the bits
 
--- a change leaves what is kept, what stays, and all cells but for those at two offsets, at the first of which a cell
--- begins
+-- a change leaves what is kept, what stays, and all cells but for the cells at two offsets; a cell begins at the first
+-- of them
 pub record Changed (old new words : List ℕ) (Stay : Type 0) (a b : ℕ) : Type 0 where
   pub kept : HasStartBits new words
   pub stay : Stay
   pub cells : OtherCells old new a b
   pub begins : BeginsCell new a
 
--- the bits where one mark is set
+-- the bits if one mark is set
 pub puts_same : (bytes bytes' : List ℕ) (marks marks' : List Mark) (words words' : List ℕ) (n : ℕ) (kind : Mark) → AreStarts bytes marks words → SetsMark marks marks' n kind → SetsStartBit words words' n (is_cell_mark kind) → length bytes' ≡ length bytes → AreStarts bytes' marks' words'
 puts_same bytes bytes' marks marks' words words' n kind b s p len =
     record {
@@ -491,7 +491,7 @@ were_joined bytes bytes' words words' at next size k f g behind sum_is q put =
       subst (λ (x : ℕ). ¬ BeginsCell bytes' x) (sym next_is) (joined_gone bytes bytes' k.marks (at / 8) a (cell_size bytes next) k.all w.is_cell is_next free next_free first_size next_size puts),
     )
 
--- what is free stays so where all cells but an allocated one are the same
+-- what is free stays so if all cells but an allocated one are the same
 free_elsewhere : (old new : List ℕ) (at other : ℕ) → IsAllocatedCell old at → IsAllocatedCell new at → OtherCells old new at at → StaysFree old new other
 free_elsewhere old new at other was is cells = elim (cases_eq other at) [
   | inl here ↦ record {

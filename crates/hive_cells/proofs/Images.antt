@@ -35,7 +35,7 @@ image_turned old new words bounds bounds' spare room words_room at size kind i f
       record { begins = c.begins; kind = p.kind_is; size = same ∙ size_is; stay = c.stay; cells = c.cells; written = record { len = p.len; others = p.others } },
     )
 
--- a free cell that was split, of which the second one was noted
+-- a free cell that was split, whose second part was noted
 pub image_split : (old half new words words' bounds bounds' : List ℕ) (spare room words_room at size rest : ℕ) → IsImage old words bounds spare room words_room
     → IsFreeCell old at → cell_size old at ≡ size + rest → size % 8 ≡ 0 → 8 ≤ size → 8 ≤ rest
     → PutsSize old half (at + size) rest false → PutsSize half new at size false → SetsStartBit words words' ((at + size) / 8) true → Raises bounds bounds' ((at + size) / 4096) rest
@@ -100,7 +100,8 @@ image_written old new words bounds spare room words_room at from len i found low
       c.stay,
     )
 
--- ---- the same, as methods know them: an image's bytes are those that contracts see, and what is written over is theirs
+-- ---- the same, as methods know them: an image's bytes are those that contracts see, and what is written over is
+-- theirs
 
 pub turn_all : (items now given new words bounds bounds' : List ℕ) (spare room words_room at size : ℕ) (kind : Bool) → items ≡ now → given ≡ items → IsImage items words bounds spare room words_room
     → BeginsCell now at → size ≡ cell_size now at → PutsSize given new at size kind → Raises bounds bounds' (at / 4096) size → IsImage new words bounds' spare room words_room × Turns now new at kind

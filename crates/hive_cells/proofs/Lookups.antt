@@ -36,7 +36,7 @@ module _ (bytes words : List ℕ) (k : HasStartBits bytes words) where
       let size : cell_size bytes (8 * (at / 8)) ≡ cell_size bytes at = ap (cell_size bytes) here in
       k.starts.same slot ∙ ap is_cell_mark (c.inside slot (omega arith) (omega arith))
 
-  -- a cell that begins behind another one begins behind its end
+  -- a cell that begins after another one begins after its end
   pub begins_apart : (at other : ℕ) → BeginsCell bytes at → BeginsCell bytes other → at < other → other < at + cell_size bytes at → ⊥
   begins_apart at other found behind after before =
       let b = bit_of_cell other behind in
@@ -46,7 +46,7 @@ module _ (bytes words : List ℕ) (k : HasStartBits bytes words) where
 
   -- ---- the cell before
 
-  -- where no cell begins before an offset, none ends there
+  -- if no cell begins before an offset, none ends there
   pub none_ends : (at from : ℕ) → BeginsCell bytes at → NoStart words 0 (at / 8) → BeginsCell bytes from → from + cell_size bytes from ≢ at
   none_ends at from here none found ends =
       let b = bit_of_cell at here in
@@ -116,7 +116,7 @@ module _ (bytes words : List ℕ) (k : HasStartBits bytes words) where
 
 -- ---- pages
 
--- where all bounds are below a size no free cell has it
+-- if all bounds are below a size no free cell has it
 pub none_free : (bytes words bounds : List ℕ) (size from : ℕ) → HasStartBits bytes words → AreBounds bytes bounds → AllBelow bounds 0 from size → AllBelow bounds from (length bytes / 4096) size → ¬ HasFree bytes size
 none_free bytes words bounds size from k b low high found =
     let at : ℕ = found.0 in

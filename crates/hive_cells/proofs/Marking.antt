@@ -79,7 +79,7 @@ module _ (bytes : List ℕ) (old new : List Mark) (n : ℕ) where
         ];
       }
 
-  -- the walk goes on behind the cell
+  -- the walk goes on after the cell
   pub cell_added : SetsMark old new n Cell → (end : ℕ) → IsInBin bytes old end (8 * n) → 8 * n < end → IsCell bytes end (8 * n) → IsInBin bytes new end (8 * n + cell_size bytes (8 * n))
   cell_added s end w before cell =
       let here : mark_at new n ≡ Cell = s.here in
@@ -164,7 +164,7 @@ module _ (bytes : List ℕ) (old new : List Mark) (n : ℕ) where
         behind = λ j is before. absurd (omega arith);
       }
 
-  -- the walk goes on behind the header
+  -- the walk goes on after the header
   pub bin_added : SetsMark old new n Bin → IsBetweenBins bytes old (8 * n) → 8 * n < length bytes → IsBin bytes (8 * n) → IsInBin bytes new (8 * n + bin_size bytes (8 * n)) (8 * n + 32)
   bin_added s w before bin =
       let long : 4096 ≤ bin_size bytes (8 * n) = long_bin bytes (8 * n) bin in
@@ -199,7 +199,7 @@ module _ (bytes : List ℕ) (old new : List Mark) (n : ℕ) where
         starts = λ more. first_cell (8 * n) (8 * n + 32) (w.starts before) bin refl refl;
       }
 
--- the walk stands behind the bin that ends here
+-- the walk is after the bin that ends here
 pub bin_ended : (bytes : List ℕ) (marks : List Mark) (end : ℕ) → IsInBin bytes marks end end → IsBetweenBins bytes marks end
 bin_ended bytes marks end w =
     let mine : BinMarked bytes marks end w.bin = w.marked.bins w.bin w.bin_is in
@@ -275,7 +275,7 @@ bin_set bytes marks at end w before bin is =
     let upto = subst (λ (x : ℕ). IsInBin bytes (slice_set marks (at / 8) Bin) (x + bin_size bytes x) (x + 32)) (sym slot) done in
     (omega arith, subst (λ (x : ℕ). IsInBin bytes (slice_set marks (at / 8) Bin) x (at + 32)) (sym is) upto)
 
--- the walk ends behind the last bin
+-- the walk ends after the last bin
 pub all_marked : (bytes : List ℕ) (marks : List Mark) (at : ℕ) → IsBetweenBins bytes marks at → length bytes ≤ at → IsMarked bytes marks
 all_marked bytes marks at w past =
     let m : IsMarkedTo bytes marks at = w.marked in

@@ -1,4 +1,4 @@
--- A bin that is laid behind the data.
+-- A bin that is laid after the data.
 use Rattle.std.proofs.Common.{eqb, ◌≡◌, ◌≢◌, ℕ, ◌+◌, ◌-◌, ◌*◌, ◌%◌, ◌/◌, ◌<◌, ◌≤◌, true, false, List, ◌++◌, length, refl, sym, ◌∙◌, subst, inl, inr, arith, ap}
 use Rattle.std.specs.Prelude.{slice_index, slice_range, slice_set, replicate, ◌⊎◌}
 use Rattle.std.proofs.lemmas.List.{length-append, length-replicate, get_or_append_left, get_or-append_right, get_or-replicate, get_or_past}
@@ -105,7 +105,7 @@ module _ (bytes bytes' : List ℕ) (marks marks' : List Mark) (m : IsMarked byte
         behind = λ j is before none. c.behind j (omega arith) before (sym (g.marks_same j before) ∙ none);
       }
 
-  -- a walk over the longer data stands at the old end
+  -- a walk over the longer data is at the old end
   pub walk_again : IsBetweenBins bytes' marks' (length bytes)
   walk_again =
       record {
@@ -127,7 +127,7 @@ module _ (bytes bytes' : List ℕ) (marks marks' : List Mark) (m : IsMarked byte
         starts = λ more. end_starts;
       }
 
--- the bin that is laid behind the data
+-- the bin that is laid after the data
 module _ (bytes grown bytes' : List ℕ) (marks marks' : List Mark) (m : IsMarked bytes marks) (g : Grows bytes bytes' marks marks') (l : LaysBin grown bytes' (length bytes)) where
   with_bin : List Mark
   with_bin = slice_set marks' (length bytes / 8) Bin
@@ -309,7 +309,7 @@ lays b0 b1 b2 b3 b4 at size whole wide zeros e1 w1 n1 e2 w2 n2 e3 w3 n3 p =
 
 -- ---- the longer data and marks
 
--- what zeros and no marks behind the data are
+-- what zeros and no marks after the data are
 pub grows : (bytes grown bytes' : List ℕ) (marks marks' : List Mark) (more : ℕ) → IsMarked bytes marks → 0 < more → more % 4096 ≡ 0
     → grown ≡ bytes ++ replicate more 0 → marks' ≡ marks ++ replicate (more / 8) Inside → LaysBin grown bytes' (length bytes) → Grows bytes bytes' marks marks'
 grows bytes grown bytes' marks marks' more m some pages bytes_are marks_are l =

@@ -5,7 +5,7 @@ use Rattle.hive_cells.specs.Tiles.{BinStart, CellStart, bin_size, cell_size, Til
 use Rattle.hive_cells.specs.Marks.{Mark, Inside, Bin, Cell, mark_at, IsMarkedTo, IsMarked}
 use Rattle.hive_cells.proofs.Reached.{BinSlot, CellSlot, LiesInBin, LiesInCell, bin_reached, cell_reached, bin_over, cell_over}
 
--- the slot that a tile begins at which holds a byte: behind it and up to the byte nothing else begins
+-- the slot at which a tile begins that has a byte: after it and up to the byte nothing else begins
 record Span (marks : List Mark) (i at : ℕ) (kind : Mark) : Type 0 where
   slot : ℕ
   at_is : at ≡ 8 * slot
@@ -14,7 +14,7 @@ record Span (marks : List Mark) (i at : ℕ) (kind : Mark) : Type 0 where
   after : 8 * slot ≤ i
   rest : (j : ℕ) → slot < j → 8 * j ≤ i → mark_at marks j ≡ Inside
 
--- tiles that hold one byte begin at one offset
+-- tiles that have one byte begin at one offset
 one_start : (marks : List Mark) (i at other : ℕ) (kind other_kind : Mark) → Span marks i at kind → Span marks i other other_kind → (other ≡ at) × (other_kind ≡ kind)
 one_start marks i at other kind other_kind a b =
     let at_is : at ≡ 8 * a.slot = a.at_is in

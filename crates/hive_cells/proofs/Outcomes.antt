@@ -12,7 +12,7 @@ use Rattle.hive_cells.proofs.Region.{words_same}
 use Rattle.hive_cells.proofs.Bounds.{same_cell}
 use Rattle.hive_cells.proofs.Region.{free_is, free_was}
 
--- what stays where nothing changes
+-- what stays if nothing changes
 stays_same : (bytes : List ℕ) (at : ℕ) → StaysAt bytes bytes at
 stays_same bytes at = record { same = ((λ found. found), (λ found. found)); size = λ found. refl; kept = λ found. refl }
 
@@ -79,7 +79,7 @@ freed old free joined new words at from k was limit turned behind before =
       written = λ i here there. before.written.others i there ∙ behind.written.others i here ∙ turned.written.others i here;
     }
 
--- the free cell behind one that is joined with it
+-- the free cell after one that is joined with it
 pub joined_behind : (old new words : List ℕ) (at next : ℕ) → HasStartBits old words → IsFreeCell old at → next ≡ at + cell_size old at → Joins old new at next → JoinsBehind old new at
 joined_behind old new words at next k free next_is j =
     let least : 8 ≤ cell_size old at = (cell_within old words at k free.0).least in
@@ -217,7 +217,7 @@ taken old fitted new words at size k wide free fit turn =
       };
     }
 
--- a bin stays one where only bytes behind its header are written
+-- a bin stays one if only bytes after its header are written
 bin_stays : (mid new : List ℕ) (bin from to : ℕ) → IsBin mid bin → bin + 32 ≤ from → RewritesWithin mid new from to → IsBin new bin × (bin_size new bin ≡ bin_size mid bin)
 bin_stays mid new bin from to b behind r =
     let word : (at : ℕ) → at + 4 ≤ from → u32_at new at ≡ u32_at mid at = (λ at low. words_same mid new at (λ i after before. r.others i (inl (omega arith)))) in
@@ -287,7 +287,7 @@ allocated old mid new len size at size_is room took =
       };
     }
 
--- a free cell that is there has room
+-- the free cell before one that is merged into it
 pub room_found : (bytes words : List ℕ) (at size : ℕ) → HasStartBits bytes words → length bytes ≤ MOST_BINS_BYTES → IsFreeCell bytes at → size ≤ cell_size bytes at → HasRoom bytes bytes at size
 room_found bytes words at size k limit free fits =
     record {
@@ -319,7 +319,7 @@ room_added old new size limit none added =
       has_place = λ no. elim no [ inl over ↦ omega arith | inr needs ↦ omega (arith, needs.1) ];
     }
 
--- no cell that is longer than the limit has a place
+-- no cell that is longer than the limit has room
 pub no_place : (bytes words : List ℕ) (len : ℕ) → HasStartBits bytes words → MOST_BINS_BYTES < len → HasNoRoomFor bytes (least_size len)
 no_place bytes words len k over = elim (cases_lt MOST_BINS_BYTES (length bytes)) [
   | inl long ↦ inl long

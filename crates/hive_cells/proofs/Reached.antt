@@ -17,7 +17,7 @@ pub record BinSlot (bytes : List ℕ) (marks : List Mark) (at : ℕ) : Type 0 wh
   pub at_is : at ≡ 8 * slot
   pub is_bin : mark_at marks slot ≡ Bin
 
--- the mark of a cell that begins at an offset, and that of its bin
+-- the mark of a cell that begins at an offset, and the mark of its bin
 pub record CellSlot (bytes : List ℕ) (marks : List Mark) (end at : ℕ) : Type 0 where
   pub slot : ℕ
   pub bin : ℕ
@@ -57,7 +57,7 @@ module _ (bytes : List ℕ) (marks : List Mark) (m : IsMarkedTo bytes marks (len
       let whole : at ≡ 8 * (at / 8) = omega arith in
       record { slot = at / 8; at_is = whole; is_bin = b.behind (at / 8) (omega arith) (omega arith) }
 
-  -- behind a cell and before its bin's end there is a cell
+  -- after a cell and before its bin's end there is a cell
   cell_behind : (j bin : ℕ) → bin < j → mark_at marks bin ≡ Bin → 8 * j < 8 * bin + bin_size bytes (8 * bin) → mark_at marks j ≢ Inside → mark_at marks j ≡ Cell
   cell_behind j bin later is_bin before some = elim (kinds (mark_at marks j)) [
     | inl none ↦ absurd (some none)
@@ -175,7 +175,7 @@ module _ (bytes : List ℕ) (marks : List Mark) (m : IsMarkedTo bytes marks (len
             )
       ]
 
-  -- each 8 bytes behind a bin's header lie in a cell of the bin
+  -- each 8 bytes after a bin's header lie in a cell of the bin
   pub cell_over : (end k : ℕ) (w : LiesInBin bytes marks k) → end ≡ 8 * w.slot + bin_size bytes (8 * w.slot) → w.slot + 4 ≤ k → LiesInCell bytes marks end k
   cell_over end k w ends behind_header =
       let b : BinMarked bytes marks (length bytes) w.slot = m.bins w.slot w.is_bin in

@@ -26,12 +26,12 @@ pub record ChangesCells (bytes bytes' : List ℕ) (marks marks' : List Mark) (fr
   pub no_bin : (j : ℕ) → from ≤ j → j < to → mark_at marks' j ≢ Bin
   pub cells : (j : ℕ) → from ≤ j → j < to → mark_at marks' j ≡ Cell → CellMarked bytes' marks' (8 * to) j
 
--- words that no changed byte is of
+-- words in which no byte changed
 pub words_same : (bytes bytes' : List ℕ) (at : ℕ) → ((i : ℕ) → at ≤ i → i < at + 4 → slice_index bytes' i ≡ slice_index bytes i) → u32_at bytes' at ≡ u32_at bytes at
 unfolding u32_at
 words_same bytes bytes' at same = rw (same at (omega arith) (omega arith), same (at + 1) (omega arith) (omega arith), same (at + 2) (omega arith) (omega arith), same (at + 3) (omega arith) (omega arith)) refl
 
--- the size and the kind of a cell are those of its word
+-- the size and the kind of a cell are given by its word
 pub size_same : (bytes bytes' : List ℕ) (at : ℕ) → u32_at bytes' at ≡ u32_at bytes at → cell_size bytes' at ≡ cell_size bytes at
 unfolding cell_size is_allocated
 size_same bytes bytes' at same = rw same refl
@@ -52,7 +52,7 @@ free_is old new at s free =
     let word : u32_at new at ≡ u32_at old at = s.word free.0 in
     ((s.begins free.0, kind_same old new at word ∙ free.1), size_same old new at word)
 
--- a part of the data that no changed byte is of
+-- a part of the data in which no byte changed
 pub range_same : (bytes bytes' : List ℕ) (from to : ℕ) → to ≤ length bytes' → to ≤ length bytes → ((i : ℕ) → from ≤ i → i < to → slice_index bytes' i ≡ slice_index bytes i) → slice_range bytes' from to ≡ slice_range bytes from to
 range_same bytes bytes' from to within' within same =
     let n : ℕ = to - from in
@@ -257,7 +257,7 @@ module _ (bytes bytes' : List ℕ) (marks marks' : List Mark) (from to : ℕ) (m
         kept = λ found. data_outside at (mark_at_start bytes marks all found.0.0 at found.0.1) out;
       }
 
-  -- where no allocated cell begins among the changed ones, before and after, all is as it was
+  -- if no allocated cell begins among the changed ones, before and after, all is as it was
   pub stays_at : IsMarked bytes marks → (at : ℕ)
       → (from ≤ at / 8 → at / 8 < to → IsCellMarkedAt marks at → is_allocated bytes at ≡ false)
       → (from ≤ at / 8 → at / 8 < to → IsCellMarkedAt marks' at → is_allocated bytes' at ≡ false)
@@ -285,7 +285,7 @@ module _ (bytes bytes' : List ℕ) (marks marks' : List Mark) (from to : ℕ) (m
     | inr past ↦ elim (cases_lt (at / 8) to) [ inl inner ↦ absurd (not_inner past inner) | inr high ↦ inr high ]
   ]
 
-  -- where no cell begins among the changed ones, before and after, the cells are the same
+  -- if no cell begins among the changed ones, before and after, the cells are the same
   pub same_at : IsMarked bytes marks → (at : ℕ)
       → (from ≤ at / 8 → at / 8 < to → IsCellMarkedAt marks at → ⊥)
       → (from ≤ at / 8 → at / 8 < to → IsCellMarkedAt marks' at → ⊥)

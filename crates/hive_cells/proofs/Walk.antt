@@ -48,7 +48,7 @@ bin_within bytes words bounds end at s =
     let mine : BinMarked bytes s.marks at s.walk.bin = s.walk.marked.bins s.walk.bin s.walk.bin_is in
     omega (arith, mine.sound.within, s.walk.ends)
 
--- the walk goes on behind a cell
+-- the walk goes on after a cell
 pub cell_walked : (bytes words words' bounds bounds' : List ℕ) (end at behind : ℕ) → WalkIsInBin bytes words bounds end at → at < end → IsCell bytes end at → behind ≡ at + cell_size bytes at
     → SetsStartBit words words' (at / 8) true → length bounds' ≡ length bounds → ((k : ℕ) → slice_index bounds k ≤ slice_index bounds' k) → (is_allocated bytes at ≡ false → cell_size bytes at ≤ bound_at bounds' at)
     → (at < behind) × WalkIsInBin bytes words' bounds' end behind
@@ -77,7 +77,7 @@ cell_walked bytes words words' bounds bounds' end at behind s before cell is put
       },
     )
 
--- behind a bin's header
+-- after a bin's header
 pub bin_walked : (bytes words bounds : List ℕ) (at end : ℕ) → WalkIsBetweenBins bytes words bounds at → at < length bytes → IsBin bytes at → end ≡ at + bin_size bytes at → (at + 32 < end) × WalkIsInBin bytes words bounds end (at + 32)
 bin_walked bytes words bounds at end s before bin is =
     let done = bin_set bytes s.marks at end s.walk before bin is in
@@ -106,13 +106,13 @@ bin_walked bytes words bounds at end s before bin is =
       },
     )
 
--- behind a bin
+-- after a bin
 pub bin_done : (bytes words bounds : List ℕ) (end at : ℕ) → WalkIsInBin bytes words bounds end at → end ≤ at → WalkIsBetweenBins bytes words bounds end
 bin_done bytes words bounds end at s past =
     let same : at ≡ end = omega (arith, s.walk.before_end) in
     record { marks = s.marks; walk = bin_ended bytes s.marks end (subst (λ (x : ℕ). IsInBin bytes s.marks end x) same s.walk); starts = s.starts; free = s.free }
 
--- behind all bins
+-- after all bins
 pub all_walked : (bytes words bounds : List ℕ) (at : ℕ) → WalkIsBetweenBins bytes words bounds at → length bytes ≤ at → IsIndexed bytes words bounds
 all_walked bytes words bounds at s past =
     let all : IsMarked bytes s.marks = all_marked bytes s.marks at s.walk past in

@@ -11,7 +11,7 @@ pub record Bins : Type 0 where
 abbrev pub bins_code : Coded Bins
 bins_code = code_by (List ℕ × ℕ) (coded× (coded_list coded_ℕ) coded_ℕ) (λ b. (b.bytes, b.spare)) (λ p. record { bytes = p.0; spare = p.1 }) (λ _. refl)
 
--- the data of the allocated cell at each offset, and none where no allocated cell begins
+-- the data of the allocated cell at each offset, and none if no allocated cell begins there
 abbrev pub Cells : Type 0
 Cells = ℕ → Option (List ℕ)
 

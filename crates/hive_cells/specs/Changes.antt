@@ -8,8 +8,8 @@ use Rattle.hive_cells.specs.Tiles.{u32_at, IsBin, bin_size, is_allocated, cell_s
 use Rattle.hive_cells.specs.Starts.{SameCell, OtherCells}
 use Rattle.hive_cells.specs.Bins.{Bins}
 
--- at an offset an allocated cell begins after the change exactly where one did before, and its size and its data
--- are the same
+-- at an offset an allocated cell begins after the change exactly if one did before, and its size and its data are the
+-- same
 pub record StaysAt (old new : List ℕ) (at : ℕ) : Type 0 where
   pub same : IsAllocatedCell new at ↔ IsAllocatedCell old at
   pub size : IsAllocatedCell old at → cell_size new at ≡ cell_size old at
@@ -27,7 +27,7 @@ AllStay old new = (at : ℕ) → StaysAt old new at
 abbrev pub least_size : ℕ → ℕ
 least_size len = (len + 11) / 8 * 8
 
--- only the bytes from one offset up to another are written, and those behind the old end
+-- only the bytes from one offset up to another are written, and those after the old end
 pub record WritesWithin (old new : List ℕ) (from to : ℕ) : Type 0 where
   pub longer : length old ≤ length new
   pub others : (i : ℕ) → i < length old → ((i < from) ⊎ (to ≤ i)) → slice_index new i ≡ slice_index old i
@@ -44,7 +44,7 @@ pub record PutsSize (old new : List ℕ) (at size : ℕ) (allocated : Bool) : Ty
   pub kind_is : is_allocated new at ≡ allocated
   pub others : (i : ℕ) → ((i < at) ⊎ (at + 4 ≤ i)) → slice_index new i ≡ slice_index old i
 
--- what is free after a change at an offset was so before, with the same size
+-- what is free after a change at an offset was free before, with the same size
 pub record StaysFree (old new : List ℕ) (at : ℕ) : Type 0 where
   pub same : IsFreeCell new at ↔ IsFreeCell old at
   pub size : IsFreeCell old at → cell_size new at ≡ cell_size old at
@@ -58,7 +58,7 @@ pub record Turns (old new : List ℕ) (at : ℕ) (allocated : Bool) : Type 0 whe
   pub cells : OtherCells old new at at
   pub written : RewritesWithin old new at (at + 4)
 
--- the free cell at an offset becomes two free ones, of which the first has a size
+-- the free cell at an offset becomes two free cells, the first of which has a size
 pub record Splits (old new : List ℕ) (at size : ℕ) : Type 0 where
   pub first : IsFreeCell new at
   pub first_size : cell_size new at ≡ size
@@ -68,7 +68,7 @@ pub record Splits (old new : List ℕ) (at size : ℕ) : Type 0 where
   pub cells : OtherCells old new at (at + size)
   pub written : RewritesWithin old new at (at + size + 4)
 
--- the free cells at an offset and behind it become one
+-- the free cells at an offset and after it become one
 pub record Joins (old new : List ℕ) (at next : ℕ) : Type 0 where
   pub joined : IsFreeCell new at
   pub size : cell_size new at ≡ cell_size old at + cell_size old next
@@ -77,7 +77,7 @@ pub record Joins (old new : List ℕ) (at next : ℕ) : Type 0 where
   pub cells : OtherCells old new at next
   pub written : RewritesWithin old new at (at + 4)
 
--- the free cell at an offset has taken in the free cell behind it, if there was one
+-- the free cell at an offset is merged with the free cell after it, if there was one
 pub record JoinsBehind (old new : List ℕ) (at : ℕ) : Type 0 where
   pub free : IsFreeCell new at
   pub least : cell_size old at ≤ cell_size new at
@@ -86,7 +86,7 @@ pub record JoinsBehind (old new : List ℕ) (at : ℕ) : Type 0 where
   pub before : (other : ℕ) → other < at → SameCell old new other
   pub written : RewritesWithin old new at (at + 4)
 
--- the free cell before the one at an offset has taken that in, if there was one: it begins at another offset then
+-- the free cell at an offset is merged into the free cell before it, if there was one: it begins at another offset then
 pub record JoinsBefore (old new : List ℕ) (at from : ℕ) : Type 0 where
   pub before : from ≤ at
   pub free : IsFreeCell new from
@@ -95,8 +95,8 @@ pub record JoinsBefore (old new : List ℕ) (at from : ℕ) : Type 0 where
   pub stay : AllStay old new
   pub written : RewritesWithin old new from (from + 4)
 
--- a bin with one free cell is laid behind the data, from an offset up to the new end: its header says `hbin`, the offset
--- and its size, and what is neither that nor the cell's size is 0
+-- a bin with one free cell is laid after the data, from an offset up to the new end. Its header says `hbin`, the offset
+-- and its size. All bytes but these and the cell's size are 0
 pub record LaysBin (old new : List ℕ) (at : ℕ) : Type 0 where
   pub signature : u32_at new at ≡ 0x6e69_6268
   pub own_offset : u32_at new (at + 4) ≡ at
@@ -111,7 +111,7 @@ pub record LaysBin (old new : List ℕ) (at : ℕ) : Type 0 where
 abbrev pub least_bin : ℕ → ℕ
 least_bin size = (size + 4127) / 4096 * 4096
 
--- the data get longer by a bin of a size: its header says `hbin`, where it begins and its size, and has zeros behind
+-- the data get longer by a bin of a size: its header says `hbin`, where it begins and its size, with zeros after
 pub record AddsBin (old new : List ℕ) (size : ℕ) : Type 0 where
   pub longer : length new ≡ length old + size
   pub bin : IsBin new (length old)
@@ -127,8 +127,8 @@ pub record AddsFreeBin (old new : List ℕ) (size : ℕ) : Type 0 where
   pub stay : AllStay old new
   pub cells : (at : ℕ) → at ≢ length old + 32 → SameCell old new at
 
--- the free cell of some room at an offset, from which a cell of a size is taken, is one of the data; or none of these is
--- as long, and it is that of a bin which is added, the least one for the cell
+-- the free cell of some room, from which a cell of a size is taken, is at an offset. It is one of the data; or none of
+-- these is long enough, and it is the free cell of the added bin, the least one for the cell
 abbrev pub IsRoomFor : List ℕ → List ℕ → ℕ → ℕ → ℕ → Type 0
 IsRoomFor old new size offset room =
     (IsFreeCell old offset × (cell_size old offset ≡ room) × (length new ≡ length old))
@@ -143,7 +143,7 @@ pub record LeavesRest (old new : List ℕ) (offset room : ℕ) : Type 0 where
   pub alone : (at : ℕ) → IsFreeCell new at → offset ≤ at → at < offset + room → at ≡ offset + cell_size new offset
   pub others : (at : ℕ) → ((at < offset) ⊎ (offset + room ≤ at)) → StaysFree old new at
 
--- a cell of a size has no place: the data are over the limit, or no free cell is as long and a bin for it would take
+-- a cell of a size has no room: the data are over the limit, or no free cell is long enough and a bin for it would take
 -- the data over the limit
 abbrev pub HasNoRoomFor : List ℕ → ℕ → Type 0
 HasNoRoomFor bytes size = (MOST_BINS_BYTES < length bytes) ⊎ ((¬ HasFree bytes size) × (MOST_BINS_BYTES < length bytes + least_bin size))
@@ -161,8 +161,8 @@ pub record HasRoom (old new : List ℕ) (at size : ℕ) : Type 0 where
   pub source : IsRoomFor old new size at (cell_size new at)
   pub has_place : ¬ HasNoRoomFor old size
 
--- why no cell of a size is allocated: it has no place; or no free cell is as long, and there is no memory reserved for
--- the bin that has it
+-- why no cell of a size is allocated: it has no room; or no free cell is long enough, and there is no memory reserved
+-- for the bin that has it
 abbrev pub RoomRefused : Bins → ℕ → Refusal → Type 0
 RoomRefused old size refusal.NoMemory = (¬ HasNoRoomFor old.bytes size) × (¬ HasFree old.bytes size) × (old.spare < least_bin size)
 RoomRefused old size refusal.TooLarge = HasNoRoomFor old.bytes size
@@ -172,7 +172,7 @@ RoomRefused old size _ = ⊥
 abbrev pub UsesSpare : Bins → Bins → Type 0
 UsesSpare old new = new.spare ≡ old.spare - (length new.bytes - length old.bytes)
 
--- the free cell at an offset is as long as it was, or was split behind a size; all other cells are the same
+-- the free cell at an offset is as long as it was, or was split after a size; all other cells are the same
 pub record IsCutToSize (old new : List ℕ) (at size : ℕ) : Type 0 where
   pub free : IsFreeCell new at
   pub least : size ≤ cell_size new at
@@ -185,7 +185,7 @@ pub record IsCutToSize (old new : List ℕ) (at size : ℕ) : Type 0 where
   pub cells : (other : ℕ) → other ≢ at → (cell_size new at < cell_size old at → other ≢ at + cell_size new at) → SameCell old new other
   pub written : RewritesWithin old new at (at + cell_size new at + 4)
 
--- a free cell is allocated at an offset, of a size, or with all that it has where no more than 8 bytes would be over
+-- a free cell is allocated at an offset, of a size, or with all that it has if no more than 8 bytes would be left over
 pub record Takes (old new : List ℕ) (at size : ℕ) : Type 0 where
   pub fresh : ¬ IsAllocatedCell old at
   pub begins : IsAllocatedCell new at
@@ -196,8 +196,8 @@ pub record Takes (old new : List ℕ) (at size : ℕ) : Type 0 where
   pub leaves : LeavesRest old new at (cell_size old at)
   pub written : RewritesWithin old new at (at + cell_size new at + 4)
 
--- the free cell at an offset, in which a freed cell lies, has taken in the free cell that ended where the freed one
--- began, and the one that began where it ended
+-- a freed cell lies in the free cell at an offset, which is merged from three: the freed cell, the free cell that ended
+-- where it began, and the free cell that began where it ended
 pub record Merges (old new : List ℕ) (offset from : ℕ) : Type 0 where
   pub free : IsFreeCell new from
   pub before : from ≤ offset
@@ -205,7 +205,7 @@ pub record Merges (old new : List ℕ) (offset from : ℕ) : Type 0 where
   pub free_before : (at : ℕ) → IsFreeCell old at → at + cell_size old at ≡ offset → from ≡ at
   pub free_behind : (at : ℕ) → IsFreeCell old at → at ≡ offset + cell_size old offset → from + cell_size new from ≡ at + cell_size old at
 
--- the allocated cell at an offset is freed, and lies in a free cell that begins at another
+-- the allocated cell at an offset is freed, and lies in a free cell that begins at another offset
 pub record Frees (old new : List ℕ) (offset from : ℕ) : Type 0 where
   pub was : IsAllocatedCell old offset
   pub limit : length old ≤ MOST_BINS_BYTES
@@ -221,8 +221,8 @@ FreeRefused bytes offset refusal.TooLarge = MOST_BINS_BYTES < length bytes
 FreeRefused bytes offset (refusal.HiveDamaged zero cause.BadOffset) = (length bytes ≤ MOST_BINS_BYTES) × (¬ IsAllocatedCell bytes offset)
 FreeRefused bytes offset _ = ⊥
 
--- a cell for data of a length is allocated at an offset, from a free cell of some room, and all other cells stay; it is
--- longer than the least one only where no more than 8 bytes would be over
+-- a cell for data of a length is allocated at an offset, from a free cell of some room, and all other cells stay. It is
+-- longer than the least one only if no more than 8 bytes would be left over
 pub record Allocates (old new : List ℕ) (len offset : ℕ) : Type 0 where
   pub room : ℕ
   pub has_place : ¬ HasNoRoomFor old (least_size len)

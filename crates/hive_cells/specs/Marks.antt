@@ -52,7 +52,7 @@ pub record IsCellMarkedAt (marks : List Mark) (at : ℕ) : Type 0 where
   pub eights : at % 8 ≡ 0
   pub is_cell : mark_at marks (at / 8) ≡ Cell
 
--- the walk over the data stands between two bins, at an offset
+-- the walk over the data is between two bins, at an offset
 pub record IsBetweenBins (bytes : List ℕ) (marks : List Mark) (at : ℕ) : Type 0 where
   pub data_pages : length bytes % 4096 ≡ 0
   pub pages : at % 4096 ≡ 0
@@ -60,7 +60,7 @@ pub record IsBetweenBins (bytes : List ℕ) (marks : List Mark) (at : ℕ) : Typ
   pub ended : (k : ℕ) → mark_at marks k ≡ Bin → 8 * k + bin_size bytes (8 * k) ≤ at
   pub starts : at < length bytes → BinStart bytes at
 
--- the walk stands at an offset behind the header of the bin that ends at `end`
+-- the walk is at an offset after the header of the bin that ends at `end`
 pub record IsInBin (bytes : List ℕ) (marks : List Mark) (end at : ℕ) : Type 0 where
   pub bin : ℕ
   pub data_pages : length bytes % 4096 ≡ 0

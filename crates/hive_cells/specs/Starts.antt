@@ -1,4 +1,4 @@
--- Where cells begin, kept as bits of words: that of the k-th 8 bytes of the data is bit k % 64 of word k / 64. And
+-- Where cells begin, kept as bits of words: the bit of the k-th 8 bytes of the data is bit k % 64 of word k / 64. And
 -- the greatest sizes of free cells, page by page.
 use Rattle.std.specs.Prelude.{◌≡◌, ◌≢◌, ℕ, ◌+◌, ◌*◌, ◌/◌, ◌%◌, ◌<◌, ◌≤◌, ◌==◌, Bool, true, false, List, length, slice_index}
 use Rattle.std.specs.Int.{bit_at}
@@ -36,12 +36,12 @@ pub record SetsStartBit (old new : List ℕ) (slot : ℕ) (begins : Bool) : Type
   pub here : is_start new slot ≡ begins
   pub others : (k : ℕ) → k ≢ slot → is_start new k ≡ is_start old k
 
--- whether a mark is that of a cell
+-- whether a mark is the mark of a cell
 abbrev pub is_cell_mark : Mark → Bool
 is_cell_mark Cell = true
 is_cell_mark _ = false
 
--- the bits are those of the cells that are marked, and there is one for each 8 bytes of data
+-- the bits are the bits of the cells that are marked, and there is one for each 8 bytes of data
 pub record AreStarts (bytes : List ℕ) (marks : List Mark) (words : List ℕ) : Type 0 where
   pub len : length bytes ≡ 512 * length words
   pub same : (k : ℕ) → is_start words k ≡ is_cell_mark (mark_at marks k)
@@ -56,8 +56,8 @@ pub record HasStartBits (bytes words : List ℕ) : Type 0 where
 abbrev pub bound_at : List ℕ → ℕ → ℕ
 bound_at bounds at = slice_index bounds (at / 4096)
 
--- there is a bound for each page, and no free cell but perhaps the one at an offset is longer than the bound of the
--- page that it begins in
+-- there is a bound for each page. No free cell, but perhaps the one at an offset, is longer than the bound of the page
+-- that it begins in
 pub record AreBoundsBut (bytes bounds : List ℕ) (but : ℕ) : Type 0 where
   pub len : length bytes ≤ 4096 * length bounds
   pub most : (at : ℕ) → at ≢ but → IsFreeCell bytes at → cell_size bytes at ≤ bound_at bounds at
@@ -67,8 +67,8 @@ pub record AreBounds (bytes bounds : List ℕ) : Type 0 where
   pub len : length bytes ≤ 4096 * length bounds
   pub most : (at : ℕ) → IsFreeCell bytes at → cell_size bytes at ≤ bound_at bounds at
 
--- what is kept beside the data: bins and cells tile them, bits and bounds are theirs, and there is a bound for each page
--- of the largest data
+-- what is kept beside the data: bins and cells tile them, bits and bounds are theirs, and there is a bound for each
+-- page of the largest data
 pub record IsIndexed (bytes words bounds : List ℕ) : Type 0 where
   pub cells : HasStartBits bytes words
   pub free : AreBounds bytes bounds
@@ -108,21 +108,21 @@ pub record AreBoundsOf (bytes : List ℕ) (marks : List Mark) (bounds : List ℕ
   pub most_pages : 16384 ≤ length bounds
   pub most : (k : ℕ) → mark_at marks k ≡ Cell → is_allocated bytes (8 * k) ≡ false → cell_size bytes (8 * k) ≤ bound_at bounds (8 * k)
 
--- the walk over the data stands between two bins, at an offset
+-- the walk over the data is between two bins, at an offset
 pub record WalkIsBetweenBins (bytes words bounds : List ℕ) (at : ℕ) : Type 0 where
   pub marks : List Mark
   pub walk : IsBetweenBins bytes marks at
   pub starts : AreStarts bytes marks words
   pub free : AreBoundsOf bytes marks bounds
 
--- the walk stands at an offset behind the header of the bin that ends at `end`
+-- the walk is at an offset after the header of the bin that ends at `end`
 pub record WalkIsInBin (bytes words bounds : List ℕ) (end at : ℕ) : Type 0 where
   pub marks : List Mark
   pub walk : IsInBin bytes marks end at
   pub starts : AreStarts bytes marks words
   pub free : AreBoundsOf bytes marks bounds
 
--- at an offset a cell begins after a change exactly where one did before, and it has the same size and kind
+-- at an offset a cell begins after a change exactly if one did before, and it has the same size and kind
 pub record SameCell (old new : List ℕ) (at : ℕ) : Type 0 where
   pub begins : BeginsCell old at → BeginsCell new at
   pub began : BeginsCell new at → BeginsCell old at

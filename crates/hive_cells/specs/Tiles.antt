@@ -15,8 +15,8 @@ u32_at bytes at =
 abbrev pub bin_size : List ℕ → ℕ → ℕ
 bin_size bytes at = u32_at bytes (at + 8)
 
--- a bin at an offset: its header says `hbin`, that offset, and a size that is a multiple of 4,096 and not 0; and
--- it ends within the data
+-- a bin at an offset. Its header says `hbin`, that offset, and a size that is a multiple of 4,096 and not 0. It ends
+-- within the data
 pub record IsBin (bytes : List ℕ) (at : ℕ) : Type 0 where
   pub signature : u32_at bytes at ≡ 0x6e69_6268
   pub own_offset : u32_at bytes (at + 4) ≡ at
@@ -29,7 +29,7 @@ pub data BinStart (bytes : List ℕ) : ℕ → Type 0 where
   first_bin : 0 < length bytes → BinStart bytes 0
   next_bin : (from at : ℕ) → BinStart bytes from → IsBin bytes from → at ≡ from + bin_size bytes from → at < length bytes → BinStart bytes at
 
--- a cell's stored size is a signed number of 32 bits: below 0 where the cell is allocated
+-- a cell's stored size is a signed number of 32 bits: below 0 if the cell is allocated
 unfoldable pub is_allocated : List ℕ → ℕ → Bool
 is_allocated bytes at = nat_le (2 ^ 31) (u32_at bytes at)
 
@@ -44,8 +44,8 @@ pub record IsCell (bytes : List ℕ) (end at : ℕ) : Type 0 where
   pub least : 8 ≤ cell_size bytes at
   pub within : at + cell_size bytes at ≤ end
 
--- where the cells of a bin with this end begin: behind the bin's header of 32 bytes, and where a cell ends before
--- the bin does
+-- where the cells of a bin with this end begin: after the bin's header of 32 bytes, and where a cell ends before the
+-- bin does
 pub data CellStart (bytes : List ℕ) (end : ℕ) : ℕ → Type 0 where
   first_cell : (bin at : ℕ) → BinStart bytes bin → IsBin bytes bin → end ≡ bin + bin_size bytes bin → at ≡ bin + 32 → CellStart bytes end at
   next_cell : (from at : ℕ) → CellStart bytes end from → IsCell bytes end from → at ≡ from + cell_size bytes from → at < end → CellStart bytes end at
@@ -63,7 +63,7 @@ Fault bytes cause.BadBin = (at : ℕ) × BinStart bytes at × (¬ IsBin bytes at
 Fault bytes cause.BadCell = (end : ℕ) × (at : ℕ) × CellStart bytes end at × (¬ IsCell bytes end at)
 Fault bytes _ = ⊥
 
--- why data are refused as hive bins data: for want of memory, or for a cause that stands in them, told of hive 0
+-- why data are refused as hive bins data: for want of memory, or for a cause that is true of them, reported of hive 0
 abbrev pub DataRefused : List ℕ → Refusal → Type 0
 DataRefused bytes refusal.NoMemory = Unit {0}
 DataRefused bytes (refusal.HiveDamaged zero c) = Fault bytes c
@@ -85,7 +85,7 @@ IsFreeCell bytes at = BeginsCell bytes at × (is_allocated bytes at ≡ false)
 abbrev pub HasFree : List ℕ → ℕ → Type 0
 HasFree bytes size = (at : ℕ) × IsFreeCell bytes at × (size ≤ cell_size bytes at)
 
--- the data of a cell: its bytes behind its size
+-- the data of a cell: its bytes after its size
 abbrev pub cell_data : List ℕ → ℕ → List ℕ
 cell_data bytes at = slice_range bytes (at + 4) (at + cell_size bytes at)
 
@@ -98,7 +98,7 @@ abbrev pub IsTile : List ℕ → Tile → Type 0
 IsTile bytes (header at) = BinStart bytes at
 IsTile bytes (cell at) = (end : ℕ) × CellStart bytes end at
 
--- the tile holds the byte at an offset
+-- the tile has the byte at an offset
 abbrev pub HoldsByte : List ℕ → Tile → ℕ → Type 0
 HoldsByte bytes (header at) i = (at ≤ i) × (i < at + 32)
 HoldsByte bytes (cell at) i = (at ≤ i) × (i < at + cell_size bytes at)

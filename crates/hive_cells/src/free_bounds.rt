@@ -1,9 +1,9 @@
 //! How long the free cells of each page are at most, so that one is found for an allocation without a walk over the
 //! data.
 //!
-//! No free cell is longer than the bound of the page that it begins in. A bound may be too great, since allocating
-//! leaves it as it is: the search that meets it then makes it exact. So a search looks at the bounds of groups of
-//! pages, at those of the pages of one group, and at the cells of a page that has one that is long enough.
+//! No free cell is longer than the bound of the page that it begins in. A bound may be too great, since an allocation
+//! leaves it as it is. The search that meets such a bound makes it exact. A search looks at the bounds of groups of
+//! pages, then at the bounds of one group's pages. Last it looks at the cells of a page whose bound is great enough.
 ghost use Rattle.std.specs.Prelude.{◌≡◌, ◌≢◌, ℕ, ◌+◌, ◌*◌, ◌/◌, ◌^◌, ◌<◌, ◌≤◌, List, max, length, replicate, slice_set, slice_index, IfOk, MatchOption};
 ghost use Rattle.hive_cells.specs.Starts.{AreGrouped, Raises, AllBelow, IsNextPage};
 
@@ -38,7 +38,7 @@ impl Model for FreeBounds {
 }
 
 impl FreeBounds {
-    /// Bounds of 0 for so many pages, and for no fewer than the largest data have.
+    /// Bounds of 0 for `count` pages, or for as many pages as the largest data have, if those are more.
     pub(crate) fn none(alloc: Global, count: usize) -> Result<FreeBounds, AllocError>
         ensures { IfOk result (λ bounds. bounds ≡ replicate (max count 16384) 0) }
     {
@@ -48,7 +48,7 @@ impl FreeBounds {
         Ok(FreeBounds { pages, groups })
     }
 
-    /// Sees that the bound of its page holds of a cell of a size at an offset.
+    /// Makes sure that the bound of its page is at least the size of a cell at an offset.
     pub(crate) fn note(&mut self, at: usize, size: usize)
         requires page { at / 4096 < length self.old }
         requires fits { size < 2 ^ 32 }

@@ -19,18 +19,18 @@ use refusals::{Cause, Refusal};
 use std::alloc::Global;
 use std::marker::Model;
 
-// the bytes of a cell's size, which stand before its data
+// the bytes of a cell's size, which come before its data
 const SIZE_BYTES: usize = 4;
 
 const _: () = prove!(SIZE_BYTES == 4);
 
-/// Hive bins data that bins and cells tile: bins follow one another and fill the data, and the cells of a
-/// bin follow its header of 32 bytes and fill the bin. Contracts see an image as its bytes, and as the number of bytes
-/// that are spare: by so many it may get longer without memory.
+/// Hive bins data that bins and cells tile. Bins follow one another and fill the data. The cells of a bin follow its
+/// header of 32 bytes and fill the bin. Contracts see an image as its bytes and a number of spare bytes. The image may
+/// get longer by that number without memory.
 ///
-/// An image keeps its bytes, a bit for each 8 of them, by which a cell is found without a walk, and for each page
-/// of 4,096 a bound of the sizes of its free cells, by which one is found for an allocation: together 1/64 of the bytes
-/// and 66,048 bytes.
+/// An image keeps its bytes, and a bit for each 8 of them. With the bits a cell is found without a walk. For each page
+/// of 4,096 bytes it keeps a bound of the sizes of the page's free cells. With the bounds a free cell is found for an
+/// allocation. All this takes 1/64 of the bytes and 66,048 bytes beside the bytes.
 #[derive(Drop)]
 pub struct Image {
     bytes: Vec<u8>,
@@ -70,11 +70,11 @@ impl From<ImageOpenError> for Refusal {
 impl Image {
     /// Goes over the bytes of hive bins data once. Empty data are an image without bins.
     ///
-    /// Refused with `HiveDamaged` of hive 0 exactly where bins and cells don't tile the data, with a cause
-    /// that stands in them: `Truncated` where they are not whole pages of 4,096 bytes, `BadBin` where a bin's
-    /// signature, offset or size is wrong or the bin doesn't end within the data, `BadCell` where a cell's
-    /// size is no multiple of 8, is below 8, or passes the end of its bin. Refused with `NoMemory` where memory
-    /// for the bits and the bounds was not given. A refusal hands the bytes back.
+    /// Refused with `HiveDamaged` of hive 0 exactly if bins and cells don't tile the data, with a cause that is true of
+    /// them. `Truncated` if they are not whole pages of 4,096 bytes. `BadBin` if a bin's signature, offset or size is
+    /// wrong, or the bin doesn't end within the data. `BadCell` if a cell's size is no multiple of 8, is below 8, or
+    /// passes the end of its bin. Refused with `NoMemory` if memory for the bits and the bounds was not given. A
+    /// refusal gives the bytes back.
     pub fn open(alloc: Global, bytes: Vec<u8>) -> Result<Image, ImageOpenError>
         ensures { MatchResult result
             (λ image. (image ≡ record { bytes = bytes.items; spare = 0 }) × Tiles bytes.items)
@@ -92,8 +92,8 @@ impl Image {
         }
     }
 
-    /// The law of every image: bins and cells tile it, each byte lies in the header of one bin or in one cell, and in
-    /// nothing else, and the allocated cells are a function of offsets. Its bytes are bytes. Does nothing.
+    /// The law of every image: bins and cells tile it. Each byte lies in the header of one bin or in one cell, and in
+    /// nothing else. The allocated cells are a function of offsets. The image's bytes are bytes. Does nothing.
     pub fn tiles(&self, at: usize)
         ensures tiles { Tiles self.now.bytes }
         ensures bytes { AllByRecursion (λ b. b < 0x100) self.now.bytes }
@@ -130,10 +130,10 @@ impl Image {
         bytes
     }
 
-    /// The data of the allocated cell that begins at an offset: its bytes behind its size. Takes no memory.
-    /// Each call, also a refused one, counts one look.
+    /// The data of the allocated cell that begins at an offset: its bytes after its size. Takes no memory. Each call,
+    /// also a refused one, counts one look.
     ///
-    /// Refused with `HiveDamaged` of hive 0 and `BadOffset` exactly where no allocated cell begins there.
+    /// Refused with `HiveDamaged` of hive 0 and `BadOffset` exactly if no allocated cell begins there.
     pub fn cell(&self, offset: u32, looks: &mut Looks) -> Result<&[u8], Refusal>
         ensures found { MatchResult result
             (λ lent. IsAllocatedCell self.now.bytes offset
@@ -155,10 +155,10 @@ impl Image {
         }
     }
 
-    /// Writes bytes into the data of the allocated cell that begins at an offset, from the byte `at` of the data
-    /// on. The caller sees that they fit the cell. Of the image, only these bytes are written. Takes no memory.
+    /// Writes bytes into the data of the allocated cell that begins at an offset, from the byte `at` of the data on.
+    /// The caller makes sure that they fit the cell. Only these bytes of the image are written. Takes no memory.
     ///
-    /// Refused with `HiveDamaged` of hive 0 and `BadOffset` exactly where no allocated cell begins there.
+    /// Refused with `HiveDamaged` of hive 0 and `BadOffset` exactly if no allocated cell begins there.
     pub fn write(&mut self, offset: u32, at: usize, source: &[u8]) -> Result<(), Refusal>
         requires { IsAllocatedCell self.old.bytes offset →
             4 + at + length source.now ≤ cell_size self.old.bytes offset }
@@ -179,12 +179,12 @@ impl Image {
         Ok(())
     }
 
-    /// Frees the allocated cell that begins at an offset, and merges it with the free cell that ends there and with
-    /// the one that begins where it ends. Answers where the free cell begins in which it now lies; of the data only
-    /// the four bytes there and those at the offset are written. Never refused for want of memory.
+    /// Frees the allocated cell that begins at an offset. Merges it with the free cell that ends there and with the
+    /// free cell that begins where it ends. Answers the offset of the free cell in which it now lies. Only the four
+    /// bytes at that offset and the four bytes at the given offset are written. Never refused for want of memory.
     ///
-    /// Refused with `TooLarge` exactly where the data are longer than the limit, and else with `HiveDamaged` of hive
-    /// 0 and `BadOffset` exactly where no allocated cell begins there.
+    /// Refused with `TooLarge` exactly if the data are longer than the limit. Otherwise refused with `HiveDamaged` of
+    /// hive 0 and `BadOffset` exactly if no allocated cell begins there.
     pub fn free(&mut self, offset: u32) -> Result<u32, Refusal>
         ensures freed { MatchResult result (λ from. Frees self.old.bytes self.new.bytes offset from)
             (λ refusal. (self.new ≡ self.old) × FreeRefused self.old.bytes offset refusal) }
@@ -201,15 +201,15 @@ impl Image {
         Ok(from as u32)
     }
 
-    /// Allocates a cell for data of a length, and answers where it begins. Its size is the length and four
-    /// bytes, rounded up to a multiple of 8, or 8 bytes more where just these would be over. A free cell that is as long is
-    /// taken; where there is none, the least bin for the cell is added behind the data, and its free cell is taken. What is
-    /// over is one free cell, and all other free cells stay. Of the data before, only bytes of the cell and the four bytes behind it are written.
-    /// What the new cell's data hold is not said.
+    /// Allocates a cell for data of a length, and answers its offset. The cell's size is the length and four bytes,
+    /// rounded up to a multiple of 8. It is 8 bytes more if exactly 8 bytes would be left over. A free cell that is
+    /// long enough is taken. If there is none, the least bin for the cell is added after the data, and its free cell is
+    /// taken. What is left over is one free cell, and all other free cells stay. Of the old data, only bytes of the
+    /// cell and the four bytes after it are written. The data of the new cell are not specified.
     ///
-    /// Refused with `TooLarge` exactly where the data are longer than the limit, or no free cell is as long and the
-    /// data with a new bin for the cell would be longer than the limit; and else with `NoMemory`, where no free cell is
-    /// as long and fewer bytes are spare than the bin has.
+    /// Refused with `TooLarge` exactly if the data are longer than the limit, or if no free cell is long enough and a
+    /// new bin would take the data over the limit. Otherwise refused with `NoMemory` if no free cell is long enough and
+    /// fewer bytes are spare than the bin has.
     pub fn alloc(&mut self, len: usize) -> Result<u32, Refusal>
         ensures allocated { MatchResult result
             (λ offset. Allocates self.old.bytes self.new.bytes len offset)
@@ -225,7 +225,7 @@ impl Image {
         Ok(at as u32)
     }
 
-    // a free cell of at least a size, in the data or, where there is none, in a bin that is added
+    // a free cell of at least a size, in the data or, if there is none, in a bin that is added
     fn find_room(&mut self, size: usize) -> Result<usize, Refusal>
         requires limit { length self.old.bytes ≤ MOST_BINS_BYTES }
         requires some { 0 < size }

@@ -1,4 +1,4 @@
-//! Where cells begin in hive bins data: a bit for each 8 bytes, that of the k-th 8 bytes being bit `k % 64` of word
+//! Where cells begin in hive bins data: a bit for each 8 bytes. The bit of the k-th 8 bytes is bit `k % 64` of word
 //! `k / 64`.
 ghost use Rattle.std.specs.Prelude.{◌≡◌, ℕ, ◌+◌, ◌*◌, ◌<◌, ◌≤◌, length, MatchOption};
 ghost use Rattle.hive_cells.specs.Starts.{is_start, NoStart, IsLastStart, SetsStartBit, NoBit, IsLastBit};

@@ -96,7 +96,7 @@ fn cell_end(bytes: &[u8], at: usize, end: usize) -> Result<usize, Refusal>
     }
 }
 
-// takes in the cell at an offset, in the bin that has this end, and gives the cell's end
+// indexes the cell at an offset, in the bin that has this end, and gives the cell's end
 fn walk_cell(
     bytes: &[u8],
     starts: &mut [u64],
@@ -117,7 +117,7 @@ fn walk_cell(
     Ok(behind)
 }
 
-// takes in the bin at an offset and its cells, and gives the bin's end
+// indexes the bin at an offset and its cells, and gives the bin's end
 fn walk_bin(
     bytes: &[u8],
     starts: &mut [u64],
@@ -137,10 +137,9 @@ fn walk_bin(
     Ok(end)
 }
 
-/// Finds where the cells of hive bins data begin, and bounds of the free ones, with one for each page of the largest
-/// data. Refused with `Truncated` where the
-/// data are not whole pages, with `BadBin` and `BadCell` where a bin or a cell begins that is none, and with
-/// `NoMemory`.
+/// Finds where the cells of hive bins data begin, and bounds of the free cells, with a bound for each page of the
+/// largest data. Refused with `Truncated` if the data are not whole pages. Refused with `BadBin` or `BadCell` if no bin
+/// or no cell begins where one must. Refused with `NoMemory`.
 pub(crate) fn index_of(alloc: Global, bytes: &[u8]) -> Result<(Vec<u64>, FreeBounds), Refusal>
     ensures { MatchResult result (λ index. IsIndexed bytes.now index.0.items index.1)
         (DataRefused bytes.now) }

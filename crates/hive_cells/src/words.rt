@@ -26,7 +26,7 @@ pub(crate) fn put_u32(bytes: &mut [u8], at: usize, word: u32)
     LittleEndian::write_u32(&mut bytes[at..at + 4], word);
 }
 
-/// Writes the size of the cell at an offset, stored below 0 where the cell is allocated.
+/// Writes the size of the cell at an offset, stored below 0 if the cell is allocated.
 #[tactic(auto, unfolding(crate::specs::Tiles::cell_size, crate::specs::Tiles::is_allocated))]
 pub(crate) fn put_size(bytes: &mut [u8], at: usize, size: usize, allocated: bool)
     requires within { at + 4 ≤ length bytes.old }

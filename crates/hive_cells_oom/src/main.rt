@@ -1,8 +1,8 @@
 //! Makes each call on bins and cells that takes memory, for runs in which memory is refused.
 //!
-//! `tools/failalloc each` runs it once for each allocation, which is refused. A call that is refused has to answer
-//! want of memory and nothing else, and the image has to be as it was. The status is 0 where nothing was refused, 1
-//! where memory was and each call took it well, and 2 where a call answered wrongly.
+//! `tools/failalloc each` runs it once for each allocation, which is refused. A call that is refused has to answer want
+//! of memory and nothing else, and the image has to be as it was. The status is 0 if nothing was refused, 1 if memory
+//! was and each call took it well, and 2 if a call answered wrongly.
 #![tactic(auto)]
 
 use hive_cells::{Image, Looks};
@@ -47,7 +47,7 @@ impl Outcome {
 
 const BIN: usize = 4096;
 
-// the bytes of one bin that aren't 0: an allocated cell of 16 bytes at 32, and a free one behind it
+// the bytes of one bin that aren't 0: an allocated cell of 16 bytes at 32, and a free one after it
 const WRITTEN: [(usize, u8); 13] = [
     (0, b'h'),
     (1, b'b'),
@@ -99,7 +99,7 @@ fn opened(alloc: Global) -> Result<Image, Refusal> {
     Ok(Image::open(alloc, bytes)?)
 }
 
-// opening; where memory is refused, the bytes come back
+// opening; if memory is refused, the bytes come back
 fn reopened(alloc: Global) -> Result<Outcome, Refusal> {
     match Image::open(alloc, one_bin(alloc)?) {
         Ok(image) => Ok(Outcome::right_if(is_one_bin(image))),
@@ -109,7 +109,7 @@ fn reopened(alloc: Global) -> Result<Outcome, Refusal> {
     }
 }
 
-// memory for two bins; where it is refused, no byte changes. What is reserved is there for cells.
+// memory for two bins; if it is refused, no byte changes. What is reserved is there for cells.
 fn reserved(alloc: Global) -> Result<Outcome, Refusal> {
     let mut image = opened(alloc)?;
     match image.reserve(2 * BIN) {
@@ -118,7 +118,7 @@ fn reserved(alloc: Global) -> Result<Outcome, Refusal> {
     }
 }
 
-// a cell in a new bin; where memory is refused, no byte changes
+// a cell in a new bin; if memory is refused, no byte changes
 fn grown(alloc: Global) -> Result<Outcome, Refusal> {
     let mut image = opened(alloc)?;
     match image.alloc(5000) {
@@ -127,7 +127,7 @@ fn grown(alloc: Global) -> Result<Outcome, Refusal> {
     }
 }
 
-// a cell in a new bin; where memory is refused, cells are found, taken and freed as before, without memory
+// a cell in a new bin; if memory is refused, cells are found, taken and freed as before, without memory
 fn used_on(alloc: Global) -> Result<Outcome, Refusal> {
     let mut image = opened(alloc)?;
     let added = match image.alloc(5000) {

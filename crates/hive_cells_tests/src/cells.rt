@@ -24,7 +24,7 @@ fn put(bytes: &mut Vec<u8>, at: usize, what: &[u8]) {
 // bytes and where they begin
 type Part = (usize, &'static [u8]);
 
-// so many bytes, which are 0 but for these parts
+// this many bytes, which are 0 but for these parts
 fn with_parts(alloc: Global, len: usize, parts: &[Part]) -> Result<Vec<u8>, AllocError> {
     let mut bytes = zeros(alloc, len)?;
     for (at, what) in parts {
@@ -33,7 +33,7 @@ fn with_parts(alloc: Global, len: usize, parts: &[Part]) -> Result<Vec<u8>, Allo
     Ok(bytes)
 }
 
-// an allocated cell of 16 bytes at 32, a free one behind it
+// an allocated cell of 16 bytes at 32, a free one after it
 const ONE_BIN: [Part; 5] = [
     (0, b"hbin"),
     (8, &[0x00, 0x10, 0, 0]),
@@ -97,7 +97,7 @@ fn a_cell_is_lent_and_each_look_counts(rt: HostRuntime) -> Result<(), Fail> {
     Ok(())
 }
 
-// where four bytes of the one bin are spoiled, with which bytes, the cause that is told, and what is wrong then
+// where four bytes of the one bin are spoiled, with which bytes, the reported cause, and what is wrong then
 const SPOILED: [(usize, [u8; 4], Cause, &str); 9] = [
     (0, *b"hbim", Cause::BadBin, "signature"),
     (4, [0, 0x10, 0, 0], Cause::BadBin, "own offset"),
@@ -115,7 +115,7 @@ const SPOILED: [(usize, [u8; 4], Cause, &str); 9] = [
     (48, [0xd8, 0x0f, 0, 0], Cause::BadCell, "past its bin's end"),
 ];
 
-// why bytes are not opened, and how many of them are handed back
+// why bytes are not opened, and how many of them are given back
 fn refused(alloc: Global, bytes: Vec<u8>) -> Option<(Refusal, usize)> {
     match Image::open(alloc, bytes) {
         Ok(_) => None,
@@ -123,7 +123,7 @@ fn refused(alloc: Global, bytes: Vec<u8>) -> Option<(Refusal, usize)> {
     }
 }
 
-// what opening one bin answers where four bytes of it are spoiled
+// what opening one bin answers if four bytes of it are spoiled
 fn spoiled(alloc: Global, at: usize, what: &[u8]) -> Result<Option<(Refusal, usize)>, AllocError> {
     let mut bytes = one_bin(alloc)?;
     put(&mut bytes, at, what);
@@ -181,11 +181,11 @@ enum Step {
     TooLarge(usize),
     // the cell at an offset is freed, and lies in the free cell that begins at another
     Frees(u32, u32),
-    // the data have so many pages
+    // the data have this many pages
     Pages(usize),
     // a cell for data of a length is allocated
     TakesAny(usize),
-    // a cell of 20 bytes is allocated at an offset, and a word written behind its first two
+    // a cell of 20 bytes is allocated at an offset, and a word written after its first two
     Writes(u32),
     // the cell at an offset is freed, and nothing is written into it then
     FreesForGood(u32),
@@ -244,7 +244,7 @@ fn a_free_cell_in_read_bytes_is_found(rt: HostRuntime) -> Result<(), Fail> {
     Ok(())
 }
 
-// behind the header of a new bin, and where the first ends
+// after the header of a new bin, and where the first ends
 const FIVES: [Step; 2] = [Step::Takes(5, 32), Step::Takes(5, 48)];
 
 #[test]
@@ -377,7 +377,7 @@ fn a_freed_cell_is_not_freed_again(rt: HostRuntime) -> Result<(), Fail> {
     Ok(())
 }
 
-// a bin of five pages; the third cell is freed with a free cell of four pages before it and one behind it
+// a bin of five pages; the third cell is freed with a free cell of four pages before it and one after it
 const MERGED: [Step; 9] = [
     Step::Takes(20_000, 32),
     Step::Frees(32, 32),

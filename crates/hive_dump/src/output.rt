@@ -15,7 +15,7 @@ use std::io;
 use std::io::{Read, Write};
 use tree_printer::write_tree;
 
-/// The number as which the hive of a file is told.
+/// The number as which the hive of a file is reported.
 const HIVE: u8 = 0;
 
 const _: () = prove!(HIVE == 0);
@@ -37,14 +37,15 @@ impl From<io::Error> for DumpError {
     }
 }
 
-/// Writes the text of the tree that a hive's primary file holds, as that of hive 0, or of why it holds none, and answers the
-/// status. The file is read from where the reader stands: its base block, and as many bytes of bins data as that says. What
-/// follows is left unread.
+/// Writes the text of the tree that a hive's primary file holds, as hive 0, or of why it holds none, and answers the
+/// status. The file is read from where the reader is. Its base block is read, and as many bytes of bins data as that
+/// says. What follows is left unread.
 ///
-/// Refused, in the text, with `HiveDamaged` of hive 0 where the file ends early (`Truncated`), is no hive at all or has a wrong base
-/// block (`BadBase`), isn't clean (`NotClean`), or its bins data don't stand for a tree; with `Unsupported` for a version, a format, a
-/// type or a flag outside the profile; with `TooLarge` for bins data, a tree's weight or a path over the limits; and with
-/// `NoMemory`. Nothing is written before the whole tree is in memory, and writing takes none.
+/// Refused, in the text, with `HiveDamaged` of hive 0 and a cause. `Truncated` if the file ends early. `BadBase` if it
+/// is no hive at all or has a wrong base block. `NotClean` if it isn't clean. Another cause if its bins data encode no
+/// tree. Refused with `Unsupported` for a version, a format, a type or a flag outside the profile. Refused with
+/// `TooLarge` for bins data, a tree's weight or a path over the limits. Refused with `NoMemory`. Nothing is written
+/// before the whole tree is in memory, and writing takes none.
 pub fn dump<R: Read, W: Write>(
     alloc: Global,
     reader: &mut R,

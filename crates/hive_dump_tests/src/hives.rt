@@ -1,4 +1,4 @@
-//! A hive's file, spelled by hand.
+//! A hive's file, written by hand.
 use base_block::{BaseBlock, SequenceNumber};
 use std::alloc::{AllocError, Global};
 use uuid::Uuid;
@@ -19,16 +19,16 @@ const KEY: [u8; 88] = [
     0, 0, 0, 0, 0, 0, 0, 0, 1, 0, 0, 0, b'r', 0, 0, 0, 0, 0, 0, 0,
 ];
 
-// the size of the free cell behind them
+// the size of the free cell after them
 const FREE: [u8; 4] = [0x88, 0x0f, 0, 0];
 
-// the bytes of the bin behind that
+// the bytes of the bin after that
 const REST: usize = 3_972;
 
-// the bytes of the base block behind its first sector
+// the bytes of the base block after its first sector
 const BEHIND: usize = 3_584;
 
-/// The file, and behind it some more bytes.
+/// The file, and some more bytes after it.
 pub fn file(alloc: Global, more: &[u8]) -> Result<Vec<u8>, AllocError> {
     let block = BaseBlock::of_primary(SequenceNumber(1), 32, 4_096, Uuid::nil());
     let mut file = Vec::new(alloc);

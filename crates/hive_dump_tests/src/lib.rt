@@ -1,4 +1,5 @@
-//! Tests of dumps that no file can say: readers and writers that fail. What a file can say is a case of `runs/hives`.
+//! Tests of dumps for which no file is enough: readers and writers that fail. What a file can show is a case of
+//! `runs/hives`.
 #![tactic(auto)]
 
 #[cfg(test)]

@@ -38,7 +38,7 @@ impl<'a> Read for Slow<'a> {
     }
 }
 
-// takes so many writes, and then fails
+// takes this many writes, and then fails
 #[derive(Drop)]
 struct Full {
     left: usize,
@@ -120,7 +120,7 @@ fn a_write_that_fails_is_told(rt: HostRuntime) -> Result<(), Fail> {
         let mut full = Full { left };
         let told = dump(alloc, &mut file.as_slice(), &mut full);
         assert!(&rt; told == Err(DumpError::CannotWrite), "{left}");
-        // so it is of a refusal's line
+        // the same of a refusal's line
         let told = dump(alloc, &mut b"short".as_slice(), &mut Full { left: 0 });
         assert!(&rt; told == Err(DumpError::CannotWrite), "{left}");
     }

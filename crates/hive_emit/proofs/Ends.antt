@@ -29,7 +29,7 @@ pub record Put (counted securities : List SecurityEntry) (entries : Entries) : T
   pub apart : AreApart (tallies securities)
   pub planned : ArePlanned counted securities (length counted)
 
--- what stands at the end
+-- what is known at the end
 record Ended (securities : List SecurityEntry) (root : ℕ) (entries : Entries) (z : Cells) : Type 0 where
   y : Cells
   held : SecuritiesAreWritten securities z

@@ -1,4 +1,4 @@
--- Descriptors with their places, by a map; so that none is kept twice.
+-- Descriptors with their indexes, by a map; so that none is kept twice.
 use Rattle.std.proofs.Common.{◌≡◌, ◌⊎◌, inl, inr, ℕ, zero, suc, ◌+◌, ◌<◌, Bool, true, false, cond, List, [], ◌∷◌, ◌++◌, length, map, slice_get, refl, sym, ◌∙◌, ap, subst, arith, Option, Some, None}
 use Rattle.std.specs.Prelude.{slice_set}
 use Rattle.std.specs.Global.{Vec}
@@ -31,7 +31,7 @@ untied xs ys apart = by (is_eq (slice_cmp nat_cmp xs ys)) refl
     by true e = absurd (apart (names_apart xs ys (equal_of (slice_cmp nat_cmp xs ys) e)))
     by false e = e
 
--- what an insertion makes of the places
+-- what an insertion makes of the indexes
 pub placed_here : (es : List (Vec ℕ × ℕ)) (k : Vec ℕ) (v : ℕ) (d : List ℕ) → k.items ≡ d → index_of (insert_entry order es k v) d ≡ Some v
 placed_here [] k v d e = ap (λ (b : Bool). cond b (Some v) (index_of [] d)) (tied d k.items (sym e))
 placed_here (x ∷ es) k v d e = by (placed_here es k v d e) (order k x.0) refl
@@ -55,7 +55,7 @@ placed_other (x ∷ es) k v d apart = by (placed_other es k v d apart) (order k 
         ap (λ (b : Bool). cond b (Some v) (index_of es d)) out ∙ sym (ap (λ (b : Bool). cond b (Some x.1) (index_of es d)) out)
     by rest Greater f = ap (λ (p : Option ℕ). cond (is_eq (slice_cmp nat_cmp d (let y = x.0 in y.items))) (Some x.1) p) rest
 
--- what the map has no place for is not kept, nor is what is kept at another place than the map has for it
+-- a descriptor without an index in the map is not kept, and none is kept at another index than the map has for it
 pub none_filed : (es : List (Vec ℕ × ℕ)) (cells : List SecurityEntry) (d : List ℕ) → AreFiled es cells → None ≡ index_of es d → Has cells d → ⊥
 none_filed es cells d filed none has = let e : None ≡ Some has.place = none ∙ ap (index_of es) (sym has.same) ∙ filed has.place has.security has.is in let never : ⊥ = cc in never
 

@@ -60,7 +60,7 @@ formed_stay old new Names parent (key at p below after) stay h = (
   formed_stay old new Names parent after (λ cell i. stay cell (in_back cell (p.own ++ own_cells below) (own_cells after) i)) h.2,
 )
 
--- where cells come beside those that are there
+-- if cells come beside those that are there
 own_there : (cells : Cells) (f : Keys Row) → CellsMatchKeys (keys_in true cells) f → (cell : ℕ) → IsIn cell (own_cells f) → IsSome (cells cell)
 own_there cells none fits cell i = absurd i
 own_there cells (key at p below after) fits cell i = elim (in_either cell (p.own ++ own_cells below) (own_cells after) i) [

@@ -50,7 +50,7 @@ use Rattle.hive_emit.specs.Forms.{is_plain, Rises, IsClass}
 use Rattle.hive_emit.proofs.Owns.{gives_stays}
 use Rattle.hive_emit.proofs.Formed.{class_stays, formed_stay, formed_grown, formed_last, placed_subkeys, placed_rise}
 
--- security cells stay held
+-- security cells stay
 pub held_grown : (securities : List SecurityEntry) (y z : Cells) → Grows y z → SecuritiesAreWritten securities y → SecuritiesAreWritten securities z
 held_grown securities y z g h = all_as (SecurityIsWritten y) (SecurityIsWritten z) securities (λ s is. record { near = is.near; few = is.few; encoding = holds_grown y z s.at (security_bytes s.next s.previous s.count s.descriptor) g is.encoding }) h
 
@@ -99,7 +99,7 @@ once_sorted : (ks : List (List ℕ × Entries)) → T (is_sorted name_order ks) 
 once_sorted [] h = tt
 once_sorted (k ∷ ks) h = (apart_below k.0 ks (front_of (below_all name_order k.0 ks) (is_sorted name_order ks) h), once_sorted ks (back_of (below_all name_order k.0 ks) (is_sorted name_order ks) h))
 
--- what holds of all entries holds of those of subkeys
+-- what holds of all entries holds of the entries of subkeys
 pub all_parts : {A : Type 0} (P : A → Type 0) (xs ys : List A) → AllByRecursion P (xs ++ ys) → AllByRecursion P xs × AllByRecursion P ys
 all_parts P [] ys h = (tt, h)
 all_parts P (x ∷ xs) ys h = let rest = all_parts P xs ys h.1 in ((h.0, rest.0), rest.1)
@@ -334,7 +334,7 @@ key_made securities a b c d e parent at len security class values subkey_list ro
   longer = (let i = m.longer in let j = n.longer in let k = o.longer in let l = p.len in omega (arith, i, j, k, l));
 }
 
--- the subkey at a place
+-- the subkey at an index
 pub found_subkey : (ks : List (List ℕ × Entries)) (i : ℕ) (es : Entries) → AllByRecursion (λ (k : List ℕ × Entries). root_name k.1 ≡ k.0) ks → Some es ≡ slice_get (map (λ k. k.1) ks) i → (name : List ℕ) × (slice_get ks i ≡ Some (name, es)) × (root_name es ≡ name)
 found_subkey [] i es named e = absurd (let no : ⊥ = cc in no)
 found_subkey (k ∷ ks) zero es named e = let same : k.1 ≡ es = cc in (k.0, ap (λ (x : Entries). Some (k.0, x)) same, ap root_name (sym same) ∙ named.0)

@@ -150,7 +150,7 @@ subkeys_read cells list plain subkey_list own near (inr (inr h)) =
     (subst (λ (ks : List ℕ). Gives (subkeys_at (length subkey_list) list) cells (list ∷ map (λ (l : Leaf). l.at) leaves) [] ks) all
     (subst (λ (n : ℕ). Gives (subkeys_at n list) cells (list ∷ map (λ (l : Leaf). l.at) leaves) [] (flat_map (λ (l : Leaf). l.subkey_list) leaves)) long read))
 
--- the subkey at a place
+-- the subkey at an index
 get_drop : {A : Type 0} (ks : List A) (from i : ℕ) → slice_get (drop from ks) i ≡ slice_get ks (from + i)
 get_drop ks zero i = ap (slice_get ks) (let e : i ≡ 0 + i = omega arith in e)
 get_drop [] (suc f) i = refl

@@ -47,7 +47,7 @@ class_none a class none = subst (λ (cs : List ℕ). Makes a a (ClassAt nil_offs
 pub class_put : (a b : List ℕ) (at : ℕ) (class : List ℕ) → 0 < length class → Makes a b (Puts at class) → Makes a b (ClassAt at class)
 class_put a b at class some m = made_as a b (Puts at class) (ClassAt at class) m (λ x y g p. record { own = at ∷ []; near = let near : at < nil_offset = p.near in omega arith; adds = p.adds; is = inr (some, p.holds, refl); gives = class_again y at class some p.holds })
 
--- values, and the list of subkeys behind them
+-- values, and the list of subkeys after them
 record Both (class values subkey_list : ℕ) (row : Row) (offsets : List ℕ) (subkeys : List (List ℕ × Entries)) (plain : Bool) (x z : Cells) : Type 0 where
   y : Cells
   first : Grows x y

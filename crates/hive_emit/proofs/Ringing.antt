@@ -1,4 +1,4 @@
--- Where security cells are put, one behind the other, and the ring of their links.
+-- Where security cells are put, one after the other, and the ring of their links.
 use Rattle.std.proofs.Common.{◌≡◌, inl, inr, ℕ, zero, suc, ◌+◌, ◌-◌, ◌<◌, ◌≤◌, Bool, cond, ne_eqb, List, [], ◌∷◌, length, map, take, sum_by, slice_get, refl, sym, ◌∙◌, ap, subst, arith, Some}
 use Rattle.std.specs.Prelude.{slice_set}
 use Rattle.std.specs.List.{AllByRecursion}
@@ -21,7 +21,7 @@ use Rattle.hive_emit.specs.SecurityTables.{tallies, planned_offset, ahead, IsPla
 use Rattle.hive_emit.proofs.SecurityTables.{set_here, set_there}
 use Rattle.hive_emit.proofs.Counting.{cell_of, cells_of}
 
--- ---- spots
+-- ---- offsets
 
 pub spot_next : (cells : List SecurityEntry) (i : ℕ) (s : SecurityEntry) → slice_get cells i ≡ Some s → planned_offset cells (i + 1) ≡ planned_offset cells i + security_cost s
 spot_next cells i s e = omega (arith, sum_next security_cost cells i s e)
@@ -52,7 +52,7 @@ take_most [] (suc j) = omega arith
 take_most (c ∷ cells) zero = omega arith
 take_most (c ∷ cells) (suc j) = omega (arith, sum_by-cons security_cost c (take j cells), sum_by-cons security_cost c cells, take_most cells j)
 
--- ---- places in a ring
+-- ---- indexes in a ring
 
 pub behind_last : (n i : ℕ) → i + 1 ≡ n → behind n i ≡ 0
 behind_last n i e = ap (λ (b : Bool). cond b 0 (i + 1)) (eq-eqb (i + 1) n e)

@@ -23,7 +23,7 @@ no_cell end _ (next_cell from at start is next within) = no_cell end from start
 pub none_free : (size : ℕ) → ¬ HasFree [] size
 none_free size h = no_cell h.1.0.0 h.0 h.1.0.1
 
--- in data of one bin, the first cell of which goes to their end, no other begins
+-- in data of one bin whose first cell goes to the end of the data, no other cell begins
 one_bin : (bytes : List ℕ) (at : ℕ) → bin_size bytes 0 ≡ length bytes → BinStart bytes at → at ≡ 0
 one_bin bytes _ whole (first_bin some) = refl
 one_bin bytes at whole (next_bin from _ start bin is within) =

@@ -18,7 +18,7 @@ use Rattle.hive_emit.proofs.KeyProofs.{all_parts, found_subkey, held_grown}
 use Rattle.hive_emit.specs.EmittedKeys.{Has, IsOffsetOf, IsCounted, AreCounted, SecurityIsWritten, KeepsSecurityCells}
 use Rattle.hive_emit.specs.SecurityTables.{HasDescriptorAt}
 
--- the offset of a cell that is kept at a place
+-- the offset of a cell that is kept at an index
 pub found_cell : (cells : List SecurityEntry) (place : ℕ) (a : SecurityEntry) (d : List ℕ) → a ≡ get_or cells place a → place < length cells → HasDescriptorAt cells place d → IsOffsetOf cells d a.at
 found_cell cells place a d a_is inside has = let there : slice_get cells place ≡ Some a = slice_get_read cells (length cells) place a refl inside a_is in
     inr (record { place = place; security = a; is = there; same = ap (λ (s : SecurityEntry). s.descriptor) (some_same a has.security (sym there ∙ has.is)) ∙ has.same; here = refl })
@@ -84,7 +84,7 @@ counted_next securities ks i es named e h g =
 pub counted_whole : (securities : List SecurityEntry) (entries : Entries) (row : Row) → HasSubkeys entries (subkeys_of entries) → row_at entries [] ≡ Some row → IsCounted securities row → AreCounted securities (all_below (subkeys_of entries)) → AreCounted securities entries
 counted_whole securities entries row has here own subkey_list = subst (AreCounted securities) (sym (has.whole row here)) (own, subkey_list)
 
--- held cells, one more
+-- kept cells, one more
 pub take_set : (cells : List SecurityEntry) (i : ℕ) (new : SecurityEntry) → i < length cells → take (suc i) (slice_set cells i new) ≡ take i cells ++ new ∷ []
 take_set [] i new h = absurd (omega (arith, h))
 take_set (c ∷ cells) zero new h = refl

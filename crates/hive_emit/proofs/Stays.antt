@@ -1,4 +1,4 @@
--- What is written stays where the cells that it lies in stay.
+-- What is written stays if the cells stay that it lies in.
 use Rattle.std.proofs.Common.{◌≡◌, inl, inr, ℕ, Bool, true, List, [], ◌∷◌, ◌++◌, map, flat_map, refl, sym, ◌∙◌, subst}
 use Rattle.std.specs.List.{AllByRecursion}
 use Rattle.std.proofs.lemmas.List.Concat.{flat_map-cons}
@@ -44,7 +44,7 @@ listed_stays list plain subkey_list own old new stay (inr (inr h)) =
       near = h.near;
     }))
 
--- values, where each cell that they lie in holds what it held
+-- values, if each cell that they lie in has the data that it had
 segments_hold : (old new : Cells) (segments : List Segment) → ((cell : ℕ) (encoding : List ℕ) → IsIn cell (segment_offsets segments) → CellHolds old cell encoding → CellHolds new cell encoding) → AllByRecursion (IsSegment old) segments → AllByRecursion (IsSegment new) segments
 segments_hold old new [] keeps h = tt
 segments_hold old new (s ∷ segments) keeps h = (keeps s.at s.encoding (inl refl) h.0, segments_hold old new segments (λ cell encoding i. keeps cell encoding (inr i)) h.1)

@@ -28,7 +28,7 @@ use Rattle.hive_emit.specs.Values.{IsValue, value_own, ValueAt, CanPutAll, Liste
 use Rattle.hive_emit.proofs.Makings.{made_then, made_none, adds_none, adds_ahead, all_push, all_as, lists_none, lists_more}
 use Rattle.hive_emit.proofs.Valued.{written_grown}
 
--- the element at a place, and those before it
+-- the element at an index, and those before it
 pub take_next : {A : Type 0} (xs : List A) (i : ℕ) (x : A) → slice_get xs i ≡ Some x → take (i + 1) xs ≡ take i xs ++ x ∷ []
 take_next xs i x e = take_more xs i x (slice_get_within xs i x e) ∙ ap (λ y. take i xs ++ y ∷ []) (get_or_from_slice_get xs i x x e)
 
@@ -119,7 +119,7 @@ none_made a values can none = made_none a (ValuesAt nil_offset values) (λ x. re
       (subst (λ (m : ValueMap). Gives (values_at true 0 nil_offset) x [] [] m) (ap map_of (sym (nothing (finite.values values) (length-map (finite.entries values) (λ e. e.1) ∙ sym (len-entries values) ∙ none))) ∙ map_again values can) (no_values true x nil_offset));
 })
 
--- what is at a place
+-- what is at an index
 pub all_at : {A : Type 0} (P : A → Type 0) (xs : List A) (i : ℕ) (x : A) → AllByRecursion P xs → slice_get xs i ≡ Some x → P x
 all_at P [] i x h e = absurd (let no : ⊥ = cc in no)
 all_at P (y ∷ xs) zero x h e = subst P (let same : y ≡ x = cc in same) h.0

@@ -1,4 +1,4 @@
--- A tree that a hive file can spell, within the weight, can be put; and what was put stands for it.
+-- A tree that a hive file can encode, within the weight, can be put; and what was put encodes it.
 use Rattle.std.proofs.Common.{◌≡◌, ◌≢◌, inl, inr, ℕ, ◌+◌, ◌*◌, ◌/◌, ◌%◌, ◌<◌, ◌≤◌, ◌^◌, Bool, true, false, cond, eqb, ne_eqb, ◌||◌, T, List, [], ◌∷◌, length, map, sum_by, refl, sym, ◌∙◌, ap, subst, arith, Some, None, le-leb}
 use Rattle.std.specs.Prelude.{bit_and}
 use Rattle.std.specs.List.{AllByRecursion, list_any}
@@ -157,7 +157,7 @@ tree_can tree root node same encodable light =
 pub tree_few : (tree : TreeMap) (root : Entries) → IsNode root → tree ≡ finite.from_sorted root → weight tree ≤ 16_777_216 → length root < 2 ^ 24
 tree_few tree root node same light = omega (arith, count_rows root, root_weight tree root node same light)
 
--- what stands at the end
+-- what is known at the end
 record Ended (securities : List SecurityEntry) (root : ℕ) (entries : Entries) (x z : Cells) : Type 0 where
   y : Cells
   held : SecuritiesAreWritten securities y

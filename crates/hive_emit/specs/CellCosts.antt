@@ -14,7 +14,7 @@ segments_cost len = len + 8 * (len / 16_344) + 15
 unfoldable pub apart_cost : ℕ → ℕ
 apart_cost len = cell_cost len + 100 * (len / 16_345)
 
--- data: nothing where they lie in the record
+-- data: nothing if they lie in the record
 unfoldable pub data_cost : ℕ → ℕ
 data_cost len = if nat_le len 4 then 0 else apart_cost len
 
@@ -26,14 +26,14 @@ value_cost value = cell_cost (20 + length (name_bytes value.name)) + data_cost (
 abbrev pub values_cost : ValueMap → ℕ
 values_cost values = sum_by value_cost (finite.values values) + 8 * finite.len values
 
--- a leaf of so many subkeys
+-- a leaf of a number of subkeys
 abbrev pub leaf_cost : ℕ → ℕ
 leaf_cost count = 8 + 8 * count
 
--- leaves of 500 subkeys and a last one, so many together
+-- leaves of 500 subkeys and a last one, of a number of subkeys together
 abbrev pub leaves_cost : ℕ → ℕ
 leaves_cost count = 8 * count + 8 * ((count + 499) / 500)
 
--- all lists of so many subkeys of a key
+-- all lists of a number of subkeys of a key
 abbrev pub subkeys_cost : ℕ → ℕ
 subkeys_cost count = 16 * count

@@ -1,4 +1,5 @@
--- What writing makes of an image: cells that were not there, beside those that stay; and what it takes of the free room.
+-- What writing makes of an image: cells that were not there, beside those that stay; and what it takes of the free
+-- room.
 use Rattle.std.specs.Prelude.{◌≡◌, ◌⊎◌, ℕ, ◌+◌, ◌<◌, ◌≤◌, List, [], ◌∷◌, length, flat_map, Some, IsSome}
 use Rattle.std.specs.List.{AllByRecursion}
 use Rattle.refusals.specs.declared.refusal.Refusal.{Refusal}
@@ -17,7 +18,7 @@ pub record Makes (old new : List ℕ) (Made : Cells → Cells → Type 0) : Type
   pub cells : (before : Cells) → Shows old before → (after : Cells) × Shows new after × Grows before after × Made before after
   pub longer : length old ≤ length new
 
--- cells that were not there are, none of them twice
+-- cells that were not there are there, none of them twice
 pub record Adds (before after : Cells) (own : List ℕ) : Type 0 where
   pub once : Once own
   pub fresh : AreNew before own
@@ -31,7 +32,7 @@ pub record Opens (at len : ℕ) (before after : Cells) : Type 0 where
   pub long : len ≤ length its
   pub near : at < nil_offset
 
--- a cell that was not there holds a text
+-- a cell that was not there has given bytes
 pub record Puts (at : ℕ) (encoding : List ℕ) (before after : Cells) : Type 0 where
   pub adds : Adds before after (at ∷ [])
   pub holds : CellHolds after at encoding
@@ -51,11 +52,11 @@ pub record HasFreeRoomAt (bytes : List ℕ) (at room : ℕ) : Type 0 where
 abbrev pub HasFreeRoom : List ℕ → ℕ → Type 0
 HasFreeRoom bytes room = (at : ℕ) × HasFreeRoomAt bytes at room
 
--- so many bytes of the room are used at most: where there was room for them and for more, there is for those more
+-- at most a number of bytes of the room are used: if there was room for them and for more, there is room for those more
 abbrev pub Uses : List ℕ → List ℕ → ℕ → Type 0
 Uses old new cost = (more : ℕ) → HasFreeRoom old (cost + more) → HasFreeRoom new more
 
--- a cell is taken from the front of the free one, and so many bytes of it are used
+-- a cell is taken from the front of the free one, and a number of bytes of it are used
 abbrev pub Lands : List ℕ → List ℕ → ℕ → ℕ → Type 0
 Lands old new at cost = (front more : ℕ) → HasFreeRoomAt old front (cost + more) → (at ≡ front) × HasFreeRoomAt new (front + cost) more
 
@@ -63,11 +64,11 @@ Lands old new at cost = (front more : ℕ) → HasFreeRoomAt old front (cost + m
 abbrev pub cell_cost : ℕ → ℕ
 cell_cost len = least_size len
 
--- why nothing is written: for want of memory, or since there is no such room
+-- why nothing is written: for want of memory, or since there is no free room
 abbrev pub WriteRefused : List ℕ → ℕ → Refusal → Type 0
 WriteRefused old cost why = (why ≡ refusal.NoMemory) ⊎ (HasFreeRoom old cost → ⊥)
 
--- a text is filled into a cell that is there and long enough, and all others stay
+-- bytes are filled into a cell that is there and long enough, and all others stay
 pub record Fills (old new : List ℕ) (at : ℕ) (encoding : List ℕ) : Type 0 where
   pub cells : (before : Cells) → Shows old before → (after : Cells) × Shows new after × SameBut at before after × CellHolds after at encoding
   pub len : length new ≡ length old

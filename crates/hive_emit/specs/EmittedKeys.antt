@@ -27,7 +27,7 @@ use Rattle.hive_records.specs.declared.key_node_fields.KeyNodeFields.{KeyNodeFie
 use Rattle.hive_emit.specs.declared.security.SecurityEntry.{SecurityEntry}
 use Rattle.hive_emit.specs.Forms.{is_past_ascii, is_plain, IsClass, KeyForm}
 
--- a security cell is where its offset says, with its links and its count
+-- a security cell is at its offset, with its links and its count
 pub record SecurityIsWritten (cells : Cells) (security : SecurityEntry) : Type 0 where
   pub near : security.at < nil_offset
   pub few : length security.descriptor < 2 ^ 32
@@ -46,8 +46,8 @@ pub record Has (securities : List SecurityEntry) (descriptor : List ℕ) : Type 
   pub is : slice_get securities place ≡ Some security
   pub same : security.descriptor ≡ descriptor
 
--- a key that can be put, at its path: its row can be written, where its moment is a number of 64 bits, and none but the
--- root has an empty name
+-- a key that can be put, at its path. Its row can be written, given that its moment is a number of 64 bits. No key but
+-- the root has an empty name
 pub record CanPutKey (path : List (List ℕ)) (row : Row) : Type 0 where
   pub fits : row.time < 2 ^ 64 → RowFits row
   pub values : CanPutAll row.values
@@ -67,7 +67,7 @@ AreCounted securities entries = AllByRecursion (λ (e : List (List ℕ) × Row).
 abbrev pub any_past_ascii : List (List ℕ × Entries) → Bool
 any_past_ascii subkeys = list_any (λ (k : List ℕ × Entries). is_past_ascii k.0) subkeys
 
--- the offset of a descriptor's cell, and that of none for an empty one
+-- the offset of a descriptor's cell, or the offset of none for an empty descriptor
 pub record IsCellOf (securities : List SecurityEntry) (descriptor : List ℕ) (at : ℕ) : Type 0 where
   pub place : ℕ
   pub security : SecurityEntry
@@ -100,7 +100,7 @@ pub record KeyAt (securities : List SecurityEntry) (parent at : ℕ) (entries : 
   pub form : KeyForm after (IsOffsetOf securities) parent at parts (listed_subkeys below)
   pub formed : AreFormed after (IsOffsetOf securities) at below
 
--- where the security cells are held, it is so
+-- if the security cells are there, the key is written
 abbrev pub PutsKey : List SecurityEntry → ℕ → ℕ → Entries → Cells → Cells → Type 0
 PutsKey securities parent at entries before after = SecuritiesAreWritten securities before → KeyAt securities parent at entries before after
 
@@ -117,7 +117,7 @@ pub record SubkeysDone (securities : List SecurityEntry) (parent : ℕ) (cell_of
 abbrev pub PutsSubkeys : List SecurityEntry → ℕ → List ℕ → List (List ℕ × Entries) → Cells → Cells → Type 0
 PutsSubkeys securities parent cell_offsets subkey_list before after = SecuritiesAreWritten securities before → SubkeysDone securities parent cell_offsets subkey_list before after
 
--- the other cells of a key's own are written: class, values, and the list of the subkeys at places
+-- the other cells of a key's own are written: class, values, and the list of the subkeys at offsets
 pub record OwnAt (class values subkey_list : ℕ) (row : Row) (cell_offsets : List ℕ) (subkeys : List (List ℕ × Entries)) (before after : Cells) : Type 0 where
   pub class_own : List ℕ
   pub values_own : List ℕ
@@ -158,12 +158,12 @@ AreShort securities = AllByRecursion (λ (s : SecurityEntry). length s.descripto
 abbrev pub Keeps : List SecurityEntry → List SecurityEntry → Type 0
 Keeps old new = (descriptor : List ℕ) → Has old descriptor → Has new descriptor
 
--- the cells are held that securities have
+-- the cells of security entries are kept
 abbrev pub KeepsSecurityCells : List SecurityEntry → Cells → Cells → Type 0
 KeepsSecurityCells securities before after = SecuritiesAreWritten securities after
 
--- why no image is made of a tree of a weight, of at least a size: the tree or the size is over its limit; or neither is, and
--- memory was not given
+-- why no image is made of a tree of a weight, of at least a size. The tree or the size is over its limit; or neither
+-- is, and memory was not given
 abbrev pub EmitRefused : ℕ → ℕ → Refusal → Type 0
 EmitRefused weight least_size refusal.NoMemory = (weight ≤ MOST_WEIGHT) × (least_size ≤ MOST_BINS_BYTES)
 EmitRefused weight least_size refusal.TooLarge = (MOST_WEIGHT < weight) ⊎ (MOST_BINS_BYTES < least_size)

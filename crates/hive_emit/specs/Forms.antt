@@ -1,4 +1,4 @@
--- How an image is written, beside what it stands for: relations over its cells (regf format: key node, key values list,
+-- How an image is written, beside what it encodes: relations over its cells (regf format: key node, key values list,
 -- subkeys list, security key).
 use Rattle.std.specs.Prelude.{◌≡◌, ◌⊎◌, ℕ, ◌+◌, ◌<◌, ◌==◌, nat_lt, true, Bool, if◌then◌else◌, List, [], ◌∷◌, ◌++◌, length, map, sum_by, slice_get, Some, Ok}
 use Rattle.std.specs.List.{AllByRecursion, list_any}
@@ -28,7 +28,7 @@ use Rattle.hive_emit.specs.KeyLists.{IsListed}
 abbrev pub is_past_ascii : List ℕ → Bool
 is_past_ascii name = list_any (λ u. nat_lt 0x7f u) name
 
--- whether a key's lists have offsets alone: where a subkey's name has a unit past ASCII
+-- whether a key's lists have offsets alone: if a subkey's name has a unit past ASCII
 abbrev pub is_plain : List Subkey → Bool
 is_plain subkeys = list_any (λ (k : Subkey). is_past_ascii k.name) subkeys
 
@@ -45,10 +45,10 @@ AreRead reads subkeys = AllByRecursion (λ (k : Subkey). (parts : KeyParts Row) 
 abbrev pub IsClass : ℕ → List ℕ → List ℕ → Cells → Type 0
 IsClass at class own cells = ((class ≡ []) × (at ≡ nil_offset) × (own ≡ [])) ⊎ ((0 < length class) × CellHolds cells at class × (own ≡ at ∷ []))
 
--- A key is written, its record at an offset: the record is its row's text and names the parent; its class is in its cell; its values are listed
--- in the order of their folded names; its subkeys in the order of theirs, in one leaf of at most 500 or in leaves of at
--- most 500 and a list of these, with hashes where no name is past ASCII; and the record names the security cell of its
--- descriptor. So the key hangs on its record and these cells.
+-- A key is written, its record at an offset. The record is the encoding of its row and names the parent. Its class is
+-- in its cell. Its values are listed in the order of their folded names. Its subkeys are listed in the order of theirs,
+-- in one leaf of at most 500, or in leaves of at most 500 and a list of these. There are hashes if no name is past
+-- ASCII. The record names the security cell of its descriptor. So the key depends on its record and these cells.
 pub record KeyForm (cells : Cells) (Names : List ℕ → ℕ → Type 0) (parent at : ℕ) (parts : KeyParts Row) (subkeys : List Subkey) : Type 0 where
   pub its : KeyNodeFields
   pub encoding : CellHolds cells at (key_node_bytes parts.row its)
@@ -74,8 +74,9 @@ pub record IsKeyForm (cells : Cells) (Names : List ℕ → ℕ → Type 0) (pare
   pub named : AreRead (keys_in true cells) subkeys
   pub form : KeyForm cells Names parent at parts subkeys
 
--- a way, which is the places of subkeys in the lists of one key after another, leads from the key at an offset to that at
--- another; and from the offset that the first one has for its parent to that of the last one's
+-- a way leads from the key at an offset to the key at another. It is the indexes of subkeys in the lists of one key
+-- after another. It leads too from the offset that the first key has for its parent to the offset that the last key has
+-- for its own
 abbrev pub LeadsUnder : KeyReader Row Refusal → ℕ → ℕ → List ℕ → ℕ → ℕ → Type 0
 LeadsUnder reads above at [] parent to = (above ≡ parent) × (at ≡ to)
 LeadsUnder reads above at (i ∷ way) parent to = (parts : KeyParts Row) × (subkey : ℕ) × (reads at ≡ Ok parts) × (slice_get parts.subkey_list i ≡ Some subkey) × LeadsUnder reads at subkey way parent to
@@ -97,31 +98,31 @@ has_descriptor descriptor row = if bytes_eq descriptor row.descriptor then 1 els
 abbrev pub keys_with : List ℕ → Entries → ℕ
 keys_with descriptor entries = sum_by (λ e. has_descriptor descriptor e.1) entries
 
--- the place behind one in a ring of so many
+-- the index after one in a ring of a number of elements
 abbrev pub behind : ℕ → ℕ → ℕ
 behind count i = if i + 1 == count then 0 else i + 1
 
--- the cells are linked in a ring: each names the one behind it, the last one the first, and is named by that as the one
--- before it
+-- the cells are linked in a ring. Each names the cell after it, and the last one names the first. Each is named by the
+-- cell after it as the one before
 abbrev pub IsRing : List SecurityCell → Type 0
 IsRing all = (i : ℕ) (s t : SecurityCell) → slice_get all i ≡ Some s → slice_get all (behind (length all) i) ≡ Some t → (s.next ≡ t.at) × (t.previous ≡ s.at)
 
--- the security cells of a tree: no two have one descriptor, they form one ring, and each counts the keys that have its
--- descriptor, of which there are some
+-- the security cells of a tree. No two have one descriptor, and they form one ring. Each counts the keys that have its
+-- descriptor, which are one or more
 pub record AreSecurities (cells : Cells) (tree : TreeMap) (all : List SecurityCell) : Type 0 where
   pub held : AllByRecursion (λ (s : SecurityCell). CellHolds cells s.at (security_bytes s.next s.previous s.count s.descriptor)) all
   pub apart : Once (map (λ (s : SecurityCell). s.descriptor) all)
   pub ring : IsRing all
   pub counts : AllByRecursion (λ (s : SecurityCell). (0 < s.count) × (s.count ≡ keys_with s.descriptor (finite.entries tree))) all
 
--- the offset of the cell that has a descriptor; that of none for an empty one
+-- the offset of the cell that has a descriptor; the offset of none for an empty descriptor
 abbrev pub IsNamed : List SecurityCell → List ℕ → ℕ → Type 0
 IsNamed all descriptor at = ((descriptor ≡ []) × (at ≡ nil_offset)) ⊎ ((s : SecurityCell) × IsIn s all × (s.descriptor ≡ descriptor) × (s.at ≡ at))
 
 -- ---- the whole
 
--- the data of an image are written so, for a tree: its security cells, and each key that the root leads to, which has no
--- parent itself
+-- the data of an image are written so, for a tree: its security cells, and each key that the root leads to, which has
+-- no parent itself
 pub record IsFormed (bytes : List ℕ) (root : ℕ) (tree : TreeMap) : Type 0 where
   pub cells : Cells
   pub shows : Shows bytes cells

@@ -1,4 +1,5 @@
--- What a tree takes of an image's free cell at most, in bytes: a sum over its keys, and one over its distinct descriptors.
+-- What a tree takes of an image's free cell at most, in bytes: a sum over its keys, and one over its distinct
+-- descriptors.
 use Rattle.std.specs.Prelude.{ℕ, ◌+◌, ◌*◌, ◌/◌, List, [], ◌∷◌, length, sum_by}
 use Rattle.reg_tree_parts.specs.Rows.{Row}
 use Rattle.reg_tree_parts.specs.Nodes.{Entries, subkeys_of}
@@ -7,7 +8,7 @@ use Rattle.hive_emit.specs.CellWrites.{cell_cost}
 use Rattle.hive_emit.specs.CellCosts.{values_cost, subkeys_cost}
 use Rattle.hive_emit.specs.declared.security.SecurityEntry.{SecurityEntry}
 
--- a class: none where it is empty
+-- a class: none if it is empty
 abbrev pub class_cost : ℕ → ℕ
 class_cost len = 16 * ((len + 7) / 8)
 
@@ -15,7 +16,7 @@ class_cost len = 16 * ((len + 7) / 8)
 unfoldable pub row_cost : Row → ℕ
 row_cost row = cell_cost (76 + length (name_bytes row.name)) + class_cost (length row.class) + values_cost row.values
 
--- what a key has beside its record: class, values, and the list of so many subkeys
+-- what a key has beside its record: class, values, and the list of a number of subkeys
 abbrev pub own_cost : Row → ℕ → ℕ
 own_cost row subkey_list = class_cost (length row.class) + values_cost row.values + subkeys_cost subkey_list
 

@@ -8,7 +8,7 @@ use Rattle.hive_records.specs.Fields.{CellHolds}
 use Rattle.hive_records.specs.ListEncodings.{Subkey, plain_leaf, hashed_leaf, indirect, cell_offsets, AreOffsets}
 use Rattle.hive_emit.specs.CellWrites.{Adds, Lists}
 
--- the text of a leaf: offsets alone, or with hashes
+-- the bytes of a leaf: offsets alone, or with hashes
 abbrev pub leaf_bytes : Bool → List Subkey → List ℕ
 leaf_bytes true subkey_list = plain_leaf (cell_offsets subkey_list)
 leaf_bytes false subkey_list = hashed_leaf subkey_list
@@ -41,7 +41,7 @@ pub record HasLeaf (list : ℕ) (plain : Bool) (subkey_list : List Subkey) (own 
   pub is : IsLeaf plain cells (record { at = list; subkey_list = subkey_list })
   pub its_own : own ≡ list ∷ []
 
--- more have leaves in turn, and a list of these
+-- more subkeys have leaves one after another, and a list of these
 pub record HasLeaves (list : ℕ) (plain : Bool) (subkey_list : List Subkey) (own : List ℕ) (cells : Cells) : Type 0 where
   pub many : 500 < length subkey_list
   pub leaves : List SubkeyLeaf
@@ -52,7 +52,7 @@ pub record HasLeaves (list : ℕ) (plain : Bool) (subkey_list : List Subkey) (ow
   pub count : length leaves < 2 ^ 16
   pub near : AreOffsets (leaf_offsets leaves)
 
--- none have no list, and its offset is that of none
+-- no subkeys have no list, and its offset is the offset of none
 pub record HasNone (list : ℕ) (subkey_list : List Subkey) (own : List ℕ) : Type 0 where
   pub none : subkey_list ≡ []
   pub without : list ≡ nil_offset
@@ -61,7 +61,7 @@ pub record HasNone (list : ℕ) (subkey_list : List Subkey) (own : List ℕ) : T
 abbrev pub IsListed : ℕ → Bool → List Subkey → List ℕ → Cells → Type 0
 IsListed list plain subkey_list own cells = HasNone list subkey_list own ⊎ (HasLeaf list plain subkey_list own cells ⊎ HasLeaves list plain subkey_list own cells)
 
--- leaves are written one after another, at places
+-- leaves are written one after another, at offsets
 pub record ListedLeaves (plain : Bool) (offsets : List ℕ) (subkey_list : List Subkey) (before after : Cells) : Type 0 where
   pub leaves : List SubkeyLeaf
   pub listed : Lists (IsLeaf plain) leaf_own leaves before after

@@ -23,7 +23,7 @@ IsSegment cells s = CellHolds cells s.at s.encoding
 abbrev pub segment_own : Segment → List ℕ
 segment_own s = s.at ∷ []
 
--- data lie in segments at places, of which something holds beside
+-- data lie in segments at offsets, of which something holds beside
 pub record InSegments (Full : List Segment → Type 0) (cell_offsets encoding : List ℕ) (before after : Cells) : Type 0 where
   pub segments : List Segment
   pub listed : Lists IsSegment segment_own segments before after
@@ -65,8 +65,8 @@ pub record ValueAt (at : ℕ) (value : Value) (before after : Cells) : Type 0 wh
   pub is : IsWritten true after (record { at = at; own = own; value = value })
   pub adds : Adds before after own
 
--- a value that can be put: it can be written, where its type is a number of 32 bits, and its data have so many segments as
--- a record can count
+-- a value that can be put. It can be written, given that its type is a number of 32 bits. Its data have no more
+-- segments than a record can count
 pub record CanPut (value : Value) : Type 0 where
   pub fits : value.kind < 2 ^ 32 → ValueIsEncodable value
   pub few : length value.«data» < 2 ^ 29
@@ -83,7 +83,7 @@ IsValue cells v = IsWritten true cells v
 abbrev pub value_own : ValueCells → List ℕ
 value_own v = v.own
 
--- values are written one after another, their records at places
+-- values are written one after another, their records at offsets
 pub record ListedValues (cell_offsets : List ℕ) (values : List Value) (before after : Cells) : Type 0 where
   pub written : List ValueCells
   pub listed : Lists IsValue value_own written before after
@@ -99,7 +99,7 @@ pub record HasValues (list : ℕ) (values : ValueMap) (own : List ℕ) (cells : 
   pub held : CellHolds cells list (offsets_bytes (map (λ (v : ValueCells). v.at) written))
   pub its_own : own ≡ list ∷ flat_map value_own written
 
--- none have no list, and its offset is that of none
+-- no subkeys have no list, and its offset is the offset of none
 pub record HasNoValues (list : ℕ) (values : ValueMap) (own : List ℕ) : Type 0 where
   pub none : finite.len values ≡ 0
   pub without : list ≡ nil_offset
@@ -108,7 +108,7 @@ pub record HasNoValues (list : ℕ) (values : ValueMap) (own : List ℕ) : Type 
 abbrev pub AreListedValues : ℕ → ValueMap → List ℕ → Cells → Type 0
 AreListedValues list values own cells = HasNoValues list values own ⊎ HasValues list values own cells
 
--- a key's values are written, and read back from the list at an offset, which hangs on cells that were not there
+-- a key's values are written, and read back from the list at an offset, which depends on cells that were not there
 pub record ValuesAt (list : ℕ) (values : ValueMap) (before after : Cells) : Type 0 where
   pub own : List ℕ
   pub near : list < 2 ^ 32

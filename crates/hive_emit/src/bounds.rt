@@ -7,7 +7,7 @@ const UNIT: usize = 2;
 /// What the longest of a key's subkeys and values have.
 #[derive(Clone, Copy)]
 pub(crate) struct RecordBounds {
-    /// The most bytes of a subkey's name, as if in UTF-16, or 65,535 where it is more.
+    /// The most bytes of a subkey's name, as if in UTF-16, or 65,535 if it is more.
     pub subkey_name: u16,
     /// The most bytes of a subkey's class.
     pub subkey_class: u32,
@@ -45,7 +45,7 @@ pub(crate) fn bounds_of(node: &Node) -> RecordBounds {
     bounds
 }
 
-// raises bounds to those of one subkey
+// raises bounds to the bounds of one subkey
 fn add_subkey(bounds: &mut RecordBounds, key: &Key) {
     let name = key.name().units().len().saturating_mul(UNIT);
     let name = u16::try_from(name).unwrap_or(u16::MAX);

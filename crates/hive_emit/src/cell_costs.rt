@@ -1,5 +1,5 @@
-//! What writing takes of an image's free cell at most, reckoned before it is written: so an image is made as long as it has to
-//! be, at once.
+//! What writing takes of an image's free cell at most, reckoned before it is written. So an image is made at once as
+//! long as it has to be.
 ghost use Rattle.std.specs.Prelude.{◌≡◌, ◌<◌, ◌^◌, length};
 ghost use Rattle.hive_emit.specs.CellWrites.{cell_cost};
 ghost use Rattle.hive_emit.specs.Values.{CanPut, CanPutAll};

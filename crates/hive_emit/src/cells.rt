@@ -12,7 +12,7 @@ const _: () = prove!(NIL == 0xffff_ffff);
 
 /// A new cell with room for data of a length.
 ///
-/// Refused with `NoMemory`, and else only where the image has no free cell that is as long, or has several.
+/// Refused with `NoMemory`. Refused otherwise only if the image has no free cell that is long enough, or has several.
 pub fn new_cell(image: &mut Image, len: usize) -> Result<u32, Refusal>
     ensures { MatchResult result
         (λ at. Makes image.old.bytes image.new.bytes (Opens at len)
@@ -29,7 +29,7 @@ pub fn new_cell(image: &mut Image, len: usize) -> Result<u32, Refusal>
     }
 }
 
-/// Fills a text into a cell that is there and long enough for it.
+/// Fills bytes into a cell that is there and long enough for them.
 pub fn fill(image: &mut Image, at: u32, encoding: &[u8])
     requires { IsLongCell image.old.bytes at (length encoding.now) }
     ensures { Fills image.old.bytes image.new.bytes at encoding.now }
@@ -40,9 +40,9 @@ pub fn fill(image: &mut Image, at: u32, encoding: &[u8])
     }
 }
 
-/// Puts a text into a new cell with room for data of a length, which is at least that of the text.
+/// Puts bytes into a new cell with room for data of a length, which is at least the number of the bytes.
 ///
-/// Refused with `NoMemory`, and else only where the image has no free cell that is as long, or has several.
+/// Refused with `NoMemory`. Refused otherwise only if the image has no free cell that is long enough, or has several.
 pub fn put_cell(image: &mut Image, encoding: &[u8], len: usize) -> Result<u32, Refusal>
     requires { length encoding.now ≤ len }
     ensures { MatchResult result

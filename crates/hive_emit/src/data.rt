@@ -76,7 +76,7 @@ fn put_big(
     }
 }
 
-/// Puts data that don't lie in their record: into one cell, or into segments where they are longer than one segment.
+/// Puts data that don't lie in their record: into one cell, or into segments if they are longer than one segment.
 pub(crate) fn put_data(
     alloc: Global,
     image: &mut Image,

@@ -16,7 +16,7 @@ use refusals::limits::{MOST_BINS_BYTES, MOST_WEIGHT};
 use reg_tree::Tree;
 use std::alloc::Global;
 
-/// An image that stands for a tree, and where its root is.
+/// An image that encodes a tree, and where its root is.
 #[derive(Drop)]
 pub struct Emitted {
     /// The image.
@@ -34,7 +34,7 @@ const HEADERS: usize = 36;
 // bytes that are never taken of the free cell, so that each cell gets the size that was reckoned
 const SPARED: usize = 8;
 
-// an image of at least a size, of one bin with one free cell, in which so many bytes can be taken
+// an image of at least a size, of one bin with one free cell, in which `needed` bytes can be taken
 fn room(alloc: Global, needed: usize, least_size: u32) -> Result<Image, Refusal>
     requires needed { needed + 4_096 ≤ MOST_BINS_BYTES }
     requires size { least_size ≤ MOST_BINS_BYTES }
@@ -58,14 +58,15 @@ fn room(alloc: Global, needed: usize, least_size: u32) -> Result<Image, Refusal>
     }
 }
 
-/// A new image for a tree, of at least a size in bytes and at least a page of 4,096: one bin, as long as it has to be.
+/// A new image for a tree, of at least a size in bytes and at least a page of 4,096. It has one bin, as long as it has
+/// to be.
 ///
-/// It is written in the form that other tools expect: values and subkeys in the order of their names, lists of subkeys with
-/// hashes but where a name is past ASCII, in leaves of at most 500, and one security cell for each distinct descriptor, in a
-/// ring, with the count of the keys that have it.
+/// It is written in the form that other tools expect. Values and subkeys are in the order of their names. Lists of
+/// subkeys have hashes unless a name is past ASCII, in leaves of at most 500. There is one security cell for each
+/// distinct descriptor, in a ring, with the count of the keys that have it.
 ///
-/// Refused with `TooLarge` exactly where the tree is over the weight or the least size over the limit of bins data, and else
-/// with `NoMemory` alone.
+/// Refused with `TooLarge` exactly if the tree is over the weight or the least size is over the limit of bins data.
+/// Otherwise refused with `NoMemory` alone.
 pub fn emit(alloc: Global, tree: &Tree, least_size: u32) -> Result<Emitted, Refusal>
     ensures stands { IfOk result (λ emitted. (minor : ℕ) → 4 ≤ minor →
         BinsEncodeTree emitted.image.bytes emitted.root minor tree.now) }

@@ -43,7 +43,7 @@ fn is_past_ascii(name: &[u16]) -> bool
     name.iter().any(|unit| LAST_ASCII < *unit)
 }
 
-// whether the list of a key's subkeys has no hashes: where any of their names has a unit past ASCII
+// whether the list of a key's subkeys has no hashes: if any of their names has a unit past ASCII
 fn is_plain(node: &Node) -> bool
     ensures { result ≡ any_past_ascii (subkeys_of node.now) }
 {
@@ -58,7 +58,7 @@ fn is_plain(node: &Node) -> bool
     false
 }
 
-// puts a class; answers its cell, or the offset of none where it is empty
+// puts a class; answers its cell, or the offset of none if it is empty
 fn put_class(image: &mut Image, class: &[u8]) -> Result<u32, Refusal>
     ensures made { IfOk result (λ at. Makes image.old.bytes image.new.bytes (ClassAt at class.now)) }
     ensures uses { OnOk result (Uses image.old.bytes image.new.bytes (class_cost
@@ -217,7 +217,8 @@ fn put_subkeys(
 
 /// Puts a key and all keys below it; answers the cell of its record.
 ///
-/// Refused with `NoMemory`, and else only where the image has no free cell with room for all of it, or has several.
+/// Refused with `NoMemory`. Refused otherwise only if the image has no free cell with room for all of it, or has
+/// several.
 #[cycle(puts)]
 pub(crate) fn put_key(
     alloc: Global,

@@ -1,7 +1,7 @@
 //! A registry tree is written as a new image of hive bins data.
 //!
-//! First a security cell is put for each distinct descriptor; then the keys, each behind its subkeys, into cells that were not
-//! there. A key's own record has its cell ahead of its subkeys, which name it as their parent.
+//! First a security cell is put for each distinct descriptor. Then the keys are put, each after its subkeys, into cells
+//! that were not there. The cell of a key's own record comes ahead of its subkeys, which name it as their parent.
 #![tactic(auto)]
 
 mod bounds;

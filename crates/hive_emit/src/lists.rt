@@ -1,4 +1,4 @@
-//! Lists of a key's subkeys: leaves of at most 500, and a list of leaves where there is more than one.
+//! Lists of a key's subkeys: leaves of at most 500, and a list of leaves if there is more than one.
 ghost use Rattle.std.specs.Prelude.{◌≡◌, ◌<◌, ◌≤◌, ◌+◌, ◌++◌, ◌^◌, ◌*◌, true, false, length, drop, IfOk, IfErr, OnOk};
 ghost use Rattle.reg_tree_parts.specs.Nodes.{subkeys_of};
 ghost use Rattle.hive_records.specs.ListEncodings.{hashed_leaf};
@@ -18,7 +18,7 @@ pub const LEAF_MOST: usize = 500;
 
 const _: () = prove!(LEAF_MOST == 500);
 
-// puts the text of a leaf with hashes, for subkeys from one on, which have these cells
+// puts the bytes of a leaf with hashes, for subkeys from one on, which have these cells
 fn put_hashes(
     encoding: &mut Vec<u8>,
     node: &Node,
@@ -41,7 +41,7 @@ fn put_hashes(
     Ok(())
 }
 
-// puts the text of a leaf for subkeys from one on, which have these cells
+// puts the bytes of a leaf for subkeys from one on, which have these cells
 fn put_leaf_bytes(
     encoding: &mut Vec<u8>,
     node: &Node,
@@ -120,10 +120,11 @@ fn put_leaves(
     Ok(leaves)
 }
 
-/// Puts the list of a key's subkeys, which have these cells: a leaf of at most 500, or leaves and a list of them. Answers
-/// its cell, or the offset of none where there are no subkeys.
+/// Puts the list of a key's subkeys, which have these cells: a leaf of at most 500, or leaves and a list of them.
+/// Answers its cell, or the offset of none if there are no subkeys.
 ///
-/// Refused with `NoMemory`, and else only where the image has no free cell with room for all of it, or has several.
+/// Refused with `NoMemory`. Refused otherwise only if the image has no free cell with room for all of it, or has
+/// several.
 pub fn put_subkey_list(
     alloc: Global,
     image: &mut Image,

@@ -25,13 +25,13 @@ pub(crate) struct SecurityEntry {
     pub count: u32,
     /// Where its cell is.
     pub at: u32,
-    /// Where the cell behind it in the ring is.
+    /// Where the cell after it in the ring is.
     pub next: u32,
     /// Where the cell ahead of it is.
     pub previous: u32,
 }
 
-/// The security cells of a tree, with the place of each by its descriptor.
+/// The security cells of a tree, with the index of each by its descriptor.
 ///
 /// Contracts see them as the list of their cells.
 #[derive(Drop)]
@@ -63,7 +63,7 @@ impl SecurityTable {
         }
     }
 
-    // whether a descriptor is kept at a place
+    // whether a descriptor is kept at an index
     fn is_at(&self, place: usize, descriptor: &[u8]) -> bool
         ensures yes { IsTrue result → HasDescriptorAt self.now place descriptor.now }
         ensures no { HasDescriptorAt self.now place descriptor.now → IsTrue result }
@@ -71,7 +71,7 @@ impl SecurityTable {
         place < self.cells.len() && self.cells[place].descriptor.bytes() == descriptor
     }
 
-    // the place where a descriptor is kept
+    // the index at which a descriptor is kept
     fn place(&self, descriptor: &[u8]) -> Option<usize>
         ensures kept { IfSome result (λ place. HasDescriptorAt self.now place descriptor.now) }
         ensures none { IfNone result (Has self.now descriptor.now → ⊥) }
@@ -86,7 +86,7 @@ impl SecurityTable {
         }
     }
 
-    // counts a key with a descriptor that is kept at a place
+    // counts a key with a descriptor that is kept at an index
     fn count_again(&mut self, place: usize)
         requires { place < length self.old }
         ensures keeps { Keeps self.old self.new }
@@ -188,7 +188,7 @@ impl SecurityTable {
         Ok(())
     }
 
-    /// The offset of the cell of a descriptor that was counted and put; that of none for an empty one.
+    /// The offset of the cell of a descriptor that was counted and put; the offset of none for an empty descriptor.
     pub(crate) fn offset(&self, descriptor: &[u8]) -> u32
         requires { (descriptor.now ≡ []) ⊎ Has self.now descriptor.now }
         ensures { IsOffsetOf self.now descriptor.now result }
@@ -214,8 +214,8 @@ impl SecurityTable {
         sum
     }
 
-    /// Puts the cells one behind the other, each linked with those ahead of and behind it in a ring. The links are right
-    /// where the image is new and has room for all cells in its first bin; they are not read.
+    /// Puts the cells one after the other, each linked in a ring with the cells before and after it. The links are
+    /// right if the image is new and has room for all cells in its first bin. They are not read.
     pub(crate) fn put(&mut self, image: &mut Image, encoding: &mut Vec<u8>) -> Result<(), Refusal>
         requires short { AreShort self.old }
         requires fits { securities_cost self.old < 2 ^ 31 }
@@ -257,7 +257,7 @@ impl SecurityTable {
         Ok(())
     }
 
-    // where the last cell is to be
+    // the offset that the last cell is to have
     fn last_at(&self) -> u32
         requires { securities_cost self.now < 2 ^ 31 }
         ensures { 0 < length self.now → result ≡ planned_offset self.now (length self.now - 1) }
@@ -270,7 +270,8 @@ impl SecurityTable {
         }
     }
 
-    // where the cell behind the one at an index is to be, from where that is; the first one is behind the last
+    // the offset of the cell after the one at an index, from the offset of that cell; the first cell comes after the
+    // last
     fn next_at(&self, index: usize, at: u32) -> u32
         requires { securities_cost self.now < 2 ^ 31 }
         ensures { index < length self.now → at ≡ planned_offset self.now index →

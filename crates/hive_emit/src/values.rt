@@ -110,9 +110,10 @@ fn put_each(
     Ok(cell_offsets)
 }
 
-/// Puts values, and the list of them; answers the list's cell, or the offset of none where there are no values.
+/// Puts values, and the list of them; answers the list's cell, or the offset of none if there are no values.
 ///
-/// Refused with `NoMemory`, and else only where the image has no free cell with room for all of it, or has several.
+/// Refused with `NoMemory`. Refused otherwise only if the image has no free cell with room for all of it, or has
+/// several.
 pub fn put_values(
     alloc: Global,
     image: &mut Image,

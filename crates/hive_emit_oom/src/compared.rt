@@ -30,7 +30,8 @@ fn is_same_key(one: &Key, other: &Key) -> bool {
         && are_same_values(one, other)
 }
 
-/// Whether two keys are the same with all that is below them, on so many levels; on further ones they are taken as different.
+/// Whether two keys are the same with all that is below them, on this many levels; on further ones they are taken as
+/// different.
 pub fn is_same(one: &Node, other: &Node, levels: usize) -> bool {
     let count = one.subkey_count();
     if !is_same_key(one.key(), other.key()) || other.subkey_count() != count {

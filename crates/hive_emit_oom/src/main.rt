@@ -1,12 +1,12 @@
 //! Makes images of a tree, for runs in which memory is refused, and for measuring.
 //!
-//! With nothing on standard input: `tools/failalloc each` runs it once for each allocation, which is refused. An image that is refused
-//! has to answer want of memory and nothing else, and the next one, of the same tree, has to stand for it as if nothing had been
-//! refused. The status is 0 where nothing was refused and both images stand for the tree, 1 where memory was refused and
-//! what came all the same stands for it, and 2 where a wrong answer was given.
+//! With nothing on standard input: `tools/failalloc each` runs it once for each allocation, which is refused. An image
+//! that is refused has to answer want of memory and nothing else. The next one, of the same tree, has to encode it as
+//! if nothing had been refused. The status is 0 if nothing was refused and both images encode the tree. It is 1 if
+//! memory was refused and what came all the same encodes it, and 2 if a wrong answer was given.
 //!
-//! With a number on the first line of standard input: the processor time of making an image of a tree of so many keys, each
-//! with a value of 16 bytes, in microseconds, and the image's bytes.
+//! With a number on the first line of standard input: the processor time of making an image of a tree with that number
+//! of keys, each with a value of 16 bytes, in microseconds, and the image's bytes.
 #![tactic(auto)]
 
 mod compared;
@@ -25,7 +25,7 @@ use std::process::ExitCode;
 use std::time::CpuClock;
 use test_support::Fault;
 
-/// What came of making an image.
+/// The result of making an image.
 #[derive(Clone, Copy, PartialEq, Eq)]
 enum Made {
     Right,
@@ -33,7 +33,7 @@ enum Made {
     Wrong,
 }
 
-// whether the image of a tree stands for it
+// whether the image of a tree encodes it
 fn is_right(alloc: Global, tree: &Tree) -> Result<bool, Refusal> {
     let emitted = emit(alloc, tree, 0)?;
     let again = load(alloc, &emitted.image, emitted.root, 5, &mut Looks::new())?;
@@ -72,7 +72,7 @@ fn asked<R: Input + AllocGlobal>(rt: &R) -> Result<Option<usize>, Fault> {
     Ok(None)
 }
 
-// makes the image of a tree of so many keys, and prints how long it took and how long it is
+// makes the image of a tree with this many keys, and prints how long it took and how long it is
 fn timed<R: Print + AllocGlobal + CpuClock>(rt: &R, keys: usize) -> Result<(), Fault> {
     let alloc = rt.alloc();
     let tree = flat(alloc, keys)?;

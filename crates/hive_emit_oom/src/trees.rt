@@ -1,4 +1,4 @@
-//! The trees of which images are made.
+//! The trees whose images are made.
 use hive_emit_tests::trees::{create, many, numbered, set, tree_after};
 use refusals::Refusal;
 use reg_tree::Tree;
@@ -16,7 +16,7 @@ pub fn small(alloc: Global) -> Result<Tree, Refusal> {
     tree_after(alloc, &ops)
 }
 
-/// So many keys below the root, each with a value of 16 bytes.
+/// This many keys below the root, each with a value of 16 bytes.
 pub fn flat(alloc: Global, keys: usize) -> Result<Tree, Refusal> {
     let mut ops = many(alloc, keys)?;
     for number in 0..keys {

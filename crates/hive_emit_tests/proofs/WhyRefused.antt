@@ -1,4 +1,4 @@
--- Why an image that stands for a tree within the limits is refused, if it is.
+-- Why an image that encodes a tree within the limits is refused, if it is.
 use Rattle.std.proofs.Common.{◌≡◌, ◌≢◌, inl, inr, ℕ, List}
 use Rattle.refusals.specs.declared.refusal.Refusal.{Refusal}
 use Rattle.refusals.specs.declared.refusal.Refusal.TheVariants as refusal

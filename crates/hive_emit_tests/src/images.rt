@@ -6,7 +6,7 @@ use refusals::Refusal;
 use std::alloc::Global;
 use std::test::Fail;
 
-// what the image of so many subkeys has as the root's list
+// what the image with this many subkeys has as the root's list
 fn list_for(alloc: Global, count: usize) -> Result<Head, Refusal> {
     let emitted = image_of(alloc, &many(alloc, count)?)?;
     list_of(&emitted)
@@ -37,7 +37,7 @@ fn leaves_are_full_but_the_last(rt: HostRuntime) -> Result<(), Fail> {
     Ok(())
 }
 
-// the size field of the root's one value of so many bytes, and whether its cell's data begin with `db`
+// the size field of the root's one value of this many bytes, and whether its cell's data begin with `db`
 fn value_for(alloc: Global, len: usize) -> Result<(u32, bool), Refusal> {
     let mut ops = Vec::new(alloc);
     ops.push(set(alloc, b"", b"v", len)?)?;

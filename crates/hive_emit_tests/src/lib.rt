@@ -1,5 +1,5 @@
-//! Images that are made of trees: a law, that each is loaded as the same tree; and tests of what lies where, read by the
-//! readers of single records, with expected values from the format's rules.
+//! Images that are made of trees. A law says that each is loaded as the same tree. Tests say what lies where, read by
+//! the readers of single records, with expected values from the format's rules.
 #![tactic(auto)]
 
 mod again;

@@ -40,7 +40,7 @@ pub fn list_of(emitted: &Emitted) -> Result<Head, Refusal> {
     head(data(emitted, root(emitted)?.subkeys)?)
 }
 
-// the cell that the root's list names at an index, whose elements have so many bytes
+// the cell that the root's list names at an index, whose elements have this many bytes
 fn named_at(emitted: &Emitted, index: usize) -> Result<u32, Refusal> {
     let list = SubkeyList::read(data(emitted, root(emitted)?.subkeys)?)?;
     Ok(number(list.elements, index.saturating_mul(list.stride)))

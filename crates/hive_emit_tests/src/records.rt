@@ -1,4 +1,5 @@
-//! Records of trees that no operation makes: lists of names past ASCII, upper bounds, classes, and rings of security cells.
+//! Records of trees that no operation makes: lists of names past ASCII, upper bounds, classes, and rings of security
+//! cells.
 use crate::reading::{Head, data, list_of, number, root, subkey_data};
 use crate::spelled::{emitted_of, key_record};
 use hive_emit::Emitted;
@@ -6,7 +7,7 @@ use refusals::Refusal;
 use std::alloc::Global;
 use std::test::Fail;
 
-// the root's list where the middle subkey has a name
+// the root's list if the middle subkey has a name
 fn list_with(alloc: Global, latin: bool, name: &[u8]) -> Result<Head, Refusal> {
     list_of(&emitted_of(alloc, &key_record(alloc, latin, name, 8, 0)?)?)
 }
@@ -27,13 +28,13 @@ fn name_at(emitted: &Emitted, index: usize) -> Result<(u32, u32, u32), Refusal> 
     Ok((flags, number(record, 72) % 0x1_0000, number(record, 76)))
 }
 
-// those of the middle subkey, which is the second in the order of names too
+// the same of the middle subkey, which is the second in the order of names too
 fn name_with(alloc: Global, latin: bool, name: &[u8]) -> Result<(u32, u32, u32), Refusal> {
     let emitted = emitted_of(alloc, &key_record(alloc, latin, name, 8, 0)?)?;
     name_at(&emitted, 1)
 }
 
-// a name whose units are below 0x100 is stored in Latin-1, also where the hive that it came from had it in UTF-16
+// a name whose units are below 0x100 is stored in Latin-1, also if the hive that it came from had it in UTF-16
 #[test]
 fn names_are_latin_where_they_can_be(rt: HostRuntime) -> Result<(), Fail> {
     let alloc = rt.alloc();
@@ -49,7 +50,8 @@ fn names_are_latin_where_they_can_be(rt: HostRuntime) -> Result<(), Fail> {
     Ok(())
 }
 
-// the bytes 52 to 67 of the root's record, where the middle subkey has a name of three letters and a class of so many bytes
+// the bytes 52 to 67 of the root's record, if the middle subkey has a name of three letters and a class of this many
+// bytes
 fn bounds_with(alloc: Global, class: u8) -> Result<[u32; 4], Refusal> {
     let emitted = emitted_of(alloc, &key_record(alloc, true, b"mmm", 8, class)?)?;
     let record = data(&emitted, emitted.root)?;
@@ -81,7 +83,7 @@ fn class_of(alloc: Global, class: u8) -> Result<(bool, u32), Refusal> {
     Ok((true, number(data(&emitted, at)?, 0)))
 }
 
-// behind a length of 0 there is no cell
+// beside a length of 0 there is no cell
 #[test]
 fn classes_lie_in_cells_of_their_own(rt: HostRuntime) -> Result<(), Fail> {
     let alloc = rt.alloc();
@@ -93,8 +95,8 @@ fn classes_lie_in_cells_of_their_own(rt: HostRuntime) -> Result<(), Fail> {
     Ok(())
 }
 
-// what the security cells say that the ring leads to from the root's one on: how many keys name each, and the first four bytes of
-// its descriptor; nothing where a link back doesn't lead to where the one ahead came from
+// what the security cells say to which the ring leads from the root's one on: how many keys name each, and the first
+// four bytes of its descriptor; nothing if a link back doesn't lead to where the one ahead came from
 fn ring(alloc: Global, emitted: &Emitted) -> Result<Vec<(u32, u32)>, Refusal> {
     let first = root(emitted)?.security;
     let mut met = Vec::new(alloc);
@@ -114,7 +116,7 @@ fn ring(alloc: Global, emitted: &Emitted) -> Result<Vec<(u32, u32)>, Refusal> {
     Ok(met)
 }
 
-// that of the hive whose middle subkey has a security cell
+// the ring of the hive whose middle subkey has a security cell
 fn ring_with(alloc: Global, security: usize) -> Result<Vec<(u32, u32)>, Refusal> {
     let emitted = emitted_of(alloc, &key_record(alloc, true, b"m", security, 0)?)?;
     ring(alloc, &emitted)

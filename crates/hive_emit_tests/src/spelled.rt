@@ -1,4 +1,5 @@
-//! Trees that no operation makes, loaded from hives that are spelled by hand: names past ASCII, classes, several descriptors.
+//! Trees that no operation makes, loaded from hives that are written by hand: names past ASCII, classes, several
+//! descriptors.
 use hive_cells::{Image, Looks};
 use hive_emit::{Emitted, emit};
 use hive_load::load;
@@ -7,8 +8,8 @@ use refusals::Refusal;
 use reg_tree::Tree;
 use std::alloc::{AllocError, Global};
 
-/// The cells of a root with three subkeys, of which the test says the middle one's record: names of one and of two letters, values
-/// of both lengths, and three descriptors, the first of them on two keys.
+/// The cells of a root with three subkeys; the test says the middle one's record. They have names of one and of two
+/// letters, values of both lengths, and three descriptors, the first of them on two keys.
 pub const CELLS: [Says; 13] = [
     Says::Key(b"R", (3, 1), (2, 5), 7),
     Says::List(b"li", 4, &[3, 2, 4]),
@@ -25,8 +26,8 @@ pub const CELLS: [Says; 13] = [
     Says::Bytes(b"a class."),
 ];
 
-/// The record of a key of a name, with the flag of Latin-1 or without, a security cell, and a class of so many bytes in the cell
-/// behind the others.
+/// The record of a key of a name, with the flag of Latin-1 or without, a security cell, and a class of this many bytes
+/// in the cell after the others.
 pub fn key_record(
     alloc: Global,
     latin: bool,

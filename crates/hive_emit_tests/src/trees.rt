@@ -21,7 +21,7 @@ pub fn create(alloc: Global, at: &[u8]) -> Result<Op, Refusal> {
     Ok(Op::CreateKey { hive: 0, path })
 }
 
-/// Writes a value of a key, of so many bytes 0x5a. The root's text is empty.
+/// Writes a value of a key, of this many bytes 0x5a. The root's text is empty.
 pub fn set(alloc: Global, at: &[u8], name: &[u8], len: usize) -> Result<Op, Refusal> {
     let path = Path::parse(alloc, &units(alloc, at)?)?;
     let name = Name::value(alloc, &units(alloc, name)?)?;
@@ -47,7 +47,7 @@ pub fn numbered(number: usize) -> [u8; 4] {
     name
 }
 
-/// Creates so many keys below the root.
+/// Creates this many keys below the root.
 pub fn many(alloc: Global, count: usize) -> Result<Vec<Op>, Refusal> {
     let mut ops = Vec::new(alloc);
     for number in 0..count {

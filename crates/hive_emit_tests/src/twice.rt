@@ -6,7 +6,8 @@ use refusals::Refusal;
 use std::alloc::Global;
 use std::test::Fail;
 
-// whether the image of the tree of the hive whose middle subkey has a name is, byte for byte, that of the tree loaded from it
+// whether the image of the tree of the hive whose middle subkey has a name is, byte for byte, the image of the tree
+// loaded from it
 fn is_same_twice(alloc: Global, latin: bool, name: &[u8]) -> Result<bool, Refusal> {
     let tree = tree_of(alloc, &key_record(alloc, latin, name, 8, 8)?)?;
     let first = emit(alloc, &tree, 0)?;

@@ -23,13 +23,14 @@ pub some_as : {A : Type 0} {P Q : A → Type 0} (known : Option A) → ((x : A) 
 some_as None f h = tt
 some_as (Some x) f h = f x h
 
--- bytes that were read are the file's first ones, and all of it where no more were there
+-- bytes that were read are the file's first ones, and all of it if no more were there
 pub read_front : (known now : Option (List ℕ)) (head : List ℕ) → Consumes known now head → (length head < 4096 → IsAtEnd now) → IfSome known (IsFilePrefix head)
 read_front None now head read end = tt
 read_front (Some file) None head read end = absurd read
 read_front (Some file) (Some rest) head read end = (rest, read, end)
 
--- the block that was told of each file with a front is that of the file that was read; and the front is a whole base block
+-- the block that was reported of each file with a front is the block of the file that was read; and the front is a
+-- whole base block
 pub read_block : (known now : Option (List ℕ)) (head : List ℕ) (block : BaseBlock) → Consumes known now head → (length head < 4096 → IsAtEnd now) → ((file : List ℕ) → IsFilePrefix head file → FileHasBlock file block × (4096 ≤ length head)) → IfSome known (λ file. FileHasBlock file block)
 read_block known now head block read end told = some_as known (λ file is. (told file is).0) (read_front known now head read end)
 
@@ -44,7 +45,7 @@ head_read known now buffer count block room few read end told =
     let whole : 4096 ≤ length (take count buffer) = read_whole (take count buffer) block told in
     (omega (arith, room, long, whole, few), read_block known now (take count buffer) block read (λ less. end (omega (arith, room, long, less))) told)
 
--- the bins data behind a whole base block
+-- the bins data after a whole base block
 own_bins : (file head rest bins tail : List ℕ) (block : BaseBlock) → file ≡ head ++ rest → length head ≡ 4096 → rest ≡ bins ++ tail → FileHasBlock file block → length bins ≡ block.bins_size → PrimaryDecodesTo file block bins
 own_bins file head rest bins tail block whole long split has size =
     let behind : drop 4096 file ≡ bins ++ tail = ap (drop 4096) whole ∙ drop_at head rest 4096 long ∙ split in
@@ -75,7 +76,7 @@ read_short (Some file) (Some rest) None head bins block a b long size end has = 
 read_short (Some file) (Some rest) (Some tail) head bins block a b long size end has =
     inr (cut_short file block has (omega (arith, ap length a, length-append head rest, ap length b, length-append bins tail, ap (λ (l : List ℕ). length l) end)))
 
--- what the first sector of a file's front tells
+-- what the first sector of a file's front says
 sector_tells : (file front : List ℕ) (block : BaseBlock) → IsFilePrefix front file → 512 ≤ length front → block ≡ block_at (take 512 front) → (block ≡ block_of file) × (512 ≤ length file) × (is_clean_file file ≡ is_clean_block block)
 sector_tells file front block is long read =
     let same : block ≡ block_of file = read ∙ ap block_at (sym (ap (take 512) is.1 ∙ take-append-le 512 front is.0 long)) in

@@ -1,4 +1,4 @@
--- Which tree the bytes of a hive's primary file hold, where they are read without a log, and why they hold none.
+-- Which tree the bytes of a hive's primary file hold, if they are read without a log, and why they hold none.
 use Rattle.std.specs.Prelude.{◌≡◌, ◌≢◌, ℕ, ◌≤◌, ◌<◌, true, false, List, [], ◌++◌, length}
 use Rattle.refusals.specs.declared.refusal.Refusal.{Refusal}
 use Rattle.refusals.specs.declared.refusal.Refusal.TheVariants as refusal
@@ -11,13 +11,14 @@ use Rattle.dirt_log.specs.FileContents.{is_clean_file, PrimaryDecodesTo, Primary
 use Rattle.reg_tree.specs.Maps.{TreeMap}
 use Rattle.hive_load.specs.Limits.{BinsEncodeTreeInLimits, BinsRefused}
 
--- the file is clean, and its base block, which is this, is that of a primary file of the profile
+-- the file is clean, and its base block, which is this, is a block of a primary file of the profile
 pub record FileHasBlock (file : List ℕ) (block : BaseBlock) : Type 0 where
   pub clean : is_clean_file file ≡ true
   pub read : block ≡ block_of file
   pub judged : IsPrimary block
 
--- so it is; the bins data are there, whatever follows them; and they stand for the tree, which is within the limits
+-- the file has this block; the bins data are there, whatever follows them; and they encode the tree, which is within
+-- the limits
 pub record FileHoldsHive (file : List ℕ) (tree : TreeMap) : Type 0 where
   pub block : BaseBlock
   pub bins : List ℕ
@@ -25,7 +26,7 @@ pub record FileHoldsHive (file : List ℕ) (tree : TreeMap) : Type 0 where
   pub own : PrimaryDecodesTo file block bins
   pub tree_is : BinsEncodeTreeInLimits bins block.root block.minor tree
 
--- why a file holds none, by what stands in its bytes
+-- why a file holds none, by what is in its bytes
 pub data FileHoldsNoHive (file : List ℕ) : Refusal → Type 0 where
   -- it has no first sector
   no_sector : length file < 512 → FileHoldsNoHive file (refusal.HiveDamaged 0 cause.Truncated)
@@ -35,9 +36,9 @@ pub data FileHoldsNoHive (file : List ℕ) : Refusal → Type 0 where
   not_clean : 512 ≤ length file → is_clean_block (block_of file) ≡ false → FileHoldsNoHive file (refusal.HiveDamaged 0 cause.NotClean)
   -- it is clean, and its base block is outside the profile, or it ends before its bins data do
   not_usable : (why : Refusal) → is_clean_file file ≡ true → PrimaryFileRefused (block_of file) (length file) why → FileHoldsNoHive file why
-  -- the bins data stand for no tree within the limits, or memory for them was not given
+  -- the bins data encode no tree within the limits, or memory for them was not given
   not_loaded : (why : Refusal) (block : BaseBlock) (bins : List ℕ) → FileHasBlock file block → PrimaryDecodesTo file block bins → BinsRefused bins block.root block.minor why → FileHoldsNoHive file why
 
--- bytes are the first of a file, and all of it where they are fewer than 4,096
+-- bytes are the first of a file, and all of it if they are fewer than 4,096
 abbrev pub IsFilePrefix : List ℕ → List ℕ → Type 0
 IsFilePrefix front file = (rest : List ℕ) × (file ≡ front ++ rest) × (length front < 4096 → rest ≡ [])

@@ -6,25 +6,25 @@ use Rattle.hive_file_reader.specs.Hives.{FileHoldsNoHive}
 use Rattle.hive_file_reader.specs.declared.hive.ReadError.{ReadError}
 use Rattle.hive_file_reader.specs.declared.hive.ReadError.TheVariants as unread
 
--- a refusal, told as that of the hive of this number: damage goes on with the number, any other refusal names no hive
+-- a refusal, reported of the hive of this number: damage gets the number, any other refusal names no hive
 abbrev pub of_hive : ℕ → Refusal → Refusal
 of_hive hive (refusal.HiveDamaged _ cause) = refusal.HiveDamaged hive cause
 of_hive hive why = why
 
--- why a file is refused, told as that of hive 0: memory was not given, or it holds no hive
+-- why a file is refused, reported of hive 0: memory was not given, or it holds no hive
 abbrev pub FileRefused : List ℕ → Refusal → Type 0
 FileRefused file why = (why ≡ refusal.NoMemory) ⊎ FileHoldsNoHive file why
 
--- so it is refused, told as that of the hive of this number
+-- why a file is refused, reported of the hive of this number
 abbrev pub FileRefusedAs : ℕ → List ℕ → Refusal → Type 0
 FileRefusedAs hive file why = (plain : Refusal) × FileRefused file plain × (why ≡ of_hive hive plain)
 
--- a refusal is one of the file's, where its bytes are known
+-- a refusal is one of the file's, if its bytes are known
 abbrev pub RefusalFitsFile : Option (List ℕ) → ReadError → Type 0
 RefusalFitsFile known (unread.Refused why) = IfSome known (λ file. FileRefused file why)
 RefusalFitsFile known unread.SourceFailed = Unit {0}
 
--- so it is, told as that of the hive of this number
+-- a refusal is one of the file's, if its bytes are known, reported of the hive of this number
 abbrev pub RefusalFitsFileAs : ℕ → Option (List ℕ) → ReadError → Type 0
 RefusalFitsFileAs hive known (unread.Refused why) = IfSome known (λ file. FileRefusedAs hive file why)
 RefusalFitsFileAs hive known unread.SourceFailed = Unit {0}

@@ -35,7 +35,7 @@ pub(crate) fn fill<R: Read>(reader: &mut R, buffer: &mut [u8]) -> io::Result<usi
     Err(io::Error::from(ErrorKind::Interrupted))
 }
 
-/// So many bytes as are asked for, or all that are left where those are fewer. Room is made a piece at a time.
+/// As many bytes as are asked for, or all that are left if they are fewer. Room is made a chunk at a time.
 pub(crate) fn read_part<R: Read>(alloc: Global, reader: &mut R, size: usize) -> io::Result<Vec<u8>>
     ensures within { IfOk result (λ part. length part.items ≤ size) }
     ensures bytes { IfOk result (λ part. Consumes (R.remaining reader.old) (R.remaining reader.new)

@@ -7,16 +7,16 @@ ghost use Rattle.hive_file_reader.specs.Hives.{IsFilePrefix, FileHasBlock, FileH
 use base_block::{BaseBlock, Signature};
 use refusals::{Cause, Refusal};
 
-/// The bytes that a base block takes in a file; the bins data begin behind them.
+/// The bytes that a base block takes in a file; the bins data begin after them.
 pub(crate) const HEAD_BYTES: usize = 4_096;
 
 const _: () = prove!(HEAD_BYTES == 4_096);
 
-/// The base block of a file that begins with these bytes, or that is these bytes where they are fewer than 4,096.
+/// The base block of a file that begins with these bytes, or that is these bytes if they are fewer than 4,096.
 ///
-/// Refused with `HiveDamaged` of hive 0 as `Truncated` where there is no first sector or the block's bytes are cut off, as `BadBase`
-/// where the signature isn't `regf`, clean or not, since that is no hive, and as `NotClean` where the sum is wrong or the two numbers
-/// differ; else as [`BaseBlock::judge_primary`] refuses it.
+/// Refused with `HiveDamaged` of hive 0 and a cause. `Truncated` if there is no first sector or the block's bytes are
+/// cut off. `BadBase` if the signature isn't `regf`, clean or not, since that is no hive. `NotClean` if the sum is
+/// wrong or the two numbers differ. Otherwise refused as [`BaseBlock::judge_primary`] refuses it.
 pub(crate) fn judged(head: &[u8]) -> Result<BaseBlock, Refusal>
     ensures { (file : List ℕ) → IsFilePrefix head.now file → MatchResult result
         (λ block. FileHasBlock file block × (4096 ≤ length head.now)) (FileHoldsNoHive file) }

@@ -41,13 +41,15 @@ impl From<Refusal> for ReadError {
     }
 }
 
-/// The tree that a hive's primary file holds, read from where the reader stands: its base block, and as many bytes of bins data
-/// as that says. What follows is left unread. Whoever reads several files gives each its number, which only a refusal tells.
+/// The tree that a hive's primary file holds, read from where the reader is. Its base block is read, and as many bytes
+/// of bins data as that says. What follows is left unread. Whoever reads several files gives each its number, which
+/// only a refusal names.
 ///
-/// Refused with `HiveDamaged` of the hive of this number where the file ends early (`Truncated`), is no hive at all or has a wrong
-/// base block (`BadBase`), isn't clean (`NotClean`), or its bins data don't stand for a tree; with `Unsupported` for a version, a format, a
-/// type or a flag outside the profile; with `TooLarge` for bins data, a tree's weight or a path over the limits; and with
-/// `NoMemory`. A reader that fails is `SourceFailed`.
+/// Refused with `HiveDamaged` of the hive of this number and a cause. `Truncated` if the file ends early. `BadBase` if
+/// it is no hive at all or has a wrong base block. `NotClean` if it isn't clean. Another cause if its bins data encode
+/// no tree. Refused with `Unsupported` for a version, a format, a type or a flag outside the profile. Refused with
+/// `TooLarge` for bins data, a tree's weight or a path over the limits. Refused with `NoMemory`. A reader that fails is
+/// `SourceFailed`.
 pub fn read_hive<R: Read>(alloc: Global, reader: &mut R, hive: u8) -> Result<Tree, ReadError>
     ensures hive { IfOk result (λ tree. IfSome (R.remaining reader.old) (λ file. FileHoldsHive file tree)) }
     ensures unread { IfErr result (RefusalFitsFileAs hive (R.remaining reader.old)) }
@@ -59,7 +61,7 @@ pub fn read_hive<R: Read>(alloc: Global, reader: &mut R, hive: u8) -> Result<Tre
     }
 }
 
-// the tree that a hive's file holds, refused as that of hive 0
+// the tree that a hive's file holds, refused as hive 0
 fn read_tree<R: Read>(alloc: Global, reader: &mut R) -> Result<Tree, ReadError>
     ensures hive { IfOk result (λ tree. IfSome (R.remaining reader.old) (λ file. FileHoldsHive file tree)) }
     ensures unread { IfErr result (RefusalFitsFile (R.remaining reader.old)) }
@@ -78,7 +80,7 @@ fn read_tree<R: Read>(alloc: Global, reader: &mut R) -> Result<Tree, ReadError>
     }
 }
 
-// a refusal, told as that of the hive of this number
+// a refusal, reported of the hive of this number
 fn with_number(why: Refusal, hive: u8) -> Refusal
     ensures { result ≡ of_hive hive why }
 {

@@ -6,8 +6,8 @@ ghost use Rattle.reg_tree.specs.Maps.{TreeMap};
 ghost use Rattle.hive_file_reader.specs.Hives.{FileHoldsHive, FileHoldsNoHive};
 ghost use Rattle.hive_file_reader.specs.Readings.{FileRefusedAs};
 
-/// A file holds at most one tree; one in which a refusal stands, but for want of memory, holds none; and so one that is refused as
-/// a hive of any number.
+/// A file holds at most one tree. A file of which a refusal is true, but for want of memory, holds none. The same goes
+/// for a file that is refused as a hive of any number.
 pub fn one_or_none()
     ensures one { (file : List ℕ) (tree other : TreeMap) → FileHoldsHive file tree → FileHoldsHive file other →
         tree ≡ other }

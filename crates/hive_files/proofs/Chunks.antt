@@ -1,4 +1,4 @@
--- Calls that find what two files hold, counted; and writes, a piece at a time.
+-- Calls that find what two files hold, counted; and writes, a chunk at a time.
 use Rattle.std.proofs.Common.{◌≡◌, inl, inr, ℕ, ◌+◌, ◌≤◌, Bool, cond, true, false, List, length, sym, ap, ◌∙◌, subst, arith}
 use Rattle.std.specs.Prelude.{Result, Ok, Err, OnOk, OnErr}
 use Rattle.std.proofs.lemmas.Bool.{cases_lt, cases_eq}

@@ -20,7 +20,7 @@ use Rattle.hive_files.specs.Frames.{RefusalHasCause}
 use Rattle.hive_files.specs.declared.contents.HiveContents.{HiveContents}
 use Rattle.hive_files.proofs.Frames.{fails_on}
 
--- a refusal of a log, among those of several calls
+-- a refusal of a log, among the refusals of several calls
 pub told_of_log : (F S R : Type 0) (why : Refusal) → (S → R) → RefusedFor not_whole S why → RefusalHasCause F (λ w. (w ≡ not_whole) × R) why
 told_of_log F S R why s by = ⊎_elim (λ not. inr (inr (not.0, s not.1))) (λ none. inl none) by
 
@@ -61,7 +61,7 @@ match_at_true P Q e x = subst (λ (b : Bool). MatchBool b P Q) (sym e) x
 match_at_false : {b : Bool} (P Q : Type 0) → b ≡ false → Q → MatchBool b P Q
 match_at_false P Q e x = subst (λ (b : Bool). MatchBool b P Q) (sym e) x
 
--- what the first sector tells of its file
+-- what the first sector says of its file
 pub sector_tells : (primary sector : List ℕ) (block : BaseBlock) → sector ≡ take 512 primary → block ≡ block_of sector → 512 ≤ length sector
     → (block ≡ block_of primary) × (512 ≤ length primary) × (is_clean_file primary ≡ is_clean_block block)
 sector_tells primary sector block is read long =
@@ -105,7 +105,7 @@ unclean_has_none primary log why unclean told none = record {
   tells = match_at_false _ _ unclean (inl (told, none));
 }
 
--- ---- what is told of a hive
+-- ---- what is reported of a hive
 
 pub told_on : (F G S R : Type 0) (why : Refusal) → (F → G) → (S → R) → RefusalHasCause F (λ w. IsHiveRefusal w × S) why → RefusalHasCause G (λ w. IsHiveRefusal w × R) why
 told_on F G S R why f s by = fails_on F G (λ w. IsHiveRefusal w × S) (λ w. IsHiveRefusal w × R) why f (λ told. (told.0, s told.1)) by

@@ -11,7 +11,7 @@ use Rattle.dirt_log.specs.FileContents.{is_clean_file, PrimaryDecodesTo, LogRepa
 use Rattle.dirt_log.specs.declared.reader.DirtLog.{DirtLog}
 use Rattle.hive_files.specs.declared.contents.HiveContents.{HiveContents}
 
--- a log's block as that of a primary file
+-- a log's block as the block of a primary file
 abbrev pub as_primary : BaseBlock → BaseBlock
 as_primary block = record block { file_type = record { 0 = 0 } }
 
@@ -21,7 +21,7 @@ pub record CleanFileContains (primary : List ℕ) (found : HiveContents) : Type 
   pub judged : IsPrimary found.block
   pub pages : found.pages ≡ clean_pages found.block.bins_size
 
--- bins data of a size are there, behind the base block
+-- bins data of a size are there, after the base block
 pub record HasBinsData (primary : List ℕ) (size : ℕ) (bins : List ℕ) : Type 0 where
   pub long : 4096 + size ≤ length primary
   pub part : bins ≡ take size (drop 4096 primary)
@@ -44,7 +44,7 @@ pub record LogContains (primary log : List ℕ) (found : HiveContents) : Type 0 
   pub block : found.block ≡ as_primary (block_of log)
   pub pages : found.pages ≡ pages_in log
 
--- of an unclean one, whose first sector is there: what its log holds
+-- of an unclean one, whose first sector is there: what its log repairs
 pub record UncleanFilesContain (primary log : List ℕ) (found : HiveContents) : Type 0 where
   pub sector : 512 ≤ length primary
   pub by_log : LogContains primary log found
@@ -53,8 +53,9 @@ pub record FilesContain (primary log : List ℕ) (found : HiveContents) : Type 0
   pub clean : found.is_clean ≡ is_clean_file primary
   pub parts : MatchBool found.is_clean (CleanFileContains primary found) (UncleanFilesContain primary log found)
 
--- A primary file and its log have a block and bins data that may be used: its own, that of a primary file, where it is clean;
--- else, where its first sector is there, those that the log repairs.
+-- A primary file and its log have a block and bins data that may be used. If the primary file is clean, they are its
+-- own, and the block is one of a primary file. Otherwise, if its first sector is there, they are those that the log
+-- repairs.
 pub record FilesHaveHive (primary log : List ℕ) : Type 0 where
   pub block : BaseBlock
   pub bins : List ℕ
@@ -69,28 +70,30 @@ IsHiveRefusal refusal.TooLarge = Unit {0}
 IsHiveRefusal refusal.Unsupported = Unit {0}
 IsHiveRefusal _ = ⊥
 
--- Why a primary file and its log have nothing that may be used, as a refusal tells it. A clean primary file is refused for its own
--- block or its length, whatever its log is. An unclean one is told as BadLog, if its log isn't whole, or lacks a page that the
--- primary file lacks too; or as Truncated, if it has no first sector.
+-- Why a primary file and its log have nothing that may be used, as a refusal names it. A clean primary file is refused
+-- for its own block or its length, whatever its log is. An unclean one is reported as BadLog if its log isn't whole, or
+-- lacks a page that the primary file lacks too; or as Truncated if it has no first sector.
 abbrev pub FilesAreUnusable : List ℕ → List ℕ → Refusal → Type 0
 FilesAreUnusable primary log why =
     MatchBool (is_clean_file primary) (PrimaryFileRefused (block_of primary) (length primary) why)
     (((why ≡ not_whole) × (LogCoversPrimary primary log → ⊥)) ⊎ ((why ≡ refusal.HiveDamaged 0 Truncated) × (length primary < 512)))
 
--- why two files are refused of which the primary one has no first sector: for the log, or since that one ends too early
+-- why two files are refused whose primary file has no first sector: for the log, or since the primary file ends too
+-- early
 abbrev pub ShortFileRefused : List ℕ → List ℕ → Refusal → Type 0
 ShortFileRefused primary log why = ((why ≡ not_whole) × (LogCoversPrimary primary log → ⊥)) ⊎ (why ≡ refusal.HiveDamaged 0 Truncated)
 
--- two files have nothing that may be used, and a refusal tells why
+-- two files have nothing that may be used, and a refusal says why
 pub record FilesHaveNone (primary log : List ℕ) (why : Refusal) : Type 0 where
   pub none : FilesHaveHive primary log → ⊥
   pub tells : FilesAreUnusable primary log why
 
--- so it is of a primary file with a clean block, which is this, by itself
+-- the same of a primary file by itself, with a clean block, which is this
 pub record PrimaryHasNone (block : BaseBlock) (primary : List ℕ) (why : Refusal) : Type 0 where
   pub none : IsPrimary block → 4096 + block.bins_size ≤ length primary → ⊥
   pub tells : PrimaryFileRefused block (length primary) why
 
--- the refusal tells of the hive, in whose files nothing stands that may be used, and why, where the device has answered as it should
+-- the refusal names the hive, in whose files nothing is that may be used, and says why, if the device has answered as
+-- it should
 abbrev pub RefusesFiles : Type 0 → List ℕ → List ℕ → Refusal → Type 0
 RefusesFiles faithful primary log why = IsHiveRefusal why × (faithful → FilesHaveNone primary log why)

@@ -5,8 +5,8 @@ use Rattle.refusals.specs.declared.refusal.Refusal.TheVariants.{NoMemory, DiskFa
 use Rattle.disk_model.specs.FileState.{FileState}
 use Rattle.disk_model.specs.Call.{Extends}
 
--- Calls come to DiskFault only where the device failed in one of them, and to a reason in the bytes only where it stands
--- there. Want of memory may come too.
+-- Calls come to DiskFault only if the device failed in one of them, and to a reason in the bytes only if it is true of
+-- them. Want of memory may come too.
 abbrev pub RefusalHasCause : Type 0 → (Refusal → Type 0) → Refusal → Type 0
 RefusalHasCause fault stands why = (why ≡ NoMemory) ⊎ (((why ≡ DiskFault) × fault) ⊎ stands why)
 

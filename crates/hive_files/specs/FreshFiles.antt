@@ -8,8 +8,8 @@ use Rattle.disk_model.specs.FileState.{FileState, at_rest}
 abbrev pub primary_bytes : BaseBlock → List ℕ → List ℕ
 primary_bytes block bins = (sector_of block ++ zeros 3584) ++ bins
 
--- A hive's files are made: the primary file is this block and these bins data, the log is empty, and nothing of either is on its
--- way.
+-- A hive's files are made: the primary file is this block and these bins data, the log is empty, and nothing of either
+-- is on its way.
 pub record FilesAreMade (block : BaseBlock) (bins : List ℕ) (primary log : FileState) : Type 0 where
   pub whole : primary ≡ at_rest (primary_bytes block bins)
   pub empty : log ≡ at_rest []

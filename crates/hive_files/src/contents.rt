@@ -8,7 +8,7 @@ use dirty_vector::DirtyVector;
 /// What two files hold, but for the tree.
 #[derive(Drop)]
 pub struct HiveContents {
-    /// The base block that is in use, as that of a primary file.
+    /// The base block that is in use, as the block of a primary file.
     pub block: BaseBlock,
     /// The hive bins data that are in use.
     pub bins: Vec<u8>,

@@ -13,10 +13,11 @@ use base_block::BaseBlock;
 use dirt_log::CHUNK_BYTES;
 use disk_model::{Disk, Failed};
 
-/// Makes a hive's two files anew, whatever they held: an empty log, and a primary file with this base block and these bins data.
-/// Both are synced. A write takes at most 65,536 bytes.
+/// Makes a hive's two files anew, whatever was in them: an empty log, and a primary file with this base block and these
+/// bins data. Both are synced. A write takes at most 65,536 bytes.
 ///
-/// Takes no memory. Failed where the device failed in a call, which was the last one: nothing is said of the two files then.
+/// Takes no memory. Failed if the device failed in a call, which was the last one. Then nothing is said of the two
+/// files.
 pub fn make<D: Disk>(disk: &mut D, hive: u8, block: &BaseBlock, bins: &[u8]) -> Result<(), Failed>
     ensures made { OnOk result (D.faithful disk.new → FilesAreMade block.now bins.now
         (D.state_at disk.new (D.clock disk.new) (primary_file hive))
@@ -94,7 +95,7 @@ pub fn sector(block: &BaseBlock) -> [u8; 512]
     block.write()
 }
 
-// writes bytes behind the end of a file that is so long, in pieces
+// writes bytes after the end of a file of this length, in chunks
 fn append<D: Disk>(disk: &mut D, file: u32, from: u64, bytes: &[u8]) -> Result<(), Failed>
     requires near { from + length bytes.now < 2 ^ 64 }
     ensures seen { OnOk result (D.faithful disk.new →

@@ -30,7 +30,8 @@ pub fn log_number(hive: u8) -> u32
     2 + 2 * u32::from(hive)
 }
 
-/// The bytes of a file from an offset on: so many as there are, up to `most`. They are read in pieces of 65,536 bytes, one a call.
+/// The bytes of a file from an offset on: as many as there are, up to `most`. They are read in chunks of 65,536 bytes,
+/// one a call.
 pub(crate) fn read_part<D: Disk>(
     alloc: Global,
     disk: &mut D,
@@ -58,7 +59,7 @@ pub(crate) fn read_part<D: Disk>(
     Ok(bytes)
 }
 
-// reads so many bytes as the buffer has, which are in the file
+// reads as many bytes as the buffer has, which are in the file
 fn fill<D: Disk>(disk: &mut D, file: u32, offset: u64, bytes: &mut [u8]) -> Result<(), Failed>
     requires near { offset + length bytes.old < 2 ^ 64 }
     ensures size { length bytes.new ≡ length bytes.old }
@@ -82,7 +83,7 @@ fn fill<D: Disk>(disk: &mut D, file: u32, offset: u64, bytes: &mut [u8]) -> Resu
     Ok(())
 }
 
-// reads so many bytes as the buffer has, in one call
+// reads as many bytes as the buffer has, in one call
 fn read_chunk<D: Disk>(disk: &mut D, file: u32, offset: u64, chunk: &mut [u8]) -> Result<(), Failed>
     ensures size { length chunk.new ≡ length chunk.old }
     ensures bytes { OnOk result (D.faithful disk.new → offset + length chunk.old

@@ -1,11 +1,12 @@
 //! A hive's two files as they are found, and the pages in which an image differs from the one before.
 //!
-//! A hive lies in a primary file and a log. [`find`] reads them as an opening does: of a clean primary file its base block and
-//! its bins data, and nothing of the log; of an unclean one those that its log repairs. Both files are read in pieces of at
-//! most 65,536 bytes, and nothing is allocated by a number before so many bytes are known to be there. Which tree the bins
-//! data stand for is no matter here.
+//! A hive lies in a primary file and a log. [`find`] reads them as an opening does. Of a clean primary file it reads
+//! the base block and the bins data, and nothing of the log. Of an unclean one it reads those that the log repairs.
+//! Both files are read in chunks of at most 65,536 bytes. Nothing is allocated by a number before that many bytes are
+//! known to be there. Which tree the bins data encode doesn't matter here.
 //!
-//! [`make`] makes both anew, of a base block and bins data. [`mark_changes`] compares two images page by page, so that a flush writes what differs.
+//! [`make`] makes both anew, of a base block and bins data. [`mark_changes`] compares two images page by page, so that
+//! a flush writes what differs.
 #![tactic(auto)]
 
 mod contents;

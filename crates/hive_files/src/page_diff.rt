@@ -5,8 +5,8 @@ ghost use Rattle.hive_flush_model.specs.Plans.{ChangesAreMarked};
 
 use dirty_vector::{DirtyVector, PAGE_BYTES};
 
-/// Marks each page in which a new image differs from the old one, and each page past the old one's end; no mark goes. Takes no
-/// memory. Each byte is looked at once.
+/// Marks each page in which a new image differs from the old one, and each page past the old one's end; no mark goes.
+/// Takes no memory. Each byte is looked at once.
 pub fn mark_changes(pages: &mut DirtyVector, old: &[u8], new: &[u8])
     requires old_size { length old.now ≡ pages.old.bins_size }
     requires new_size { is_bins_size (length new.now) ≡ true }
@@ -37,7 +37,7 @@ fn mark_differing(pages: &mut DirtyVector, old: &[u8], new: &[u8])
     }
 }
 
-// marks a page where the images differ in it
+// marks a page if the images differ in it
 fn mark_page(pages: &mut DirtyVector, old: &[u8], new: &[u8], page: usize)
     requires inside { 512 * (page + 1) ≤ length old.now }
     requires larger { length old.now ≤ length new.now }

@@ -25,13 +25,14 @@ use std::alloc::Global;
 /// The bytes of the longest log that is whole: its first sector, letters and bitmap, in whole sectors, and each page.
 const MOST_LOG_BYTES: u64 = 67_126_272;
 
-/// Finds what is in use in a hive's two files. The primary file is synced first; and so is the log, but where the primary file
-/// is clean: then it isn't looked at. Both are read in pieces of 65,536 bytes, in as few calls as that takes.
+/// Finds what is in use in a hive's two files. The primary file is synced first. So is the log, unless the primary file
+/// is clean: then the log isn't looked at. Both are read in chunks of 65,536 bytes, in as few calls as that takes.
 ///
-/// Refused with `DiskFault` where the device failed, with `NoMemory`, and only where nothing that may be used stands in the
-/// files with a cause of hive 0, `Unsupported` or `TooLarge`: a clean primary file with that of its base block, or with
-/// `Truncated` where it is shorter than its bins data; an unclean one with `BadLog`, if its log isn't whole or lacks a page that is
-/// needed, or with `Truncated`, if it has no first sector. What is told is so in the bytes. No file changes but by its sync.
+/// Refused with `DiskFault` if the device failed, and with `NoMemory`. Refused with a cause of hive 0, `Unsupported` or
+/// `TooLarge` only if nothing that may be used is in the files. A clean primary file is refused for its base block, or
+/// with `Truncated` if it is shorter than its bins data. An unclean one is refused with `BadLog` if its log isn't whole
+/// or lacks a page that is needed. It is refused with `Truncated` if it has no first sector. The reported cause is true
+/// of the bytes. No file changes but by its sync.
 pub fn find<D: Disk>(alloc: Global, disk: &mut D, hive: u8) -> Result<HiveContents, Refusal>
     ensures found { IfOk result (λ found. D.faithful disk.new → FilesContain
         (D.state_at disk.old (D.clock disk.old) (primary_file hive)).seen
@@ -78,7 +79,7 @@ pub fn find<D: Disk>(alloc: Global, disk: &mut D, hive: u8) -> Result<HiveConten
     }
 }
 
-// the block of a first sector, where there is one
+// the block of a first sector, if there is one
 fn block_in(sector: &[u8]) -> Option<BaseBlock>
     ensures some { IfSome result (λ block. (block ≡ block_of sector.now) × (512 ≤ length sector.now)) }
     ensures none { IfNone result (length sector.now < 512) }
@@ -184,7 +185,7 @@ fn find_repaired<D: Disk>(alloc: Global, disk: &mut D, hive: u8) -> Result<HiveC
     read_repaired(alloc, disk, hive)
 }
 
-// the same where the log is synced
+// the same if the log is synced
 fn read_repaired<D: Disk>(alloc: Global, disk: &mut D, hive: u8) -> Result<HiveContents, Refusal>
     ensures found { IfOk result (λ found. D.faithful disk.new → LogContains
         (D.state_at disk.old (D.clock disk.old) (primary_file hive)).seen

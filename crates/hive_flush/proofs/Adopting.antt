@@ -19,7 +19,7 @@ use Rattle.hive_load.specs.Limits.{BinsEncodeTreeInLimits}
 use Rattle.hive_flush.specs.Decoders.{decoder_with}
 use Rattle.hive_flush.proofs.TreeDecoder.{gives, gives_right, gives_still}
 
--- one tree at most stands for bins data
+-- bins data encode at most one tree
 abbrev pub IsOne : Type 0
 IsOne = (bytes : List ℕ) (root minor : ℕ) (t u : TreeMap) → BinsEncodeTree bytes root minor t → BinsEncodeTree bytes root minor u → t ≡ u
 

@@ -1,4 +1,5 @@
--- What is in memory is what is on its way, and isn't behind what stands.
+-- What is in memory is what is on its way, and its number isn't below the number of what is
+-- durable.
 use Rattle.std.proofs.Common.{◌<◌, inl, inr, ℕ, refl, arith}
 use Rattle.reg_tree.specs.Maps.{TreeMap}
 use Rattle.crash_model.specs.Memory.{IsOfMemory}

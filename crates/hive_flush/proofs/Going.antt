@@ -23,9 +23,9 @@ use Rattle.hive_flush.specs.NextBlocks.{block_again}
 use Rattle.hive_flush.specs.HiveStates.{FilesMatchWriter}
 use Rattle.hive_flush.specs.Decoders.{DecoderIsSound}
 
--- ---- what surely stands
+-- ---- what is surely durable
 
--- of a flush, or where what is in memory is what stands
+-- of a flush, or if what is in memory is what is durable
 pub now_stands : (at : FlushStage) (now memory : TreeMap × ℕ) → ((IsFlushing at → ⊥) → now ≡ memory) → (choice_at at now memory).now ≡ now
 now_stands stage.AtRest now memory same = refl
 now_stands (stage.WritingLog k) now memory same = refl
@@ -40,7 +40,7 @@ now_stands (stage.HeaderWritten purpose.Repair) now memory same = sym (same (λ 
 
 -- ---- a step that was not the last one
 
--- the plan that a writer follows hangs on its blocks
+-- the plan that a writer follows depends on its blocks
 made : List ℕ → Pages → BaseBlock → BaseBlock → FlushPlan
 made image pages block base = plan_of (record { hive = 0; base = base; block = block; stage = stage.AtRest; failed = false }) image pages
 
@@ -72,8 +72,8 @@ base_same (Ok progress.More) old not_done = refl
 base_same (Ok progress.Idle) old not_done = refl
 base_same (Err refusal) old not_done = refl
 
--- A call leads the files on by the plan that is followed: of a flush that of the writer's blocks, and any that ends with its
--- block of a repair.
+-- A call leads the files on by the plan that is followed. For a flush it is the plan of the writer's blocks; for a
+-- repair it is any plan that ends with its block.
 abbrev pub LeadsBy : HiveWriter → HiveWriter → List ℕ → Pages → Result Progress Refusal → (ℕ → FileState) → (ℕ → FileState) → Type 0
 LeadsBy old new image pages result before after = (stands : TreeDecoder TreeMap) (plan : FlushPlan) → PlanEndsWith old.block plan
     → (IsFlushing old.stage → plan ≡ plan_of old image pages) → StepKeepsMatch stands plan image pages result old new before after
@@ -186,7 +186,7 @@ ready_same w v image other pages left memory stands vw oi lp fits =
 choice_by : HiveWriter → TreeMap → TreeMap → Choice (TreeMap × ℕ)
 choice_by w held tree = choice_at w.stage (held, w.base.applied.0) (tree, w.block.applied.0)
 
--- what surely stands once it is done
+-- what is surely durable once it is done
 pub files_done : (old w v : HiveWriter) (kept tree same : TreeMap) → KeepsBlocks old w (Ok progress.Done) → v ≡ record w { block = block_again w.block } → kept ≡ tree → same ≡ tree
     → choice_at v.stage (kept, v.base.applied.0) (same, v.block.applied.0) ≡ choice_at w.stage (tree, old.block.applied.0) (tree, old.block.applied.0)
 unfolding choice_by
@@ -218,7 +218,7 @@ repairs_on (stage.WritingPages whose page) r f = absurd cc
 repairs_on (stage.PagesSynced whose) r f = absurd cc
 repairs_on (stage.HeaderWritten whose) r f = absurd cc
 
--- what stands and is on its way hangs on no length of a log
+-- what is durable and on its way depends on no length of a log
 pub choice_is : (total : ℕ) (at : FlushStage) (now memory : TreeMap × ℕ) → choice_in (phase_in total at) now memory ≡ choice_at at now memory
 choice_is total stage.AtRest now memory = refl
 choice_is total (stage.WritingLog k) now memory = refl
@@ -228,7 +228,7 @@ choice_is total (stage.WritingPages whose page) now memory = refl
 choice_is total (stage.PagesSynced whose) now memory = refl
 choice_is total (stage.HeaderWritten whose) now memory = refl
 
--- a flush of which nothing is on its way hasn't begun
+-- a flush with nothing on its way hasn't begun
 pub rests : (at : FlushStage) (now memory : TreeMap × ℕ) → IsFlushing at → (choice_at at now memory).next ≡ None → at ≡ stage.AtRest
 rests stage.AtRest now memory f e = refl
 rests (stage.WritingLog k) now memory f e = absurd cc

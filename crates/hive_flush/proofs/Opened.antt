@@ -71,7 +71,7 @@ in_use primary log found f = elim (cases_Bool found.is_clean) [
       }
 ]
 
--- what files hold is of the store that was found, and stands in what was found
+-- what files hold is of the store that was found, and is in what was found
 pub found_agrees : (primary log : List ℕ) (found : HiveContents) (store : List ℕ) (held : TreeMap × ℕ) → FilesContain primary log found → HiveFilesHold store primary log held
     → (found.block.store ≡ store) × BinsEncodeTreeInLimits found.bins.items found.block.root found.block.minor held.0
 found_agrees primary log found store held f h =
@@ -85,7 +85,7 @@ found_agrees primary log found store held f h =
           (subst (λ (l : List ℕ). BinsEncodeTreeInLimits l h.block.root h.block.minor held.0) same.1 h.tree)),
     )
 
--- and what stands in it the files hold
+-- and what is in it the files hold
 pub found_holds : (primary log : List ℕ) (found : HiveContents) (store : List ℕ) (tree : TreeMap) (n : ℕ) → FilesContain primary log found → found.block.store ≡ store
     → BinsEncodeTreeInLimits found.bins.items found.block.root found.block.minor tree → found.block.applied.0 ≡ n → HiveFilesHold store primary log (tree, n)
 found_holds primary log found store tree n f is within number =
@@ -231,7 +231,7 @@ few_left writer hive block is_clean total pages w not = elim (cases_Bool is_clea
   | inr e ↦ (e, subst (λ (x : HiveWriter). calls_left total pages x.stage ≤ dirty_count pages + 3) (sym (w.unclean e)) (omega arith))
 ]
 
--- few calls of a repair are left, and none where the primary file was found clean
+-- few calls of a repair are left, and none if the primary file was found clean
 pub repairs_few : (primary log : List ℕ) (found : HiveContents) (hive : ℕ) (writer : HiveWriter) → IsWriterFor writer hive found.block found.is_clean → FilesContain primary log found → repairs_at found.pages writer.stage ≤ most_repairs primary log
 repairs_few primary log found hive writer w f = elim (cases_Bool found.is_clean) [
   | inl e ↦

@@ -20,7 +20,7 @@ repairs_are total pages (stage.PagesSynced purpose.Flush) r = absurd cc
 repairs_are total pages (stage.HeaderWritten purpose.Repair) r = refl
 repairs_are total pages (stage.HeaderWritten purpose.Flush) r = absurd cc
 
--- some call is left where the stage is none of a flush
+-- some call is left if the stage is none of a flush
 pub some_left : (pages : Pages) (at : FlushStage) → (IsFlushing at → ⊥) → 0 < repairs_at pages at
 some_left pages stage.AtRest not = absurd (not tt)
 some_left pages (stage.WritingLog k) not = absurd (not tt)

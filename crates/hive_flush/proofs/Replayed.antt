@@ -32,7 +32,7 @@ pub change_here : (hive : ℕ) (element : Element) (rest : List Element) (tree m
 change_here hive element rest tree made is =
     applied-append tree_rules (on_hive hive (timed_element element)) (ops_on hive (timed_elements rest)) tree ∙ ap (applied tree_rules (ops_on hive (timed_elements rest))) (sym is)
 
--- those of some operations that are on the hive are all that these have there
+-- a list's operations on the hive are all that some operations have there
 same_here : (hive moment : ℕ) (ops : List Op) → on_hive hive (map (timed moment) (filter (λ op. hive_of op == hive) ops)) ≡ on_hive hive (map (timed moment) ops)
 same_here hive moment [] = refl
 same_here hive moment (op ∷ ops) = by_test (hive_of op == hive) refl (same_here hive moment ops)

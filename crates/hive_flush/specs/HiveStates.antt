@@ -26,19 +26,20 @@ use Rattle.hive_flush.specs.declared.hive.HiveFile.{HiveFile}
 abbrev pub memory_of : HiveFile → TreeMap × ℕ
 memory_of file = (file.tree, file.writer.block.applied.0)
 
--- the tree and number that surely stand
+-- the tree and number that are surely durable
 abbrev pub durable_of : HiveFile → TreeMap × ℕ
 durable_of file = (file.held.value, file.writer.base.applied.0)
 
--- what surely stands in the files, and what may be on its way
+-- what is surely durable in the files, and what may be on its way
 abbrev pub file_choice : HiveFile → Choice (TreeMap × ℕ)
 file_choice file = choice_at file.writer.stage (durable_of file) (memory_of file)
 
--- the tree that changes lead to on a hive's tree: their operations on the hive, one after another, each at its change's moment
+-- the tree that changes lead to on a hive's tree: their operations on the hive, one after another, each at its change's
+-- moment
 abbrev pub tree_after_changes : ℕ → List Element → TreeMap → TreeMap
 tree_after_changes hive changes tree = applied tree_rules (ops_on hive (timed_elements changes)) tree
 
--- the changes' operations on a hive are legal on its tree, each where its turn comes
+-- the changes' operations on a hive are legal on its tree, each in its turn
 abbrev pub ChangesAreLegalOn : ℕ → List Element → TreeMap → Type 0
 ChangesAreLegalOn hive changes tree = AreLegal tree_rules (ops_on hive (timed_elements changes)) tree
 
@@ -53,9 +54,10 @@ store_of file = file.writer.block.store
 abbrev pub HiveIsRepaired : HiveFile → Type 0
 HiveIsRepaired file = IsFlushing file.writer.stage
 
--- The primary file and the log are as a writer's stage says, for an image, its pages, and what surely stands and is in memory:
--- for some rule that is right in the store, and a plan by it that the image fits and that is, of a flush, the one that the
--- writer follows. As long as the device hasn't failed, the primary file rests where no write of it is on its way.
+-- The primary file and the log are as a writer's stage says, for an image, its pages, what is surely durable, and what
+-- is in memory. This is so for some rule that is right in the store, and a plan by it that the image fits. For a flush
+-- it is the plan that the writer follows. As long as the device hasn't failed, the primary file rests if no write of it
+-- is on its way.
 pub record FilesMatchWriter (writer : HiveWriter) (image : List ℕ) (pages : Pages) (now memory : TreeMap × ℕ) (primary log : FileState) : Type 0 where
   pub stands : TreeDecoder TreeMap
   pub right : DecoderIsSound writer.block.store stands
@@ -83,8 +85,8 @@ KeepsMatch old new = (primary log : FileState) → FilesMatchHive old primary lo
 abbrev pub IsBroken : HiveFile → Type 0
 IsBroken file = file.writer.failed ≡ true
 
--- What was in memory stands, no page differs, and the next flush ends with the next numbers, the rest of the block being as
--- it was.
+-- What was in memory is durable, no page differs, and the next flush ends with the next numbers. The rest of the block
+-- is as it was.
 pub record MemoryIsDurable (old new : HiveFile) : Type 0 where
   pub held : new.held.value ≡ old.tree
   pub tree : new.tree ≡ old.tree
@@ -100,7 +102,7 @@ dirty_pages file = dirty_count file.pages
 abbrev pub marked_pages : List ℕ → ℕ
 marked_pages log = dirty_count (pages_in log)
 
--- how many calls of a repair are left at a stage, at most: none where no repair is
+-- how many calls of a repair are left at a stage, at most: none if no repair is on its way
 abbrev pub repairs_at : Pages → FlushStage → ℕ
 repairs_at pages (stage.WritingPages purpose.Repair page) = dirty_from pages page + 3
 repairs_at pages (stage.PagesSynced purpose.Repair) = 2
@@ -110,10 +112,10 @@ repairs_at pages _ = 0
 abbrev pub repairs_left : HiveFile → ℕ
 repairs_left file = repairs_at file.pages file.writer.stage
 
--- how many calls the repair of two files takes, at most: none where the primary file is clean
+-- how many calls the repair of two files takes, at most: none if the primary file is clean
 abbrev pub most_repairs : List ℕ → List ℕ → ℕ
 most_repairs primary log = if is_clean_file primary then 0 else marked_pages log + 3
 
--- a flush's calls that are left, or those of a whole one
+-- a flush's calls that are left, or the calls of a whole flush
 abbrev pub steps_left : HiveFile → ℕ
 steps_left file = calls_left (length (plan_of file.writer file.bins.items file.pages).encoding) file.pages file.writer.stage

@@ -12,7 +12,8 @@ use Rattle.hive_writer.specs.WriterSteps.{IsFlushing}
 use Rattle.base_block.specs.declared.block.BaseBlock.{BaseBlock}
 use Rattle.base_block.specs.Numbers.{number_after}
 
--- the block with which the flush after one ends: the numbers are one more, and it is for this root, size, time and number
+-- the block with which the flush after one ends: the numbers are one more, and it is for this root, size, time and
+-- number
 abbrev pub block_after : BaseBlock → ℕ → ℕ → ℕ → ℕ → BaseBlock
 block_after base root bins_size time applied = record base {
   primary = record { 0 = number_after base.secondary.0 };
@@ -27,7 +28,7 @@ block_after base root bins_size time applied = record base {
 abbrev pub block_again : BaseBlock → BaseBlock
 block_again block = block_after block block.root block.bins_size block.last_written block.applied.0
 
--- where it isn't a flush that may be on its way, what is repaired is what is in memory
+-- if it isn't a flush that may be on its way, what is repaired is what is in memory
 abbrev pub IsSteady : HiveWriter → TreeMap → TreeMap → Type 0
 IsSteady writer held tree = (IsFlushing writer.stage → ⊥) → (writer.base ≡ writer.block) × (held ≡ tree)
 

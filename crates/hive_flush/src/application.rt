@@ -23,12 +23,13 @@ use reg_tree::Tree;
 use std::alloc::Global;
 
 impl HiveFile {
-    /// Absorbs changes into memory, one after another, from two slices: what follows the number in memory up to `upto`. A flush
-    /// that begins then writes the tree that they lead to, and as the last written time the moment of the last of them that has an
-    /// operation on this hive; the time stays if none has. No flush is on its way, and the hive is whole.
+    /// Absorbs changes into memory, one after another, from two slices: those after the number in memory up to `upto`.
+    /// A flush that begins then writes the tree that they lead to. Its last written time is the moment of the last of
+    /// them that has an operation on this hive; the time stays if none has. No flush is on its way, and no repair is
+    /// left.
     ///
-    /// Refused with `NoMemory`, and with `TooLarge` only where the tree that they lead to is over the weight, which legal changes
-    /// never leave; nothing has changed then.
+    /// Refused with `NoMemory`. Refused with `TooLarge` only if the tree that they lead to is over the weight, which
+    /// legal changes never leave. A refusal changes nothing.
     pub fn absorb(
         &mut self,
         alloc: Global,
@@ -69,9 +70,9 @@ impl HiveFile {
         Ok(())
     }
 
-    /// Takes a tree into memory, with bins data that stand for it from a root on, and the moment and number of its last change.
-    /// No flush is on its way, and the data are no shorter than those before. The pages that differ are marked; what the files hold
-    /// stays.
+    /// Takes a tree into memory, with bins data that encode it from a root on, and the moment and number of its last
+    /// change. No flush is on its way, and the data are no shorter than those before. The pages that differ are marked.
+    /// What is in the files stays.
     pub fn install(&mut self, tree: Tree, bins: Vec<u8>, root: u32, time: u64, number: u64)
         requires whole { HiveIsRepaired self.old }
         requires rest { (file_choice self.old).next ≡ None }
@@ -104,8 +105,8 @@ impl HiveFile {
     }
 }
 
-/// Bins data of at least a size that stand for a tree, and the root's cell in them. Refused with `TooLarge` exactly where the
-/// tree is over the weight, and else with `NoMemory`.
+/// Bins data of at least a size that encode a tree, and the root's cell in them. Refused with `TooLarge` exactly if the
+/// tree is over the weight. Otherwise refused with `NoMemory`.
 pub(crate) fn encoded_tree(
     alloc: Global,
     tree: &Tree,

@@ -25,7 +25,7 @@ pub(crate) fn replayed(
     Ok(made)
 }
 
-// the tree after the operations on a hive of a change, of which only these are read
+// the tree after a change's operations on a hive; only these operations are read
 fn after_change(
     alloc: Global,
     tree: Tree,
@@ -35,7 +35,7 @@ fn after_change(
     ensures { IfOk result (λ made. made
         ≡ applied tree_rules (on_hive hive (timed_element change.now)) tree) }
 {
-    // that a change is elsewhere is told sooner by its hives alone
+    // a change's hives alone show sooner that it is elsewhere
     if !change.is_on(hive) {
         return Ok(tree);
     }

@@ -29,7 +29,7 @@ const LEAST_BINS_BYTES: usize = 4_096;
 impl HiveImage {
     /// The image of a tree for a store.
     ///
-    /// Refused with `TooLarge` exactly where the tree is over the weight, and else with `NoMemory`.
+    /// Refused with `TooLarge` exactly if the tree is over the weight. Otherwise refused with `NoMemory` alone.
     pub fn of(alloc: Global, store: Uuid, tree: &Tree) -> Result<HiveImage, Refusal>
         ensures image { IfOk result (IsImageOf store tree.now) }
         ensures refused { IfErr result (IsRefusedFor (weight tree.now)) }
@@ -39,10 +39,11 @@ impl HiveImage {
         Ok(HiveImage { store, root, bins })
     }
 
-    /// Makes the two files of a hive, by its number, whatever they held: a clean primary file of the image's tree at number 0, and
-    /// an empty log. Both are synced. A write takes at most 65,536 bytes.
+    /// Makes the two files of a hive, by its number, whatever was in them. They are a clean primary file of the image's
+    /// tree at number 0, and an empty log. Both are synced. A write takes at most 65,536 bytes.
     ///
-    /// Takes no memory. Failed where the device failed in a call, which was the last one: nothing is said of the two files then.
+    /// Takes no memory. Failed if the device failed in a call, which was the last one. Then nothing is said of the two
+    /// files.
     pub fn write<D: Disk>(&self, disk: &mut D, hive: u8) -> Result<(), Failed>
         ensures created { OnOk result (D.faithful disk.new → (store : List ℕ) (tree : TreeMap) →
             IsImageOf store tree self.now → AreCreated store tree
@@ -66,11 +67,12 @@ impl HiveImage {
 }
 
 impl HiveFile {
-    /// Makes the two files of a hive of a store, by its number, whatever they held: a clean primary file of a tree at number 0,
-    /// and an empty log. Both are synced. A write takes at most 65,536 bytes.
+    /// Makes the two files of a hive of a store, by its number, whatever was in them. They are a clean primary file of
+    /// a tree at number 0, and an empty log. Both are synced. A write takes at most 65,536 bytes.
     ///
-    /// Refused with `TooLarge` exactly where the tree is over the weight, and with `NoMemory`: no file has changed then; and with
-    /// `DiskFault` where the device failed in a call, which was the last one: nothing is said of the two files then.
+    /// Refused with `TooLarge` exactly if the tree is over the weight, and with `NoMemory`. No file has changed then.
+    /// Refused with `DiskFault` if the device failed in a call, which was the last one. Then nothing is said of the two
+    /// files.
     pub fn create<D: Disk>(
         alloc: Global,
         disk: &mut D,

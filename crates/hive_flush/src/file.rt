@@ -38,7 +38,7 @@ impl HiveFile {
         self.writer.block.applied.0
     }
 
-    /// The number of the last change that surely stands in the files.
+    /// The number of the last change that is surely durable in the files.
     pub fn applied(&self) -> u64
         ensures { result ≡ (file_choice self.now).now.1 }
     {
@@ -52,12 +52,13 @@ impl HiveFile {
         self.pages.count()
     }
 
-    /// One step of a flush of what is in memory, which begins where none is on its way: at most one device call. `More` where
-    /// others follow, and `Done` where it was the last one: then what was in memory stands. A flush that begins with `p` dirty
-    /// pages is done within `2 * p + 7` steps, where none is refused. A write takes at most 65,536 bytes.
+    /// One step of a flush of what is in memory: at most one device call. It begins a flush if none is on its way. It
+    /// answers `More` if other steps follow, and `Done` if it was the last one: then what was in memory is durable. A
+    /// flush that begins with `p` dirty pages is done within `2 * p + 7` steps, if none is refused. A write takes at
+    /// most 65,536 bytes.
     ///
-    /// Takes no memory. Refused with `DiskFault` where the device failed in the call, and with `Faulted` exactly where it had
-    /// failed in an earlier one: nothing is done then.
+    /// Takes no memory. Refused with `DiskFault` if the device failed in the call. Refused with `Faulted` exactly if it
+    /// had failed in an earlier one: nothing is done then.
     pub fn step<D: Disk>(&mut self, disk: &mut D) -> Result<Progress, Refusal>
         requires whole { HiveIsRepaired self.old }
         ensures on { D.faithful disk.new → FilesFollowHive self.old self.new
@@ -132,8 +133,9 @@ impl HiveFile {
         matches!(self.writer.stage, FlushStage::AtRest)
     }
 
-    /// One step of the repair of a hive that was opened unclean: at most one device call. `More` where others follow, `Done`
-    /// where it was the last one, and `Idle` where none is left. What the files hold stays the same throughout.
+    /// One step of the repair of a hive that was opened unclean: at most one device call. It answers `More` if other
+    /// steps follow, `Done` if it was the last one, and `Idle` if none is left. What the files hold stays the same
+    /// throughout.
     ///
     /// Takes no memory. Refused as [`step`](HiveFile::step) is.
     pub fn repair_step<D: Disk>(&mut self, disk: &mut D) -> Result<Progress, Refusal>
@@ -182,7 +184,7 @@ impl HiveFile {
         }
     }
 
-    // what was in memory stands: no page differs, and the next flush is planned
+    // what was in memory is durable: no page differs, and the next flush is planned
     fn mark_durable(&mut self)
         requires quiet { self.old.writer.stage ≡ stage.AtRest }
         ensures settled { MemoryIsDurable self.old self.new }

@@ -19,8 +19,8 @@ use hive_files::sector;
 use hive_writer::HiveWriter;
 use reg_tree::Tree;
 
-/// The block with which a flush ends that follows one which ended with this: for a root and bins data of a size, at the moment
-/// and the number of the last change that they hold.
+/// The block with which a flush ends that follows a flush that ended with this block. It is for a root and bins data of
+/// a size, and has the moment and the number of the last change in them.
 pub(crate) fn next_block(
     base: &BaseBlock,
     root: u32,
@@ -42,7 +42,7 @@ pub(crate) fn next_block(
     }
 }
 
-/// A law: what a writer is to write of an image fits it, where its block is planned for the image's pages.
+/// A law: what a writer is to write of an image fits the image, if its block is planned for the image's pages.
 pub(crate) fn plan_fits(writer: &HiveWriter, image: &[u8], pages: &DirtyVector)
     requires size { length image.now ≡ pages.now.bins_size }
     requires planned { IsPlanned writer.now.block pages.now }

@@ -10,11 +10,11 @@ use hive_writer::HiveWriter;
 use reg_tree::Tree;
 use std::snapshot::Snapshot;
 
-/// A hive of a store: its tree in memory, the hive bins data that stand for it, and the pages in which the primary file may
-/// differ from them.
+/// A hive of a store: its tree in memory and the hive bins data that encode it. Also the pages in which the primary
+/// file may differ from these data.
 #[derive(Drop)]
 pub struct HiveFile {
-    /// What surely stands in the files: known to contracts alone.
+    /// What is surely durable in the files: known to contracts alone.
     pub(crate) held: Snapshot<Tree>,
     pub(crate) tree: Tree,
     pub(crate) bins: Vec<u8>,

@@ -11,8 +11,8 @@ ghost use Rattle.hive_flush.specs.declared.hive.HiveFile.{HiveFile};
 
 use reg_tree::Tree;
 
-/// A law: where the two files are as a hive's stage says, whatever a crash may leave of both, with an honest first sector of
-/// the primary file, holds what surely stands or what is on its way, as a hive of its store.
+/// A law of two files that are as a hive's stage says, and of what a crash may leave of both, with an honest first
+/// sector of the primary file. That holds what is surely durable or what is on its way, as a hive of its store.
 pub fn files_hold()
     ensures { (file : HiveFile) (primary log : FileState) → FilesMatchHive file primary log →
         HiveOn (HiveFilesHold (store_of file)) (file_choice file)
@@ -21,8 +21,8 @@ pub fn files_hold()
     hive_flush_model::laws::crash_leaves_choice::<Tree>();
 }
 
-/// A law: where the two files are as a hive's stage says, what a read gives of the primary file has an honest first sector, as long
-/// as the device hasn't failed in a step of the hive.
+/// A law of two files that are as a hive's stage says. What a read gives of the primary file has an honest first
+/// sector, as long as the device hasn't failed in a step of the hive.
 pub fn reads_are_honest()
     ensures { (file : HiveFile) (primary log : FileState) → IsSound primary → ¬ (IsBroken file) →
         FilesMatchHive file primary log → IsHonest primary primary.seen }
@@ -38,7 +38,8 @@ pub fn at_most_one_tree()
     hive_records::laws::one_tree();
 }
 
-/// A law: what is on its way to a hive's files, if anything, is what is in memory, and its number isn't below that of what stands.
+/// A law: what is on its way to a hive's files, if anything, is what is in memory. Its number isn't below the number of
+/// what is durable.
 pub fn memory_is_ahead()
     ensures own { (file : HiveFile) → IsOfMemory (file_choice file) (memory_of file) }
     ensures ahead { (file : HiveFile) → (file_choice file).now.1 ≤ (memory_of file).1 }

@@ -1,4 +1,5 @@
-//! The owner of a hive's two files: its tree in memory, the bins data that stand for it, and the steps of flush and repair.
+//! The owner of a hive's two files: its tree in memory, the bins data that encode it, and the steps of flush and
+//! repair.
 #![tactic(auto)]
 
 mod application;

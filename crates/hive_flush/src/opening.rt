@@ -25,20 +25,20 @@ use std::snapshot::Snapshot;
 use uuid::Uuid;
 
 impl HiveFile {
-    /// Opens a hive of a store, by its number: the tree and the number that its two files hold. Where the primary file is
-    /// unclean its repair is to be made before anything else: of a log that marks `p` pages it is done within `p + 3` steps, where
-    /// none is refused.
+    /// Opens a hive of a store, by its number: the tree and the number that its two files hold. If the primary file is
+    /// unclean, its repair is to be made before anything else. A repair by a log that marks `p` pages is done within
+    /// `p + 3` steps, if none is refused.
     ///
-    /// The primary file is synced before it is read; and so is the log, but where the primary file is clean: then it isn't
-    /// looked at. Both are read in pieces.
+    /// The primary file is synced before it is read. So is the log, unless the primary file is clean: then the log
+    /// isn't looked at. Both are read in chunks.
     ///
-    /// Refused only where the files hold nothing in this store, with `HiveDamaged` of this hive or `Unsupported`; with
-    /// `DiskFault` where the device failed; and with `NoMemory`. No file changes but by its sync.
+    /// Refused with `HiveDamaged` of this hive or `Unsupported` only if the files hold nothing in this store. Refused
+    /// with `DiskFault` if the device failed, and with `NoMemory`. No file changes but by its sync.
     ///
-    /// The cause that is told stands in the files: of a clean primary file what is wrong with its own block, or `Truncated`; of an
-    /// unclean one `BadLog`, if its log isn't whole or lacks a page that is needed, or `Truncated`, if it has no first sector; of a
-    /// block of another store `BadStore`; and else what is wrong with the bins data that are in use. What is over a limit has the cause
-    /// `TooLarge`.
+    /// The reported cause is true of the files. For a clean primary file it is what is wrong with its own block, or
+    /// `Truncated`. For an unclean one it is `BadLog` if its log isn't whole or lacks a page that is needed. It is
+    /// `Truncated` if an unclean file has no first sector. For a block of another store it is `BadStore`. Otherwise it
+    /// is what is wrong with the bins data that are in use. What is over a limit has the cause `TooLarge`.
     pub fn open<D: Disk>(
         alloc: Global,
         disk: &mut D,
@@ -81,7 +81,7 @@ impl HiveFile {
     }
 }
 
-// a refusal of a hive's files: that of the device stays
+// a refusal of a hive's files; a refusal of the device stays
 fn file_refusal(why: Refusal, hive: u8) -> Refusal
     ensures fault { why ≡ DiskFault → result ≡ DiskFault }
     ensures memory { why ≡ NoMemory → result ≡ NoMemory }
@@ -94,7 +94,7 @@ fn file_refusal(why: Refusal, hive: u8) -> Refusal
     hive_refusal(why, hive)
 }
 
-// a refusal that tells of a hive, with its number
+// a refusal that names a hive, with its number
 fn hive_refusal(why: Refusal, hive: u8) -> Refusal
     ensures memory { why ≡ NoMemory → result ≡ NoMemory }
     ensures hive_refusal { (result ≡ NoMemory) ⊎ RefusalNamesHive hive result }

@@ -1,4 +1,4 @@
--- Each call of a flush or a repair takes the files from one phase to the next, or leaves them in theirs where it failed.
+-- Each call of a flush or a repair takes the files from one phase to the next, or leaves them in theirs if it failed.
 use Rattle.std.proofs.Common.{◌≡◌, inl, inr, ℕ, ◌+◌, ◌-◌, ◌/◌, ◌<◌, ◌≤◌, false, List, [], ◌∷◌, length, take, drop, get_or, refl, sym, ap, ◌∙◌, subst, arith, length-take, length-drop}
 use Rattle.std.proofs.lemmas.Bool.{cases_lt}
 use Rattle.std.proofs.lemmas.Grind.{same_number_lists}
@@ -159,7 +159,7 @@ module _ {T : Type 0} (decode : TreeDecoder T) (w : FlushState T) where
     ranges = (record { behind = omega arith; dirty = λ i covers. dirty i (omega (arith, covers.0)) (omega (arith, covers.1, length-take m (drop a w.image))) }, on.ranges);
   }
 
-  -- clean bytes behind what is written are shown too
+  -- clean bytes after what is written are shown too
   shows_clean : (n a : ℕ) (p : FileState) → PlanFitsImage decode w.memory w.image w.pages w.plan → IsSound p → ArePagesOnWay w.image w.pages p → a ≤ length w.image → AreClean w.pages n a
       → Shows w.image n p.seen → Shows w.image a p.seen
   shows_clean n a p ready sound on within clean shows i lt = elim (cases_lt i n) [

@@ -13,7 +13,7 @@ use Rattle.dirt_log.proofs.Replaced.{repairs, repaired_same}
 use Rattle.hive_flush_model.specs.StoredTrees.{TreeDecoder, tree_under}
 use Rattle.hive_flush_model.specs.Plans.{FlushPlan, PlanFitsImage, IsBehind}
 
--- also where it wraps
+-- also if it wraps
 next_differs : (n : ℕ) → n < 2 ^ 32 → number_after n ≢ n
 next_differs n fits e = omega (arith, fits, e)
 

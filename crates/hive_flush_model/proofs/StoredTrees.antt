@@ -102,7 +102,7 @@ wrong_unclean c wrong = elim (cases_Bool (is_clean_file c)) [
 pub sector_unclean : (c sector : List ℕ) → take 512 c ≡ sector → is_clean_block (block_at sector) ≡ false → is_clean_file c ≡ false
 sector_unclean c sector e unclean = and_right _ _ (ap (λ (s : List ℕ). is_clean_block (block_at s)) e ∙ unclean)
 
--- ---- a log with something behind it
+-- ---- a log with something after it
 
 pub record IsFront (encoding log : List ℕ) : Type 0 where
   pub whole : LogIsWhole log
@@ -110,7 +110,7 @@ pub record IsFront (encoding log : List ℕ) : Type 0 where
   pub pages : pages_in log ≡ pages_in encoding
   pub bytes : page_bytes_in log ≡ page_bytes_in encoding
 
--- a part of what stands in front
+-- a part of what is in front
 part_same : (encoding log : List ℕ) (a n : ℕ) → take (length encoding) log ≡ encoding → a + n ≤ length encoding → take n (drop a log) ≡ take n (drop a encoding)
 part_same encoding log a n e within =
     let long : length encoding ≤ length log = omega (arith, length-take (length encoding) log, ap (λ (xs : List ℕ). length xs) e) in

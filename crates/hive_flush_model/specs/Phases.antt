@@ -4,13 +4,14 @@ use Rattle.crash_model.specs.Promises.{Choice, settled, under_way}
 use Rattle.dirty_vector.specs.Pages.{Pages}
 use Rattle.hive_flush_model.specs.Plans.{FlushPlan}
 
--- whose pages are written: those of a flush, or those of a log that repairs
+-- whose pages are written: the pages of a flush, or the pages of a log that repairs
 pub data Purpose : Type 0 where
   Flush : Purpose
   Repair : Purpose
 
--- Each phase but the first names what the last call that was done has done: so many bytes of the log written, the log
--- synced, the raised sector written, then synced (so many bytes of the image stand), the pages synced, the last sector written.
+-- Each phase but the first names what the last call that was done has done. A number of bytes of the log is written;
+-- the log is synced. The raised sector is written; it is synced, and a number of bytes of the image is in the file. The
+-- pages are synced; the last sector is written.
 pub data FlushPhase : Type 0 where
   AtRest : FlushPhase
   WritingLog : ℕ → FlushPhase
@@ -20,8 +21,8 @@ pub data FlushPhase : Type 0 where
   PagesSynced : Purpose → FlushPhase
   HeaderWritten : Purpose → FlushPhase
 
--- What surely stands in the files; what is in memory, with its image and the pages in which the primary file may differ
--- from it; and what the flush writes.
+-- What is surely durable in the files. What is in memory, with its image and the pages in which the primary file may
+-- differ from it. What the flush writes.
 pub record FlushState (T : Type 0) : Type 0 where
   pub now : T × ℕ
   pub memory : T × ℕ
@@ -34,7 +35,7 @@ pub record Hive (T : Type 0) : Type 0 where
   pub work : FlushState T
   pub phase : FlushPhase
 
--- what the files hold while pages are written: a flush is under way; a repair changes nothing that is held
+-- what the files hold while pages are written: a flush is under way; a repair changes nothing of it
 abbrev pub choice_for : {T : Type 0} → Purpose → T × ℕ → T × ℕ → Choice (T × ℕ)
 choice_for Flush now memory = under_way now memory
 choice_for Repair now memory = settled memory

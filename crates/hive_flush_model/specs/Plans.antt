@@ -9,8 +9,8 @@ use Rattle.dirt_log.specs.WholeLog.{LogIsWhole, IsCovered, block_of, pages_in, p
 use Rattle.dirt_log.specs.FileContents.{SameWhereClean}
 use Rattle.hive_flush_model.specs.StoredTrees.{TreeDecoder, tree_under}
 
--- A primary file is behind an image: it has the image's bytes in each page that isn't dirty, and each such page is there. So
--- a log of the dirty pages repairs it. Pages may be marked without need, and none may lack its mark.
+-- A primary file is behind an image: it has the image's bytes in each page that isn't dirty, and each such page is
+-- there. So a log of the dirty pages repairs it. Pages may be marked without need, and none may lack its mark.
 pub record IsBehind (image : List ℕ) (pages : Pages) (primary : List ℕ) : Type 0 where
   pub same : SameWhereClean image (drop 4096 primary) pages
   pub covered : IsCovered (length (drop 4096 primary)) pages
@@ -19,17 +19,17 @@ pub record IsBehind (image : List ℕ) (pages : Pages) (primary : List ℕ) : Ty
 abbrev pub marked_block : BaseBlock → BaseBlock
 marked_block block = record block { primary = record { 0 = number_after block.secondary.0 } }
 
--- What a flush writes, made when it begins: the base block as it will be, the first sector with the raised primary number,
--- the first sector as it will be, and the log's text.
+-- What a flush writes, made when it begins. It is the base block as it will be, the first sector with the raised
+-- primary number, the first sector as it will be, and the log's encoding.
 pub record FlushPlan : Type 0 where
   pub block : BaseBlock
   pub raised : List ℕ
   pub final : List ℕ
   pub encoding : List ℕ
 
--- A plan fits an image: image and root stand for the tree in memory; the raised sector is unclean; the last one reads as the
--- block; and the log's text is whole, has the block's root, version, store and number, marks these pages, and repairs whatever is
--- behind the image to it.
+-- A plan fits an image: image and root encode the tree in memory; the raised sector is unclean; the last one reads as
+-- the block. The log's encoding is whole, has the block's root, version, store and number, marks these pages, and
+-- repairs whatever is behind the image to it.
 pub record PlanFitsImage {T : Type 0} (decode : TreeDecoder T) (memory : T × ℕ) (image : List ℕ) (pages : Pages) (plan : FlushPlan) : Type 0 where
   pub size : length image ≡ pages.bins_size
   pub own : IsPrimary plan.block
@@ -49,14 +49,14 @@ pub record PlanFitsImage {T : Type 0} (decode : TreeDecoder T) (memory : T × �
   pub log_pages : pages_in plan.encoding ≡ pages
   pub log_repairs : (bins : List ℕ) → SameWhereClean image bins pages → repaired bins pages (page_bytes_in plan.encoding) ≡ image
 
--- Absorbing marks each page that it changes, and each page behind the old end; no mark goes.
+-- Absorbing marks each page that it changes, and each page after the old end; no mark goes.
 pub record ChangesAreMarked (old_image : List ℕ) (old_pages : Pages) (new_image : List ℕ) (new_pages : Pages) : Type 0 where
   pub whole : new_pages.bins_size % 512 ≡ 0
   pub within : (page : ℕ) → page < new_pages.bins_size / 512 → is_dirty new_pages page ≡ false → page < old_pages.bins_size / 512
   pub kept : (page : ℕ) → is_dirty new_pages page ≡ false → is_dirty old_pages page ≡ false
   pub same : (i : ℕ) → i < new_pages.bins_size → is_dirty new_pages (i / 512) ≡ false → slice_index new_image i ≡ slice_index old_image i
 
--- no byte from one place up to another is in a dirty page
+-- no byte from one offset up to another is in a dirty page
 abbrev pub AreClean : Pages → ℕ → ℕ → Type 0
 AreClean pages from end = (i : ℕ) → from ≤ i → i < end → is_dirty pages (i / 512) ≡ false
 

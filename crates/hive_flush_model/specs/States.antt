@@ -20,7 +20,7 @@ pub record IsSectorOnWay (body sector : List ℕ) (primary : FileState) : Type 0
   pub greatest : primary.greatest ≡ length body
   pub ranges : AreAll sector primary.ranges
 
--- the range lies behind the base block, in dirty pages alone
+-- the range lies after the base block, in dirty pages alone
 pub record IsInDirty (pages : Pages) (range : WrittenRange) : Type 0 where
   pub behind : 4096 ≤ range.from
   pub dirty : (i : ℕ) → Covers range (4096 + i) → is_dirty pages (i / 512) ≡ true
@@ -29,8 +29,8 @@ abbrev pub AreInDirty : Pages → List WrittenRange → Type 0
 AreInDirty pages [] = ⊤
 AreInDirty pages (range ∷ ranges) = IsInDirty pages range × AreInDirty pages ranges
 
--- Since the last sync nothing but dirty pages were written; it left an unclean first sector, and the image's bytes in each
--- page that isn't dirty.
+-- Since the last sync nothing but dirty pages were written; it left an unclean first sector, and the image's bytes in
+-- each page that isn't dirty.
 pub record ArePagesOnWay (image : List ℕ) (pages : Pages) (primary : FileState) : Type 0 where
   pub unclean : is_clean_file primary.synced ≡ false
   pub same : SameWhereClean image (drop 4096 primary.synced) pages
@@ -39,28 +39,28 @@ pub record ArePagesOnWay (image : List ℕ) (pages : Pages) (primary : FileState
   pub covered : IsCovered (primary.least - 4096) pages
   pub ranges : AreInDirty pages primary.ranges
 
--- the image's first n bytes stand in the file
+-- the image's first n bytes are in the file
 abbrev pub Shows : List ℕ → ℕ → List ℕ → Type 0
 Shows image n file = (i : ℕ) → i < n → (4096 + i < length file) × (slice_index file (4096 + i) ≡ slice_index image i)
 
--- a read of the log gives the text's first n bytes at its beginning
+-- a read of the log gives the encoding's first n bytes at its beginning
 pub record LogHas (n : ℕ) (encoding seen : List ℕ) : Type 0 where
   pub within : n ≤ length encoding
   pub long : n ≤ length seen
   pub front : take n seen ≡ take n encoding
 
--- the log is at rest, and the text stands at its beginning; what an older log left may follow
+-- the log is at rest, and the encoding is at its beginning; what an older log left may follow
 pub record HasLog (encoding : List ℕ) (log : FileState) : Type 0 where
   pub rest : log ≡ at_rest log.synced
   pub front : take (length encoding) log.synced ≡ encoding
 
--- the primary file is at rest, clean, holds what stands, and is behind the image
+-- the primary file is at rest, clean, holds what is durable, and is behind the image
 pub record IsAtRest {T : Type 0} (decode : TreeDecoder T) (work : FlushState T) (primary : FileState) : Type 0 where
   pub rest : primary ≡ at_rest primary.synced
   pub clean : CleanPrimaryHolds decode primary.synced work.now
   pub behind : IsBehind work.image work.pages primary.synced
 
--- the log is written to this place, and the primary file untouched
+-- the log is written up to this offset, and the primary file untouched
 pub record IsWritingLog {T : Type 0} (decode : TreeDecoder T) (work : FlushState T) (n : ℕ) (primary log : FileState) : Type 0 where
   pub ready : PlanFitsImage decode work.memory work.image work.pages work.plan
   pub quiet : IsAtRest decode work primary
@@ -79,7 +79,7 @@ pub record IsPrimaryMarkedDirty {T : Type 0} (decode : TreeDecoder T) (work : Fl
   pub logged : IsLogSynced decode work primary log
   pub shown : take 512 primary.seen ≡ work.plan.raised
 
--- the primary file is unclean, and the image is written to this place
+-- the primary file is unclean, and the image is written up to this offset
 pub record IsWritingPages {T : Type 0} (decode : TreeDecoder T) (work : FlushState T) (n : ℕ) (primary log : FileState) : Type 0 where
   pub ready : PlanFitsImage decode work.memory work.image work.pages work.plan
   pub pages : ArePagesOnWay work.image work.pages primary
@@ -114,8 +114,8 @@ files_match_phase decode work (HeaderWritten cause) primary log = IsHeaderWritte
 abbrev pub is_on : {T : Type 0} → TreeDecoder T → Hive T → FileState → FileState → Type 0
 is_on decode hive primary log = files_match_phase decode hive.work hive.phase primary log
 
--- Behind the sync of the log, and behind that of the pages, the primary file is at rest, as long as no write of its first sector has
--- failed.
+-- The primary file is at rest after the sync of the log and after the sync of the pages, as long as no write of its
+-- first sector has failed.
 abbrev pub PrimaryIsSyncedIn : FlushPhase → FileState → Type 0
 PrimaryIsSyncedIn AtRest primary = ⊤
 PrimaryIsSyncedIn (WritingLog n) primary = ⊤

@@ -1,24 +1,25 @@
--- What a hive's two files hold together (regf format, base block and transaction log). Which tree an image stands for is
--- given from outside: the words and laws here are of any such rule.
+-- What a hive's two files hold together (regf format, base block and transaction log). Which tree an image encodes is
+-- given from outside: the definitions and laws here are of any such rule.
 use Rattle.std.specs.Prelude.{◌≡◌, ℕ, ◌+◌, ◌≤◌, true, false, List, length, take, drop, Option, Some}
 use Rattle.base_block.specs.declared.block.BaseBlock.{BaseBlock}
 use Rattle.base_block.specs.Judgements.{IsPrimary}
 use Rattle.dirt_log.specs.WholeLog.{block_of}
 use Rattle.dirt_log.specs.FileContents.{is_clean_file, FilesDecodeTo}
 
--- A rule for images: the tree, if any, that bins data stand for, given the offset of their root cell, the minor version by
--- which they are read, and the store that their hive belongs to.
+-- A rule for images. It gives the tree, if any, that bins data encode. It is given the offset of their root cell, the
+-- minor version by which they are read, and the store that their hive belongs to.
 abbrev pub TreeDecoder : Type 0 → Type 0
 TreeDecoder T = List ℕ → ℕ → ℕ → List ℕ → Option T
 
--- the tree that bins data stand for under a base block
+-- the tree that bins data encode under a base block
 abbrev pub tree_under : {T : Type 0} → TreeDecoder T → BaseBlock → List ℕ → Option T
 tree_under decode block bins = decode bins block.root block.minor block.store
 
--- A primary file and its log hold a tree and a number: the block that is in use names the number, and the bins data that are
--- in use stand for the tree. The block in use is the primary file's own where it is clean, and then that of a primary file;
--- else it is the log's, which repairs the bins data. An unclean primary file is repaired only where its first sector is there:
--- to one that is shorter a write of a page puts zeros, which could make its first sector clean before the repair is done.
+-- A primary file and its log hold a tree and a number. The block that is in use names the number, and the bins data
+-- that are in use encode the tree. The block in use is the primary file's own if the file is clean, and then it is a
+-- block of a primary file. Otherwise it is the log's, which repairs the bins data. An unclean primary file is repaired
+-- only if its first sector is there. In a shorter file a write of a page puts zeros, which could make the first sector
+-- clean before the repair is done.
 pub record FilesHoldTree {T : Type 0} (decode : TreeDecoder T) (primary log : List ℕ) (held : T × ℕ) : Type 0 where
   pub block : BaseBlock
   pub bins : List ℕ

@@ -47,8 +47,8 @@ pub fn at_most_one_tree<T>()
         FilesHoldTree decode p l x ↔ (held decode p l ≡ Some x) }
 {}
 
-/// In each phase of a flush and of a repair: whatever a crash may leave of both files, with an honest
-/// first sector of the primary file, holds what the hive's choice leaves; also by the function `held`.
+/// A law of each phase of a flush and of a repair. Whatever a crash may leave of both files, with an honest first
+/// sector of the primary file, holds what the hive's choice leaves. The function `held` says the same.
 pub fn crash_leaves_choice<T>()
     ensures related { (decode : TreeDecoder T) (hive : Hive T) (p l : FileState) →
         is_on decode hive p l →
@@ -58,13 +58,14 @@ pub fn crash_leaves_choice<T>()
         HiveOn (HoldsBy (held decode)) (choice hive) (λ c. Leaves p c × IsHonest p c) (Leaves l) }
 {}
 
-/// What a read gives of the primary file has an honest first sector in each phase, as long as no write of that sector has failed.
+/// What a read gives of the primary file has an honest first sector in each phase, as long as no write of that sector
+/// has failed.
 pub fn reads_are_honest<T>()
     ensures { (decode : TreeDecoder T) (work : FlushState T) (phase : FlushPhase) (p l : FileState) →
         IsSound p → files_match_phase decode work phase p l → PrimaryIsSyncedIn phase p → IsHonest p p.seen }
 {}
 
-/// Where no device call is made: a flush and a repair begin, and a quiet hive absorbs.
+/// Steps without a device call: a flush and a repair begin, and a quiet hive absorbs.
 pub fn without_calls<T>()
     ensures begins { (decode : TreeDecoder T) (work : FlushState T) (p l : FileState) →
         PlanFitsImage decode work.memory work.image work.pages work.plan →
@@ -80,7 +81,7 @@ pub fn without_calls<T>()
         files_match_phase decode (record work { memory = memory; image = image; pages = pages }) AtRest p l }
 {}
 
-/// The calls on the log: a piece is written behind the last one, and the whole text is synced.
+/// The calls on the log: a chunk is written after the last one, and the whole encoding is synced.
 pub fn log_calls<T>()
     ensures written { (decode : TreeDecoder T) (work : FlushState T) (n : ℕ) (chunk : List ℕ)
         (p l new : FileState) → files_match_phase decode work (WritingLog n) p l →
@@ -128,7 +129,7 @@ pub fn page_calls<T>()
         files_match_phase decode work (PagesSynced purpose) new l }
 {}
 
-/// The calls on the last first sector. After its sync what was in memory stands, and no page differs.
+/// The calls on the last first sector. After its sync what was in memory is durable, and no page differs.
 pub fn header_calls<T>()
     ensures written { (decode : TreeDecoder T) (work : FlushState T) (p l new : FileState)
         (purpose : Purpose) →
@@ -144,9 +145,8 @@ pub fn header_calls<T>()
         files_match_phase decode (record work { now = work.memory; pages = pages }) AtRest new l }
 {}
 
-/// Plans can be made. For a flush from what writing sectors and the log ensures: the raised number,
-/// which may wrap, never is the one below it. For a repair from a whole log that covers an unclean
-/// primary file.
+/// Plans can be made. A plan of a flush comes from what writing sectors and the log ensures. The raised number, which
+/// may wrap, never is the one below it. A plan of a repair comes from a whole log that covers an unclean primary file.
 pub fn plans<T>()
     ensures flush { (decode : TreeDecoder T) (memory : T × ℕ) (image : List ℕ) (pages : Pages)
         (old : BaseBlock) (plan : FlushPlan) → length image ≡ pages.bins_size →
@@ -183,8 +183,8 @@ pub fn plans<T>()
 
 /// A law, of all lists of numbers that are at least 512 long, be they bytes or not.
 ///
-/// - `same`: the sum is right as the disk says it exactly where the base block that is read has `sum_is_right`.
-/// - `front`: the same of the first 512, which is what honesty of a whole file speaks of.
+/// - `same`: the sum is right as the disk says it exactly if the base block that is read has `sum_is_right`.
+/// - `front`: the same of the first 512, which is what honesty of a whole file is about.
 pub fn right_sums_agree()
     ensures same { (sector : List ℕ) → 512 ≤ length sector →
         HasRightSum sector ↔ IsTrue (block_at sector).sum_is_right }

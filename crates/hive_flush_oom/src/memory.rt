@@ -1,4 +1,5 @@
-//! A hive's calls with memory refused: what is refused changes nothing, and the call made again is as if nothing had been.
+//! A hive's calls with memory refused: what is refused changes nothing, and the call made again is as if nothing had
+//! been.
 ghost use Rattle.hive_flush.specs.HiveStates.{HiveIsRepaired};
 
 use crate::timing::encoded;
@@ -118,7 +119,7 @@ impl HiveDriver {
     }
 }
 
-/// Makes steps of a flush until it is done, at most so many.
+/// Makes steps of a flush until it is done, at most this many.
 #[cycle(flushing)]
 pub(crate) fn flushed(disk: &mut MemDisk, file: &mut HiveFile, most: u32) -> Result<(), Fault>
     requires { HiveIsRepaired file.old }

@@ -26,7 +26,7 @@ const BINS_AT: u64 = 4_096;
 
 const SECTOR_BYTES: u64 = 512;
 
-// the data of a value, and the place of the byte that is changed
+// the data of a value, and the index of the byte that is changed
 const VALUE_BYTES: usize = 16_000;
 
 const PLACE: usize = 8_000;
@@ -34,7 +34,7 @@ const PLACE: usize = 8_000;
 // more steps than a flush takes
 const MANY: u32 = 100_000;
 
-/// Plays a line: how many values, and how many bytes of bins data at least.
+/// Runs a line: how many values, and how many bytes of bins data at least.
 pub(crate) fn play<R: Print + CpuClock>(rt: &R, alloc: Global, line: &str) -> Result<(), Fault> {
     let words: Vec<&str> = line.split_whitespace().collect(alloc)?;
     let [values, bytes] = words.as_slice() else {
@@ -90,7 +90,7 @@ fn name(alloc: Global, number: usize) -> Result<ValueName, Fault> {
     Ok(Name::value(alloc, &units)?)
 }
 
-// sets the value of a number, with a byte that tells
+// sets the value of a number, with a byte that differs
 fn setting(alloc: Global, number: usize, tells: u8) -> Result<Op, Fault> {
     let mut bytes = vec![in alloc; 0x5a; VALUE_BYTES]?;
     if let Some(byte) = bytes.get_mut(PLACE) {
@@ -120,7 +120,7 @@ fn change(alloc: Global, number: usize) -> Result<Element, Fault> {
     Ok(Element { moment: 7, ops })
 }
 
-// a tree of so many values of the root
+// a tree with this many values of the root
 fn tree(alloc: Global, values: usize) -> Result<Trees, Fault> {
     let mut ops = Vec::new(alloc);
     for number in 0..values {
@@ -129,7 +129,7 @@ fn tree(alloc: Global, values: usize) -> Result<Trees, Fault> {
     Ok(Trees::new(alloc, 1)?.apply_ops(alloc, &ops, 7)?)
 }
 
-// a disk with hive 0: so many values, in bins data of at least so many bytes
+// a disk with hive 0: this many values, in bins data of at least this many bytes
 fn made(alloc: Global, values: usize, least: u32) -> Result<MemDisk, Fault> {
     let trees = tree(alloc, values)?;
     let Some(tree) = trees.tree(0) else {

@@ -8,7 +8,7 @@ use std::alloc::Global;
 /// The moment of every change.
 pub const MOMENT: u64 = 7;
 
-/// The byte that a value's data have but at one place.
+/// The byte that a value's data have but at one index.
 const FILLER: u8 = 0x5a;
 
 /// A change of these operations.
@@ -30,7 +30,8 @@ pub fn creation(alloc: Global, letter: u8) -> Result<Element, Refusal> {
     change(ops)
 }
 
-/// Writes a value of the root, of one letter: so many bytes, of which the one at a place tells.
+/// Writes a value of the root, of one letter: a number of bytes, of which the one at an index
+/// differs.
 pub fn setting(
     alloc: Global,
     letter: u8,

@@ -9,7 +9,7 @@ use std::alloc::Global;
 use std::test::Fail;
 use uuid::Uuid;
 
-// a disk on which hive 0 of the store is made where another one was, of which the log is left
+// a disk on which hive 0 of the store is made in place of another one, whose log is left
 fn made(alloc: Global) -> Result<MemDisk, Refusal> {
     let mut disk = fresh(alloc, 3)?;
     let mut file = open(alloc, &mut disk)?;

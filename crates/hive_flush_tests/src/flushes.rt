@@ -47,7 +47,8 @@ fn each_stop_leaves_the_old_tree_or_the_new(rt: HostRuntime) -> Result<(), Fail>
     let alloc = rt.alloc();
     let before = (0, false);
     let after = (1, true);
-    // the log, its sync, the raised sector: from there on a crash may leave it; its sync: from there on it is surely there
+    // the log, its sync, the raised sector: from there on a crash may leave it; its sync: from there on it is surely
+    // there
     let outcomes = [
         [before, before, before],
         [before, before, before],

@@ -1,4 +1,4 @@
-//! A hive that grows by so much that its log is in three pieces, and a run of its pages in several writes.
+//! A hive that grows by so much that its log is in three chunks, and a run of its pages in several writes.
 use crate::changes::{change, setting};
 use crate::hives::{LOG, PRIMARY, byte_of, bytes_of, flushed, fresh, left, open, open_whole};
 use crate::stops::{TEARS, stopped};
@@ -8,14 +8,14 @@ use reg_tree::Element;
 use std::alloc::Global;
 use std::test::Fail;
 
-/// A value of so many bytes, of which the last tells.
+/// The length of a value, whose last byte differs.
 const LEN: usize = 150_000;
 
 const PLACE: usize = LEN - 1;
 
 const TELLS: u8 = 0x33;
 
-// of the format: where bins data begin, and a page; a piece of a log, and how many pages a write takes
+// of the format: where bins data begin, and a page; a chunk of a log, and how many pages a write takes
 const BINS_AT: usize = 4_096;
 
 const PAGE: usize = 512;
@@ -59,8 +59,8 @@ fn writes(old: &[u8], new: &[u8]) -> (usize, usize) {
     (dirty, writes)
 }
 
-// where the pages begin in the log of bins data of so many bytes: behind a sector, four letters and a bit for each page, in whole
-// sectors
+// where the pages begin in the log of bins data of this many bytes: after a sector, four letters and a bit for each
+// page, in whole sectors
 fn pages_at(bins: usize) -> usize {
     let bitmap = bins / PAGE / 8;
     bitmap
@@ -91,7 +91,7 @@ fn a_hive_that_grows_is_written_in_pieces(rt: HostRuntime) -> Result<(), Fail> {
     Ok(())
 }
 
-// the number of what is opened of a disk, once it is repaired, and what the value tells there
+// the number of what is opened of a disk, once it is repaired, and the value's last byte there
 fn found(alloc: Global, disk: &mut MemDisk) -> Result<(u64, u8), Refusal> {
     let file = open_whole(alloc, disk)?;
     let told = match byte_of(alloc, file.tree(), b'V', PLACE) {
@@ -110,7 +110,7 @@ fn each_stop_of_it_leaves_the_old_tree_or_the_new(rt: HostRuntime) -> Result<(),
     let after = (1, TELLS);
     for call in 1..13 {
         let stopped = stopped(alloc, &disk, call, growth(alloc)?, 1)?;
-        // three pieces and their sync; the raised sector and its sync, which isn't done
+        // three chunks and their sync; the raised sector and its sync, which isn't done
         let outcome = if call <= 4 {
             [before, before, before]
         } else if call <= 6 {

@@ -10,7 +10,7 @@ use std::alloc::Global;
 // where the bins data begin in a primary file
 const BINS_AT: usize = 4_096;
 
-/// The number and the tree that the files hold: those of the primary file where it is clean, else those that the log repairs.
+/// The number and the tree that the files hold: the primary file's if it is clean, else what the log repairs.
 pub fn held(alloc: Global, disk: &mut MemDisk) -> Result<(u64, Tree), Refusal> {
     let primary = bytes_of(alloc, disk, PRIMARY)?;
     let own = first_block(&primary)?;
@@ -35,7 +35,7 @@ fn truncated() -> Refusal {
     Refusal::from(Cause::Truncated)
 }
 
-// the number of a block, and the tree that bins data stand for under it
+// the number of a block, and the tree that bins data encode under it
 fn tree_under(alloc: Global, block: &BaseBlock, bins: Vec<u8>) -> Result<(u64, Tree), Refusal> {
     let (tree, _bins) = load_bins(alloc, bins, block.root, block.minor)?;
     Ok((block.applied.0, tree))

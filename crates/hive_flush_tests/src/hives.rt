@@ -71,7 +71,7 @@ pub fn repaired(file: &mut HiveFile, disk: &mut MemDisk) -> Result<u32, Refusal>
     repair_on(file, disk, 0, MANY)
 }
 
-// the same behind so many steps, with at most so many more
+// the same after this many steps, with at most this many more
 #[cycle(repairs)]
 fn repair_on(
     file: &mut HiveFile,
@@ -111,7 +111,7 @@ pub fn flushed(
     }
 }
 
-// flushes on behind so many steps, with at most so many more
+// flushes on after this many steps, with at most this many more
 #[cycle(flushing)]
 fn flush_on(file: &mut HiveFile, disk: &mut MemDisk, made: u32, most: u32) -> Result<u32, Refusal>
     requires { HiveIsRepaired file.old }
@@ -132,7 +132,7 @@ pub fn has(alloc: Global, file: &HiveFile, letter: u8) -> Result<bool, Refusal> 
     Ok(file.tree().query_info(&path).is_ok())
 }
 
-/// The byte at a place of a value of the root, of one letter; 0 where it isn't there.
+/// The byte at an index of a value of the root, of one letter; 0 if it isn't there.
 pub fn byte_of(alloc: Global, tree: &Tree, letter: u8, place: usize) -> Result<u8, Refusal> {
     let path = Path::root(alloc)?;
     let name = Name::value(alloc, &[u16::from(letter)])?;

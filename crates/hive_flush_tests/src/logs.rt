@@ -6,7 +6,8 @@ use refusals::Refusal;
 use std::alloc::Global;
 use std::test::Fail;
 
-// the calls of an opening of a clean primary file: its sync, and for its first sector and its bins data a length and a read
+// the calls of an opening of a clean primary file: its sync, and for its first sector and its bins data a length and a
+// read
 const CALLS: u64 = 5;
 
 // a disk with a hive that was flushed twice, and the log of the first flush
@@ -19,8 +20,8 @@ fn flushed_twice(alloc: Global) -> Result<(MemDisk, Vec<u8>), Refusal> {
     Ok((disk, older))
 }
 
-// what is opened where these bytes are the log, and no call may be made beside those on the primary file: the number, and whether
-// the keys of both flushes are there
+// what is opened if these bytes are the log, and no call may be made beside those on the primary file: the number, and
+// whether the keys of both flushes are there
 fn opened_beside(
     alloc: Global,
     disk: &mut MemDisk,

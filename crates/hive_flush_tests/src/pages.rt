@@ -11,12 +11,12 @@ use reg_tree::{Element, Tree};
 use std::alloc::Global;
 use std::test::Fail;
 
-/// What a value tells before the flush, and after it.
+/// The byte that each value has before the flush, and the byte after it.
 const BEFORE: u8 = 0x11;
 
 const AFTER: u8 = 0x22;
 
-/// Three values of four pages each: where the byte that tells is, one page has it.
+/// Three values of four pages each: the byte that differs is in one page.
 const LETTERS: [u8; 3] = [b'A', b'B', b'C'];
 
 const LEN: usize = 2_000;
@@ -32,8 +32,8 @@ fn telling(alloc: Global, byte: u8) -> Result<Element, Refusal> {
     change(ops)
 }
 
-// A disk with a hive in which they tell of before, at number 2. It is flushed twice, so that its image is laid out as the next
-// one of as many bytes is.
+// A disk with a hive whose values have the byte from before, at number 2. It is flushed twice, so that its image is
+// laid out as the next one of as many bytes is.
 fn begun(alloc: Global) -> Result<MemDisk, Refusal> {
     let mut disk = fresh(alloc, 1)?;
     let mut file = open(alloc, &mut disk)?;
@@ -47,7 +47,7 @@ fn begun(alloc: Global) -> Result<MemDisk, Refusal> {
     Ok(disk)
 }
 
-// what the three values tell
+// the bytes of the three values
 fn told(alloc: Global, tree: &Tree) -> Result<[u8; 3], Refusal> {
     let [first, second, third] = LETTERS;
     Ok([
@@ -57,7 +57,7 @@ fn told(alloc: Global, tree: &Tree) -> Result<[u8; 3], Refusal> {
     ])
 }
 
-// what is opened of a disk, once it is repaired: the number and what the three values tell
+// what is opened of a disk, once it is repaired: the number and the bytes of the three values
 fn found(alloc: Global, disk: &mut MemDisk) -> Result<(u64, [u8; 3]), Refusal> {
     let file = open_whole(alloc, disk)?;
     Ok((file.applied(), told(alloc, file.tree())?))
@@ -86,8 +86,8 @@ fn each_stop_of_a_flush_leaves_all_of_one_tree(rt: HostRuntime) -> Result<(), Fa
     let before = (2, [BEFORE; 3]);
     let after = (3, [AFTER; 3]);
     let disk = begun(alloc)?;
-    // the log, its sync; the raised sector, its sync, which isn't done: from there on a crash may leave it; three pages and their
-    // sync, the last sector and its sync
+    // the log, its sync; the raised sector, its sync, which isn't done: from there on a crash may leave it; three pages
+    // and their sync, the last sector and its sync
     let outcomes = [
         [before, before, before],
         [before, before, before],
@@ -147,7 +147,8 @@ fn repair_calls(alloc: Global, disk: &MemDisk) -> Result<u64, Refusal> {
     Ok(u64::from(repaired(&mut file, &mut disk)?))
 }
 
-// the first call of a repair, and the tear, at which a stop leaves anything but the tree and the number of after the flush
+// the first call of a repair, and the tear, at which a stop leaves anything but the tree and the number of after the
+// flush
 fn first_loss(alloc: Global, disk: &MemDisk) -> Result<Option<(u64, Tear)>, Refusal> {
     let kept = (3, (3, [AFTER; 3]));
     for call in 1..REPAIR + 1 {
@@ -163,7 +164,7 @@ fn first_loss(alloc: Global, disk: &MemDisk) -> Result<Option<(u64, Tear)>, Refu
 #[test]
 fn each_stop_of_a_repair_leaves_the_same(rt: HostRuntime) -> Result<(), Fail> {
     let alloc = rt.alloc();
-    // the raised sector stands, and no page
+    // the raised sector is durable, and no page
     let disk = unrepaired(alloc, 8, Tear::Old)?;
     assert_eq!(&rt; repair_calls(alloc, &disk)?, REPAIR);
     assert_eq!(&rt; first_loss(alloc, &disk)?, None);
@@ -175,7 +176,7 @@ fn each_stop_of_a_repair_behind_a_torn_last_sector_leaves_the_same(
     rt: HostRuntime,
 ) -> Result<(), Fail> {
     let alloc = rt.alloc();
-    // all pages stand, and of the last sector the last byte is wrong
+    // all pages are durable, and of the last sector the last byte is wrong
     let disk = unrepaired(alloc, 9, Tear::Torn)?;
     assert_eq!(&rt; repair_calls(alloc, &disk)?, REPAIR);
     assert_eq!(&rt; first_loss(alloc, &disk)?, None);

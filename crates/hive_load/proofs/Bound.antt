@@ -10,7 +10,7 @@ use Rattle.hive_cells.specs.Tiles.{IsAllocatedCell}
 use Rattle.hive_load_parts.specs.CellReads.{marks_of, set_flags, Spreads}
 use Rattle.hive_load.specs.Limits.{AreAllCells}
 
--- the offsets at which flags are set, from a place on
+-- the offsets at which flags are set, from an index on
 abbrev places : List Bool → ℕ → List ℕ
 places [] k = []
 places (true ∷ flags) k = 8 * k ∷ places flags (suc k)
@@ -70,7 +70,7 @@ few_flags bytes seen marked cells all =
     let count = length_places seen 0 in
     omega (arith, most, count)
 
--- looks that set flags where none was set
+-- looks that set flags if none was set
 pub few_looks : (bytes : List ℕ) (seen new : List Bool) (before after : ℕ) → ((at : ℕ) → marks_of seen at ≡ false) → Spreads bytes seen new → after + 2 * set_flags seen ≤ before + 2 * set_flags new + 2 → (cells : List ℕ) → AreAllCells bytes cells → after ≤ before + 2 * length cells + 2
 few_looks bytes seen new before after unset s works cells all =
     let few = few_flags bytes new (λ at h. by_either at (s.cells at h)) cells all in

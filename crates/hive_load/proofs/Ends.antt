@@ -41,7 +41,7 @@ step_no : (at : ℕ) (p : KeyParts Row) (below after : Keys Row) (n : List ℕ) 
 step_no at p below after n [] e = no_if (same n p.name) (Some p.row) (row_in after (n ∷ [])) e
 step_no at p below after n (m ∷ path) e = no_if (same n p.name) (row_in below (m ∷ path)) (row_in after (n ∷ m ∷ path)) e
 
--- where keys lie on so many levels at most, a path to a row has so many names at most
+-- if keys lie on at most a number of levels, a path to a row has at most as many names
 pub shallow_row : (levels : ℕ) (keys : Keys Row) → IsShallow levels keys → (path : List (List ℕ)) (r : Row) → row_in keys path ≡ Some r → length path ≤ levels
 shallow_row levels none h path r e = some_none r e
 shallow_row zero (key at p below after) h path r e = absurd h

@@ -208,7 +208,7 @@ module _ (split : Bool) (cells : Cells) (at : ℕ) (old mid : CellMarks) (row : 
 pub key_unread : (split : Bool) (cells : Cells) (at : ℕ) (old new : CellMarks) (levels : ℕ) (why : Refusal) → Follows (key_at split at) cells old new (Err why) → RefusesKey split cells old levels at why
 key_unread split cells at old new levels why h = elim (key_told split cells at old new why h) [ inl e ↦ inl e | inr t ↦ inr (inr t) ]
 
--- the answer of a key whose subkeys were loaded is that of its node
+-- the answer of a key whose subkeys were loaded is the answer of its node
 module _ (split : Bool) (cells : Cells) (at : ℕ) (old mid new : CellMarks) (row : Row) (subkey_list : List ℕ) (read : Follows (key_at split at) cells old mid (Ok (row, subkey_list))) where
   pub node_answers : (had between has : List (ℕ × List ℕ)) (below levels : ℕ) (nodes : List (List ℕ × Entries)) (result : Result Entries Refusal) → suc below ≡ levels → KeepsDescriptors had between (lends_in split cells at) → LoadsKeys split cells mid new between has below subkey_list nodes →
       MatchResult result (λ node. (sorted : List (List ℕ × Entries)) × (node ≡ entries_of row sorted) × AreSiblings nodes sorted) (λ why. NoSiblings nodes why) →

@@ -46,7 +46,7 @@ once (n ∷ names) d = (none_in n names d.0, once names d.1)
 pub once_shuffled : (xs ys : List (List ℕ)) → IsPermutation xs ys → Once xs → Once ys
 once_shuffled xs ys p o = once ys (IsDistinct-IsPermutation same flips xs ys p (distinct xs o))
 
--- ---- names that rise stand once, and nodes that have the same places
+-- ---- names that rise are there once, and nodes with the same names
 
 abbrev pub AreFoundIn : List (List ℕ × Entries) → List (List ℕ × Entries) → Type 0
 AreFoundIn xs ys = (name : List ℕ) → find name_order name ys ≡ find name_order name xs
@@ -56,7 +56,7 @@ in_names [] n e h = h
 in_names (x ∷ xs) n e (inl g) = inl (ap (λ (z : List ℕ × Entries). z.0) g)
 in_names (x ∷ xs) n e (inr h) = inr (in_names xs n e h)
 
--- what stands in nodes whose names are apart is found
+-- what is in nodes whose names are apart is found
 found : (xs : List (List ℕ × Entries)) → Once (names_of xs) → (n : List ℕ) (e : Entries) → IsIn (n, e) xs → find name_order n xs ≡ Some e
 found [] o n e h = absurd h
 found (x ∷ xs) o n e (inl g) = ap (λ (z : List ℕ × Entries). cond (same n z.0) (Some z.1) (find name_order n xs)) (sym g) ∙ ap (λ b. cond b (Some e) (find name_order n xs)) (same_itself n)
@@ -113,7 +113,7 @@ are_nodes (y ∷ ys) h = (h y (inl refl), are_nodes ys (λ x i. h x (inr i)))
 pub nodes_shuffled : (xs ys : List (List ℕ × Entries)) → IsPermutation xs ys → AreNodes xs → AreNodes ys
 nodes_shuffled xs ys p h = are_nodes ys (λ x i. node_in xs h x (in_shuffled ys xs (IsPermutation-sym xs ys p) x i))
 
--- ---- the names that rise stand once
+-- ---- the names that rise are there once
 
 front_true : (a b : Bool) → (a && b) ≡ true → a ≡ true
 front_true true b h = refl

@@ -19,7 +19,7 @@ use Rattle.hive_load.specs.Nodes.{names_of}
 abbrev pub Nodes : Type 0
 Nodes = List (Arc Entries Global)
 
--- the name of the node at a place
+-- the name of the node at an index
 abbrev pub name_at : Nodes → ℕ → Arc Entries Global → List ℕ
 name_at nodes k d = root_name (arc_value (get_or nodes k d))
 

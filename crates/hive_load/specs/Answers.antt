@@ -15,17 +15,17 @@ use Rattle.hive_load_parts.specs.CellReads.{set_flags}
 use Rattle.hive_load_parts.specs.Nodes.{AreListed}
 use Rattle.hive_load_parts.specs.Descriptors.{KeepsDescriptors}
 
--- keys that lie on at most so many levels
+-- keys that lie on at most a number of levels
 abbrev pub IsShallow : ℕ → Keys Row → Type 0
 IsShallow levels none = Unit {0}
 IsShallow zero (key at parts below after) = ⊥
 IsShallow (suc levels) (key at parts below after) = IsShallow levels below × IsShallow (suc levels) after
 
--- a way of so many steps or more leads from the key at an offset to a key that is read
+-- a way of a number of steps or more leads from the key at an offset to a key that is read
 abbrev pub Reaches : KeyReader Row Refusal → ℕ → ℕ → Type 0
 Reaches reads at levels = (way : List ℕ) × (to : ℕ) × (parts : KeyParts Row) × WayLeadsTo reads at way to × (reads to ≡ Ok parts) × (levels ≤ length way)
 
--- a fault in or below the key at an offset, where cells were marked before
+-- a fault in or below the key at an offset, if cells were marked before
 abbrev pub Faults : Bool → Cells → CellMarks → ℕ → Refusal → Type 0
 Faults split cells marks at why = HasFault (trail_in split cells) (keys_in split cells) (refusal.HiveDamaged 0 cause.BadName) (refusal.HiveDamaged 0 cause.Shared) marks at why
 
@@ -56,7 +56,7 @@ pub record LoadsKeys (split : Bool) (cells : Cells) (old new : CellMarks) (had h
   pub shallow : IsShallow levels keys
   pub keeps : KeepsDescriptors had has (lent_cells keys)
 
--- one of them is refused behind those before it
+-- one of them is refused after those before it
 abbrev pub RefusesKeys : Bool → Cells → CellMarks → ℕ → List ℕ → Refusal → Type 0
 RefusesKeys split cells old levels listed why =
     (why ≡ refusal.NoMemory)

@@ -17,25 +17,25 @@ pub record TreeIsInLimits (tree : TreeMap) : Type 0 where
   pub light : weight tree ≤ MOST_WEIGHT
   pub shallow : (path : List (List ℕ)) (key : Row) → row tree path ≡ Some key → length path ≤ MOST_PATH_NAMES
 
--- the data stand, from the root's offset on, for the tree, and it is within the limits
+-- the data encode the tree, from the root's offset on, and it is within the limits
 abbrev pub BinsEncodeTreeInLimits : List ℕ → ℕ → ℕ → TreeMap → Type 0
 BinsEncodeTreeInLimits bytes root minor tree = BinsEncodeTree bytes root minor tree × TreeIsInLimits tree
 
--- a tree stands that weighs too much; a key that can be read lies too deep
+-- the data encode a tree that weighs too much; a key that can be read lies too deep
 abbrev pub IsTooHeavy : List ℕ → ℕ → ℕ → Type 0
 IsTooHeavy bytes root minor = (tree : TreeMap) × BinsEncodeTree bytes root minor tree × (MOST_WEIGHT < weight tree)
 
 abbrev pub IsTooDeep : List ℕ → ℕ → ℕ → Type 0
 IsTooDeep bytes root minor = (cells : Cells) × Shows bytes cells × HasDeeperKey (keys_in (splits minor) cells) root MOST_PATH_NAMES
 
--- why data are refused: memory was not given, a limit is passed, or a fault stands in them
+-- why data are refused: memory was not given, a limit is passed, or a fault is in them
 abbrev pub LoadRefused : List ℕ → ℕ → ℕ → Refusal → Type 0
 LoadRefused bytes root minor why =
     (why ≡ refusal.NoMemory)
     ⊎ (((why ≡ refusal.TooLarge) × (IsTooHeavy bytes root minor ⊎ IsTooDeep bytes root minor))
     ⊎ FaultFor bytes root minor why)
 
--- so it is of data whose bins and cells needn't tile
+-- the same of data whose bins and cells needn't tile
 abbrev pub BinsRefused : List ℕ → ℕ → ℕ → Refusal → Type 0
 BinsRefused bytes root minor why = DataRefused bytes why ⊎ LoadRefused bytes root minor why
 

@@ -1,4 +1,4 @@
--- Nodes of a key's subkeys, whose names are to be told apart.
+-- Nodes of a key's subkeys, whose names are to be compared.
 use Rattle.std.specs.Prelude.{◌≡◌, ◌⊎◌, ℕ, List, [], map, T}
 use Rattle.std.specs.List.Sorted.{IsPermutation}
 use Rattle.std.specs.FinMap.Entries.{is_sorted}

@@ -1,4 +1,4 @@
-//! The tree of hive bins data as they stand in a file.
+//! The tree of hive bins data as they are in a file.
 ghost use Rattle.std.specs.Prelude.{◌≡◌, IfOk, IfErr};
 ghost use Rattle.hive_load.specs.Limits.{BinsEncodeTreeInLimits, BinsRefused};
 
@@ -8,10 +8,10 @@ use refusals::Refusal;
 use reg_tree::Tree;
 use std::alloc::Global;
 
-/// The registry tree that hive bins data stand for, from the key node at an offset on, and the data given back: what
-/// [`Image::open`] and [`load`] answer one after the other.
+/// The registry tree that hive bins data encode, from the key node at an offset on, and the data given back. The answer
+/// is what [`Image::open`] and [`load`] answer one after the other.
 ///
-/// Refused as they are: with `HiveDamaged` of hive 0 and a cause that stands in the data, with `Unsupported`, with
+/// Refused as they are: with `HiveDamaged` of hive 0 and a cause that is true of the data, with `Unsupported`, with
 /// `TooLarge`, and with `NoMemory`.
 pub fn load_bins(
     alloc: Global,

@@ -6,13 +6,13 @@ ghost use Rattle.reg_tree.specs.Maps.{TreeMap};
 ghost use Rattle.hive_records.specs.Images.{BinsEncodeTree};
 ghost use Rattle.hive_load.specs.Limits.{BinsRefused, BinsEncodeTreeInLimits, TreeIsInLimits, LoadRefused};
 
-/// An image that is refused, but for want of memory, stands for no tree within the limits.
+/// An image that is refused, but for want of memory, encodes no tree within the limits.
 pub fn refusals_exclude_trees()
     ensures { (bytes : List ℕ) (root minor : ℕ) (why : Refusal) → LoadRefused bytes root minor why →
         why ≢ NoMemory → (tree : TreeMap) → BinsEncodeTree bytes root minor tree → TreeIsInLimits tree → ⊥ }
 {}
 
-/// Bins data that are refused, but for want of memory, stand for no tree within the limits.
+/// Bins data that are refused, but for want of memory, encode no tree within the limits.
 pub fn refused_bins_exclude_trees()
     ensures { (bytes : List ℕ) (root minor : ℕ) (why : Refusal) → BinsRefused bytes root minor why →
         why ≢ NoMemory → (tree : TreeMap) → BinsEncodeTreeInLimits bytes root minor tree → ⊥ }

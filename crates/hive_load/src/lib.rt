@@ -1,9 +1,9 @@
-//! A hive's image, loaded: the registry tree that it stands for.
+//! A hive's image, loaded: the registry tree that it encodes.
 //!
-//! [`load`] reads an image from its root on, key by key, and answers the tree that stands in it, or why none within the
-//! limits does. Whatever bytes the image has, it comes to an end: each cell that belongs to one key alone is looked at
-//! once, a security cell once, keys lie at most 512 levels deep, and nothing is allocated by a number that was read
-//! before its bytes are known to be there.
+//! [`load`] reads an image from its root on, key by key. It answers the tree that the image encodes, or why it encodes
+//! none within the limits. Whatever bytes the image has, the load comes to an end. Each cell that belongs to one key
+//! alone is looked at once, and a security cell once. Keys lie at most 512 levels deep. Nothing is allocated by a
+//! number that was read before its bytes are known to be there.
 #![tactic(auto)]
 
 mod bins;

@@ -27,7 +27,7 @@ fn has_nameless(nodes: &[Arc<Node>]) -> bool
     false
 }
 
-// how two nodes stand to one another by their names
+// how two nodes compare by their names
 fn by_name(one: &Arc<Node>, other: &Arc<Node>) -> Ordering
     ensures { result ≡ name_order (root_name (arc_value one.now)) (root_name (arc_value other.now)) }
 {
@@ -71,7 +71,7 @@ fn in_order(mut nodes: Vec<Arc<Node>>) -> Option<Vec<Arc<Node>>>
 
 /// A key with these subkeys, in whatever order they are.
 ///
-/// Refused with `BadName` exactly where a subkey has no name or two have the same, and with `NoMemory`.
+/// Refused with `BadName` exactly if a subkey has no name or two have the same, and with `NoMemory`.
 pub(crate) fn node_of(alloc: Global, key: Key, nodes: Vec<Arc<Node>>) -> Result<Node, Refusal>
     requires { AreNodes (subkey_entries nodes.items) }
     ensures node { IfOk result IsNode }

@@ -26,7 +26,7 @@ const FLAGGED_BYTES: usize = 8;
 
 const _: () = prove!(FLAGGED_BYTES == 8);
 
-// a flag for each cell that may be in so many bytes, none of them set
+// a flag for each cell that may be in this many bytes, none of them set
 fn flags_for(alloc: Global, bytes: usize) -> Result<Flags, AllocError>
     ensures covers { IfOk result (λ seen. bytes ≤ 8 * length seen) }
     ensures unset { IfOk result (λ seen. (at : ℕ) → marks_of seen at ≡ false) }
@@ -34,7 +34,7 @@ fn flags_for(alloc: Global, bytes: usize) -> Result<Flags, AllocError>
     Flags::new(alloc, bytes.div_ceil(FLAGGED_BYTES))
 }
 
-// the node of the root, where no cell is marked yet
+// the node of the root, if no cell is marked yet
 fn load_root(
     alloc: Global,
     image: &Image,
@@ -64,12 +64,12 @@ fn load_root(
     }
 }
 
-/// The registry tree that an image stands for, from the key node at an offset on. Below minor version 4 big data lie in
+/// The registry tree that an image encodes, from the key node at an offset on. Below minor version 4 big data lie in
 /// one cell, from it on in segments. The tree weighs at most 16,777,216, and no path in it has more than 512 names.
 ///
-/// Refused with `HiveDamaged` of hive 0 and a cause that stands in the image, or with `Unsupported` for a flag that
-/// does, and so only where the image stands for no tree; with `TooLarge` only where a tree stands that weighs more, or
-/// a key lies deeper; and with `NoMemory`. The count of looks rises by at most two for each allocated cell, and two
+/// Refused with `HiveDamaged` of hive 0 and a cause that is true of the image, or with `Unsupported` for a flag in it.
+/// Both come only if the image encodes no tree. Refused with `TooLarge` only if it encodes a tree that weighs more, or
+/// a key lies deeper. Refused with `NoMemory`. The count of looks rises by at most two for each allocated cell, and two
 /// more.
 pub fn load(
     alloc: Global,

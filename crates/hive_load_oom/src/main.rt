@@ -1,8 +1,8 @@
 //! Loads a hive, for runs in which memory is refused.
 //!
-//! `tools/failalloc each` runs it once for each allocation, which is refused. A load that is refused has to answer want of
-//! memory and nothing else. The status is 0 where nothing was refused and the tree is the one that the hive stands for, 1
-//! where memory was refused, and 2 where a wrong answer was given.
+//! `tools/failalloc each` runs it once for each allocation, which is refused. A load that is refused has to answer want
+//! of memory and nothing else. The status is 0 if nothing was refused and the tree is the one that the hive encodes, 1
+//! if memory was refused, and 2 if a wrong answer was given.
 #![tactic(auto)]
 
 use hive_load_tests::hives::{NIL, Says, hive};
@@ -26,10 +26,10 @@ const CELLS: [Says; 11] = [
     Says::Key(b"j", (0, NIL), (0, NIL), NIL),
 ];
 
-// the text of the tree that they stand for
+// the text of the tree that they encode
 const TREE: &[u8] = b"R[w=fives][x=four]!sd(jk!sd)";
 
-// that of the tree that is loaded
+// the text of the tree that is loaded
 fn text(alloc: Global) -> Result<Vec<u8>, Refusal> {
     listed(alloc, hive(alloc, 1, &CELLS)?)
 }

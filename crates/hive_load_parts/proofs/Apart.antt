@@ -1,4 +1,4 @@
--- Names of which no two are the same, and the map of values of such names.
+-- Names that all differ, and the map of values with these names.
 use Rattle.std.proofs.Common.{◌≡◌, ◌<◌, inl, inr, ℕ, suc, List, [], ◌∷◌, ◌++◌, length, map, take, drop, get_or, refl, ◌∙◌, ap, sym, Bool, true, false, not, ◌&&◌, ◌||◌, Option, Some, None, is_some}
 use Rattle.std.specs.List.{list_any}
 use Rattle.std.specs.FinMap as finite
@@ -64,7 +64,7 @@ keys_are : (vs : List Value) → map (λ (e : List ℕ × Value). e.0) (map (λ 
 keys_are [] = refl
 keys_are (v ∷ vs) = ap (λ z. folded v.name ∷ z) (keys_are vs)
 
--- a name is in the map exactly where it is among those of the values
+-- a name is in the map exactly if it is among those of the values
 pub is_there : (vs : List Value) (n : List ℕ) → is_some (finite.get (map_of vs) n) ≡ list_any (same n) (names_in vs)
 is_there vs n = ap is_some (finite.get-from_entries names_total (map (λ (v : Value). (folded v.name, v)) vs) n) ∙ is_some-find name_order n (map (λ (v : Value). (folded v.name, v)) vs) ∙ ap (list_any (same n)) (keys_are vs)
 

@@ -31,7 +31,7 @@ rule_kept b c g cells m n r e h = follows_on (rule b c) g cells m m n tt r (rule
 pub rule_broken : {B : Type 0} (b : Bool) (c : Cause) (g : Unit {0} → Reader B) (cells : Cells) (m n : CellMarks) → b ≡ false → Follows (rule b c ⟫ g) cells m n (Err (refusal.HiveDamaged 0 c))
 rule_broken b c g cells m n e = follows_out (rule b c) g cells m m n (refusal.HiveDamaged 0 c) (rule_no b c cells m m e)
 
--- a piece of a cell
+-- the first bytes of a cell
 pub piece_refused : (size at : ℕ) (cells : Cells) (old new : CellMarks) (r : Refusal) → Follows (look at) cells old new (Err r) → Follows (cell_prefix size at) cells old new (Err r)
 piece_refused size at cells old new r h = follows_out (look at) (λ bytes. rule (nat_le size (length bytes)) cause.BadRecord ⟫ λ _. done (take size bytes)) cells old new new r h
 

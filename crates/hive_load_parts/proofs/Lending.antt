@@ -147,7 +147,7 @@ from_descriptor split node class descriptor = values_at split node.value_count n
 abbrev from_class : Bool → KeyNode → List ℕ → Reader (Row × List ℕ)
 from_class split node class = descriptor_at node.security ⟫ from_descriptor split node class
 
--- the one cell that a key is lent is that of its descriptor
+-- the one cell that a key is lent is the cell of its descriptor
 pub key_lent : (split : Bool) (at : ℕ) (cells : Cells) (old a b d e : CellMarks) (bytes : List ℕ) → Follows (look at) cells old a (Ok bytes) → (node : KeyNode) → (key_node_fault bytes ≡ None) × IsKeyNode node bytes →
     (class : List ℕ) → Follows (class_at node.class_len node.class) cells a b (Ok class) → (descriptor : List ℕ) → Follows (descriptor_at node.security) cells b b (Ok descriptor) →
     (values : ValueMap) → Follows (values_at split node.value_count node.values) cells b d (Ok values) → (subkey_list : List ℕ) → Follows (subkeys_at node.subkey_count node.subkeys) cells d e (Ok subkey_list) →

@@ -1,4 +1,4 @@
--- Loops over a list by its places.
+-- Loops over a list by its indexes.
 use Rattle.std.proofs.Common.{◌≡◌, ◌<◌, ◌+◌, ◌*◌, ℕ, zero, suc, List, [], ◌∷◌, ◌++◌, length, take, drop, get_or, refl, ◌∙◌, ap, sym, subst, Ok, Err, arith, mul-suc}
 use Rattle.std.proofs.lemmas.List.{take_more}
 use Rattle.refusals.specs.declared.refusal.Refusal.{Refusal}

@@ -1,4 +1,4 @@
--- What no reader but that of a descriptor does: it lends no cell.
+-- What no reader does but the reader of a descriptor: it lends no cell.
 use Rattle.std.proofs.Common.{◌≡◌, ◌==◌, ◌+◌, ◌-◌, ◌*◌, ◌^◌, nat_le, nat_lt, ℕ, List, [], ◌∷◌, ◌++◌, length, map, refl, ◌∙◌, ap, Bool, true, false, Option, Some, None, Ok, Err, Result, slice_range}
 use Rattle.refusals.specs.declared.refusal.Refusal.{Refusal}
 use Rattle.refusals.specs.declared.refusal.Cause.{Cause}

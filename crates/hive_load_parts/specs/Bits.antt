@@ -1,4 +1,4 @@
--- Flags as bits of words: that of the k-th slot is bit k % 64 of word k / 64.
+-- Flags as bits of words: the flag of the k-th slot is bit k % 64 of word k / 64.
 use Rattle.std.specs.Prelude.{ℕ, ◌*◌, ◌/◌, ◌%◌, ◌==◌, Bool, List, length, map, slice_index}
 use Rattle.std.specs.List.{range_with_len}
 use Rattle.std.specs.Int.{bit_at}

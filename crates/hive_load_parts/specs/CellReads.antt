@@ -15,7 +15,7 @@ use Rattle.hive_records.specs.Follows.{Follows}
 abbrev pub marks_of : List Bool → CellMarks
 marks_of seen at = if at % 8 == 0 then slice_index_or seen (at / 8) false else false
 
--- the answer, seen by what it stands for, is what the reader reads of the data's cells, and they are marked
+-- the answer, by the value that it represents, is what the reader reads of the data's cells, and they are marked
 abbrev pub FollowsIn : {X A : Type 0} → (X → A) → Reader A → Cells → CellMarks → CellMarks → Result X Refusal → Type 0
 FollowsIn view m cells old new (Ok x) = Follows m cells old new (Ok (view x))
 FollowsIn view m cells old new (Err r) = Follows m cells old new (Err r)
@@ -28,7 +28,7 @@ abbrev pub set_flags : List Bool → ℕ
 set_flags [] = 0
 set_flags (b ∷ flags) = (if b then 1 else 0) + set_flags flags
 
--- flags were set, none was unset, and each that was set is that of an allocated cell
+-- flags were set, none was unset, and each flag that was set is the flag of an allocated cell
 pub record Spreads (bytes : List ℕ) (old new : List Bool) : Type 0 where
   pub more : set_flags old ≤ set_flags new
   pub cells : (at : ℕ) → marks_of new at ≡ true → (marks_of old at ≡ true) ⊎ IsAllocatedCell bytes at
@@ -38,11 +38,11 @@ abbrev pub Works : {X : Type 0} → ℕ → ℕ → List Bool → List Bool → 
 Works before after old new (Ok x) = after + set_flags old ≤ before + set_flags new
 Works before after old new (Err r) = after + set_flags old ≤ before + set_flags new + 1
 
--- pieces of cells one after another
+-- first bytes of cells one after another
 abbrev pub joined_prefixes : List (ℕ × ℕ) → Reader (List ℕ)
 joined_prefixes sizes = each (λ s. cell_prefix s.0 s.1) sizes ⟫ λ pieces. done (flat_map (λ p. p) pieces)
 
--- the size of a segment at a place, of data of a size in so many segments: all but the last are full
+-- the size of the segment at an index, of data of a size in a number of segments: all but the last are full
 abbrev pub size_at : ℕ → ℕ → ℕ → ℕ
 size_at left n i = if (i + 1 == n) then left - 16_344 * i else 16_344
 

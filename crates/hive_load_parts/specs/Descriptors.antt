@@ -18,7 +18,7 @@ abbrev pub AreDescriptors : List ℕ → List (ℕ × List ℕ) → Type 0
 AreDescriptors bytes kept = (at : ℕ) (descriptor : List ℕ) → descriptor_in kept at ≡ Some descriptor →
     (cells : Cells) → Shows bytes cells → descriptor_at at cells ≡ record { own = []; lent = at ∷ []; says = Ok descriptor }
 
--- the descriptors of just these security cells are kept beside those of before
+-- the descriptors of just these security cells are kept beside the earlier ones
 abbrev pub KeepsDescriptors : List (ℕ × List ℕ) → List (ℕ × List ℕ) → List ℕ → Type 0
 KeepsDescriptors old new lent = (at : ℕ) → IsSome (descriptor_in new at) ↔ (IsSome (descriptor_in old at) ⊎ IsIn at lent)
 

@@ -85,7 +85,7 @@ fn segments(
     Ok(bytes)
 }
 
-// the bytes of the segment at a place, of so many segments
+// the bytes of the segment at an index, of `count` segments
 fn size_at(size: u32, count: usize, index: usize) -> usize
     requires there { index < count }
     requires few { count ≤ 2 ^ 32 }

@@ -8,7 +8,7 @@ use crate::flags::Flags;
 use hive_cells::{Image, Looks};
 use refusals::{Cause, Refusal};
 
-// each cell begins at a multiple of so many bytes
+// each cell begins at a multiple of this many bytes
 const FLAGGED_BYTES: usize = 8;
 
 const _: () = prove!(FLAGGED_BYTES == 8);
@@ -51,7 +51,7 @@ pub(crate) fn look_once<'a>(
     Ok(bytes)
 }
 
-/// The first bytes of the cell at an offset, which has so many.
+/// The first bytes of the cell at an offset, which has at least as many.
 #[tactic(auto, using(crate::proofs::Spread::spreads_on))]
 pub(crate) fn cell_prefix<'a>(
     image: &'a Image,

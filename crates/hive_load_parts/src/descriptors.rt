@@ -1,4 +1,4 @@
-//! Descriptors that were read, each held once however many keys name its security cell.
+//! Descriptors that were read, each kept once however many keys name its security cell.
 ghost use Rattle.std.specs.Prelude.{◌≡◌, ◌≢◌, ℕ, List, [], ◌∷◌, true, false, IfOk, IfErr, IsSome, Some, None};
 ghost use Rattle.hive_load_parts.specs.Descriptors.{descriptor_in};
 ghost use Rattle.hive_load_parts.specs.CellReads.{marks_of};
@@ -47,7 +47,7 @@ impl Descriptors {
         }
     }
 
-    /// Keeps the descriptor of the security cell at an offset, of which none is kept.
+    /// Keeps the descriptor of the security cell at an offset, for which none is kept.
     pub(crate) fn keep(&mut self, at: u32, descriptor: Descriptor) -> Result<(), AllocError>
         requires { descriptor_in self.old at ≡ None }
         ensures here { IfOk result (λ _. descriptor_in self.new at ≡ Some descriptor) }

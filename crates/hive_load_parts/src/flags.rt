@@ -1,4 +1,4 @@
-//! Flags in words of 64 bits: that of a slot is bit `slot % 64` of word `slot / 64`.
+//! Flags in words of 64 bits: the flag of a slot is bit `slot % 64` of word `slot / 64`.
 ghost use Rattle.std.specs.Prelude.{◌≡◌, ℕ, ◌<◌, ◌≤◌, true, false, length, IfOk, slice_index_or, slice_set};
 ghost use Rattle.hive_load_parts.specs.Bits.{bit_of, bits_of};
 
@@ -27,7 +27,7 @@ impl Model for Flags {
 }
 
 impl Flags {
-    /// So many flags or a few more, none of them set.
+    /// `count` flags or a few more, none of them set.
     pub fn new(alloc: Global, count: usize) -> Result<Flags, AllocError>
         ensures many { IfOk result (λ flags. count ≤ length flags) }
         ensures unset { IfOk result (λ flags. (slot : ℕ) → slice_index_or flags slot false ≡ false) }
@@ -36,7 +36,7 @@ impl Flags {
         Ok(Flags { words })
     }
 
-    /// Whether the flag of a slot is set; that of a slot past the last isn't.
+    /// Whether the flag of a slot is set; the flag of a slot past the last isn't.
     pub(crate) fn is_set(&self, slot: usize) -> bool
         ensures { result ≡ slice_index_or self.now slot false }
     {

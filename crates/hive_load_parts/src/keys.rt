@@ -67,7 +67,7 @@ fn security(alloc: Global, image: &Image, looks: &mut Looks, at: u32) -> Result<
     Ok(Descriptor::new(alloc, security.descriptor)?)
 }
 
-// the descriptor that a key names, which is kept where it wasn't before
+// the descriptor that a key names, which is kept if it wasn't before
 fn descriptor(
     alloc: Global,
     image: &Image,
@@ -98,11 +98,12 @@ fn descriptor(
     Ok(descriptor)
 }
 
-/// The key at an offset, and its subkeys' offsets in the order of its list. `split` says whether data past 16,344 bytes are in
-/// segments. A flag for each 8 bytes of the bins data says which cells were met before. A descriptor that is known is
-/// not read again: the key shares it.
+/// The key at an offset, and its subkeys' offsets in the order of its list. `split` says whether data past 16,344 bytes
+/// are in segments. A flag for each 8 bytes of the bins data says which cells were met before. A descriptor that is
+/// known is not read again: the key shares it.
 ///
-/// Refused with the cause that the definition of a key gives, with `Shared` at a cell that was met before, and with `NoMemory`.
+/// Refused with the cause that the definition of a key gives, with `Shared` at a cell that was met before, and with
+/// `NoMemory`.
 #[tactic(auto, using(crate::proofs::Spread::spreads_on))]
 pub fn key(
     alloc: Global,

@@ -14,8 +14,8 @@ ghost use Rattle.refusals.specs.declared.refusal.Refusal.{Refusal};
 ghost use Rattle.refusals.specs.declared.refusal.Refusal.TheVariants.{HiveDamaged, NoMemory};
 ghost use Rattle.refusals.specs.declared.refusal.Cause.TheVariants.{BadName, Shared};
 
-/// A law: a key that was read has the parts that the law of shapes asks for, and its own cells are marked; a refusal of
-/// one is want of memory, or a fault that the law tells of, under the marks of before.
+/// A law of a key that was read or refused. A key that was read has the parts that the law of shapes requires, and its
+/// own cells are marked. A refusal is want of memory, or a fault that the law names, under the marks of before.
 pub fn keys_are_read()
     ensures parts { (split : Bool) (cells : Cells) (at : ℕ) (old new : CellMarks) (row : Row)
         (subkey_list : List ℕ) → Follows (key_at split at) cells old new (Ok (row, subkey_list)) →
@@ -27,8 +27,8 @@ pub fn keys_are_read()
         (HiveDamaged 0 Shared) old at why }
 {}
 
-/// A law: nodes, one for each listed key in the order of the list, have the keys' rows; and one node more goes with one key
-/// more; and their names are the keys'.
+/// A law of nodes, one for each listed key in the order of the list. They have the keys' rows, and their names are the
+/// keys'. One node more goes with one key more.
 pub fn nodes_as_listed()
     ensures rows { (nodes : List (List ℕ × Entries)) (keys : Keys Row) →
         AreListed nodes keys → AreNodesOf nodes keys }

@@ -1,9 +1,10 @@
 //! One key of a hive's image, read whole: its row with all its values, and the offsets of its subkeys.
 //!
-//! Each cell that is the key's own is looked at once and marked, so that a cell which is met again, also by another key, is
-//! told as `Shared` before anything of it is read. A security cell is lent, and not marked; its descriptor is read once and
-//! shared by all keys that name it. What is read, and why a key is refused, are the definitions of `hive_records`, followed
-//! step by step. Nothing is allocated by a number that was read before so many bytes are known to be in a cell.
+//! Each cell that is the key's own is looked at once and marked. So a cell that is met again, also by another key, is
+//! reported as `Shared` before anything of it is read. A security cell is lent, and not marked. Its descriptor is read
+//! once and shared by all keys that name it. What is read, and why a key is refused, are the definitions of
+//! `hive_records`, followed step by step. Nothing is allocated by a number that was read before that many bytes are
+//! known to be in a cell.
 #![tactic(auto)]
 
 mod big;

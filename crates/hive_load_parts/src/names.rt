@@ -1,4 +1,4 @@
-//! Names as a tree holds them.
+//! Names as a tree keeps them.
 ghost use Rattle.std.specs.Prelude.{◌≡◌, IfOk};
 ghost use Rattle.hive_records.specs.RecordReaders.{units_of};
 

@@ -29,7 +29,7 @@ const OFFSET: usize = 4;
 
 const _: () = prove!(OFFSET == 4);
 
-/// The data of a value, from its record on. Big data lie in segments where `split` says so.
+/// The data of a value, from its record on. Big data lie in segments if `split` says so.
 #[tactic(auto, using(crate::proofs::Spread::spreads_on))]
 fn data_of(
     alloc: Global,
@@ -178,7 +178,7 @@ fn listed(
     Ok(found)
 }
 
-// the values by their names, no two of which are the same
+// the values by their names, which differ
 fn mapped(alloc: Global, found: &[Value]) -> Result<Values, Refusal>
     ensures { MatchResult result (λ values. (all_apart (names_in found.now) ≡ true)
         × (values ≡ map_of found.now)) (λ refusal. (refusal ≡ NoMemory)

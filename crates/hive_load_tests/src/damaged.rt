@@ -1,4 +1,4 @@
-//! Hives that stand for no tree.
+//! Hives that encode no tree.
 use crate::hives::{NIL, Says, hive};
 use crate::listings::{listed_from, refused};
 use refusals::{Cause, Refusal};
@@ -145,7 +145,7 @@ fn faults_are_told(rt: HostRuntime) {
 // a list of lists that names itself
 const IN_ITSELF: [Says; 2] = [ONE, Says::List(b"ri", 4, &[1])];
 
-// whether it is told, and how many looks were taken
+// whether it is reported, and how many looks were taken
 fn loops(alloc: Global, bins: usize) -> Result<(bool, u64), Refusal> {
     let (refusal, looks) = refused(alloc, hive(alloc, bins, &IN_ITSELF)?)?;
     let told = refusal == SHARED || refusal == BAD_LIST;

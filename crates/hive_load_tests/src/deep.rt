@@ -4,7 +4,7 @@ use crate::listings::refused;
 use refusals::Refusal;
 use std::alloc::{AllocError, Global};
 
-// a root with so many keys one below the other
+// a root with this many keys one below the other
 fn chain(alloc: Global, keys: usize) -> Result<Vec<u8>, AllocError> {
     let mut bytes = hive(alloc, 40, &[])?;
     for key in 0..keys {

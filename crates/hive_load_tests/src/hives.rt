@@ -1,4 +1,4 @@
-//! Hives spelled by hand: bins of one page, each with 31 allocated cells of 128 bytes and a free one behind them.
+//! Hives written by hand: bins of one page, each with 31 allocated cells of 128 bytes and a free one after them.
 use byteorder::{ByteOrder, LittleEndian};
 use std::alloc::{AllocError, Global};
 
@@ -75,7 +75,7 @@ pub enum Says {
     Values(&'static [usize]),
     /// A value whose data lie in the record.
     Small(&'static [u8], &'static [u8]),
-    /// A value of so many bytes in a cell.
+    /// A value of this many bytes in a cell.
     Large(&'static [u8], u32, usize),
     /// A descriptor.
     Security(&'static [u8]),
@@ -174,7 +174,7 @@ fn put_says(bytes: &mut Vec<u8>, cell: usize, says: Says) {
     }
 }
 
-/// So many bins, whose first cells say this.
+/// This many bins, whose first cells say this.
 pub fn hive(alloc: Global, bins: usize, cells: &[Says]) -> Result<Vec<u8>, AllocError> {
     let mut bytes = vec![in alloc; 0u8; bins.saturating_mul(BIN)]?;
     for bin in 0..bins {

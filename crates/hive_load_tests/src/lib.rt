@@ -1,5 +1,5 @@
-//! Tests of loading: hives spelled by hand from the format's description, the trees that they stand for, and what is wrong
-//! with those that stand for none.
+//! Tests of loading: hives written by hand from the format's description, the trees that they encode, and what is wrong
+//! with those that encode none.
 #![tactic(auto)]
 
 #[cfg(test)]

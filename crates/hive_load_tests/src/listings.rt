@@ -1,4 +1,4 @@
-//! Trees as texts: a key's name, its values in brackets, its descriptor behind `!`, and its subkeys in parentheses.
+//! Trees as texts: a key's name, its values in brackets, its descriptor after `!`, and its subkeys in parentheses.
 use hive_cells::{Image, Looks};
 use hive_load::load;
 use refusals::Refusal;
@@ -37,7 +37,7 @@ fn put_row(text: &mut Vec<u8>, node: &Node) -> Result<(), AllocError> {
     Ok(())
 }
 
-// a key with its subkeys, which are on so few levels
+// a key with its subkeys, which are on at most this many levels
 fn put_node(text: &mut Vec<u8>, node: &Node, levels: usize) -> Result<(), AllocError> {
     put_row(text, node)?;
     if levels == 0 || node.subkey_count() == 0 {
@@ -55,7 +55,7 @@ fn put_node(text: &mut Vec<u8>, node: &Node, levels: usize) -> Result<(), AllocE
     Ok(())
 }
 
-/// The text of the tree that bytes stand for from an offset on, or why they stand for none.
+/// The text of the tree that bytes encode from an offset on, or why they encode none.
 pub fn listed_from(alloc: Global, bytes: Vec<u8>, root: u32) -> Result<Vec<u8>, Refusal> {
     let image = Image::open(alloc, bytes)?;
     let tree = load(alloc, &image, root, 5, &mut Looks::new())?;
@@ -69,7 +69,7 @@ pub fn listed(alloc: Global, bytes: Vec<u8>) -> Result<Vec<u8>, Refusal> {
     listed_from(alloc, bytes, 32)
 }
 
-/// Why bytes stand for no tree, if so, and how many cells were looked at.
+/// Why bytes encode no tree, if so, and how many cells were looked at.
 pub fn refused(alloc: Global, bytes: Vec<u8>) -> Result<(Option<Refusal>, u64), Refusal> {
     let image = Image::open(alloc, bytes)?;
     let mut looks = Looks::new();

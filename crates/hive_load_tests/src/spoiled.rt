@@ -21,7 +21,7 @@ fn small(alloc: Global, at: usize, with: u8) -> Result<Vec<u8>, AllocError> {
     Ok(bytes)
 }
 
-// whether the hive with a byte spoiled stands for a tree, or is refused for a fault that isn't want of memory
+// whether the hive with a byte spoiled encodes a tree, or is refused for a fault that isn't want of memory
 fn is_judged(alloc: Global, at: usize, with: u8) -> Result<bool, AllocError> {
     match listed(alloc, small(alloc, at, with)?) {
         Ok(_) => Ok(true),

@@ -1,4 +1,4 @@
-//! Hives that stand for a tree.
+//! Hives that encode a tree.
 use crate::hives::{NIL, Says, hive};
 use crate::listings::listed;
 use refusals::Refusal;
@@ -50,7 +50,7 @@ const LEVELS: &[Says] = &[
     Says::Key(b"b", (0, NIL), (0, NIL), NIL),
 ];
 
-// cells, and the tree that they stand for
+// cells, and the tree that they encode
 const TREES: [(&[Says], &[u8]); 5] = [
     (ALONE, b"R"),
     (TWO, b"R(aB)"),
@@ -59,7 +59,7 @@ const TREES: [(&[Says], &[u8]); 5] = [
     (LEVELS, b"R(a(bc))"),
 ];
 
-// whether the cells stand for the tree
+// whether the cells encode the tree
 fn stand_for(alloc: Global, cells: &[Says], tree: &[u8]) -> Result<bool, Refusal> {
     let text = listed(alloc, hive(alloc, 1, cells)?)?;
     Ok(&text[..] == tree)

@@ -1,4 +1,4 @@
--- The law of keys, met by a key of an image that was spelled by hand.
+-- The law of keys, met by a key of an image that was written by hand.
 use Rattle.std.proofs.Common.{◌≡◌, [], ◌∷◌, true, refl, Ok, arith}
 use Rattle.hive_records.specs.KeyNodes.{keys_in}
 use Rattle.hive_records.specs.Example.{full_cells, child_row}

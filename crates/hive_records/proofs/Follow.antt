@@ -25,7 +25,7 @@ answer a b c own lent q m (Err e) (inl h) = inl h
 answer a b c own lent q m (Err e) (inr (inl h)) = inr (inl h)
 answer a b c own lent q m (Err e) (inr (inr h)) = inr (inr (h.0, meets_later a b own q.own m h.1))
 
--- whose answer it is doesn't matter, but what is read
+-- whose answer it is doesn't matter, only what is read
 pub with_read : {B : Type 0} → (m : Reader B) (cells : Cells) (q : Read B) → m cells ≡ q → (a c : CellMarks) (r : Result B Refusal) → Follows (λ z. q) (λ at. None) a c r → Follows m cells a c r
 with_read {B} m cells q e a c (Ok y) h = subst (λ (z : Read B). (z.says ≡ Ok y) × Marked a c z.own) (sym e) h
 with_read {B} m cells q e a c (Err f) (inl h) = inl h

@@ -1,4 +1,4 @@
--- What a key's cells say hangs on its own cells and on those lent to it.
+-- What a key's cells say depends on its own cells and on those lent to it.
 use Rattle.std.proofs.Common.{◌≡◌, inl, inr, ℕ, List, refl, ◌∙◌, ap, sym, subst, Bool, Ok, Err, Result, ◌^◌}
 use Rattle.std.specs.Prelude.{nat_le, nat_lt, ◌==◌}
 use Rattle.reg_names.specs.Names.{folded}

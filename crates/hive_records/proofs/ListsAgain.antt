@@ -10,7 +10,7 @@ use Rattle.hive_records.proofs.StepsAgain.{both, second_not, gives_on, gives_don
 use Rattle.hive_records.proofs.NumbersAgain.{half_back}
 use Rattle.hive_records.proofs.WordsAgain.{words_shift, offsets_back, offsets_length, subkeys_back, subkeys_length}
 
--- a list of a signature and a number of elements, then their texts
+-- a list of a signature and a number of elements, then their bytes
 module _ (letters n : ℕ) (body rest : List ℕ) where
   abbrev bytes : List ℕ
   bytes = (u16_bytes letters ++ u16_bytes n ++ body) ++ rest

@@ -1,5 +1,5 @@
--- The same for lists of subkeys: a list that breaks a rule by itself is refused wherever it is met; else its elements are
--- those that the definition reads.
+-- The same for lists of subkeys: a list that breaks a rule by itself is refused wherever it is met; else its elements
+-- are those that the definition reads.
 use Rattle.std.proofs.Common.{◌≡◌, ◌≢◌, ℕ, zero, suc, ◌+◌, ◌-◌, ◌*◌, ◌≤◌, ◌<◌, ◌==◌, nat_le, Bool, true, false, not, ◌||◌, ◌&&◌, if◌then◌else◌, List, [], ◌∷◌, length, take, drop, slice_index, flat_map, refl, ◌∙◌, ap, sym, Err, Some, None, arith, mul-suc}
 use Rattle.std.proofs.lemmas.Bool.{eqb-true, ne_eqb}
 use Rattle.std.proofs.lemmas.List.{get_or-take, get_or-drop}

@@ -1,4 +1,4 @@
--- What is read hangs on no cells but those looked at, and these are there.
+-- What is read depends on no cells but those looked at, and these are there.
 use Rattle.std.proofs.Common.{◌≡◌, inl, inr, ℕ, List, [], ◌∷◌, ◌++◌, refl, ◌∙◌, ap, sym, Bool, true, false, Ok, Err, Result, Some, None, Option, is_some}
 use Rattle.refusals.specs.declared.refusal.Refusal.{Refusal}
 use Rattle.refusals.specs.declared.refusal.Refusal.TheVariants as refusal

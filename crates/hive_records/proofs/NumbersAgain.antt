@@ -17,6 +17,6 @@ pub long_back : (n : ℕ) (rest : List ℕ) → n < 2 ^ 64 → u64_at (u64_bytes
 unfolding u64_at u32_at
 long_back n rest h = let e = little_number-reads_back 8 n rest h in omega (arith, e)
 
--- a text of a length cut out again
+-- bytes of a length cut out again
 pub cut : (encoding rest : List ℕ) (front n : ℕ) → n ≡ length encoding → take (front + n - front) (encoding ++ rest) ≡ encoding
 cut encoding rest front n e = ap (λ (k : ℕ). take k (encoding ++ rest)) (omega arith) ∙ take_at encoding rest n (sym e)

@@ -1,4 +1,4 @@
--- Texts that are put one element after another.
+-- Encodings that are put one element after another.
 use Rattle.std.proofs.Common.{◌≡◌, ℕ, suc, ◌+◌, ◌*◌, ◌<◌, ◌≤◌, List, [], ◌∷◌, ◌++◌, length, drop, take, get_or, refl, ◌∙◌, ap, sym, append_assoc, append-nil, arith, Bool, false}
 use Rattle.std.proofs.Math.Seq.{drop-cons}
 use Rattle.std.proofs.Math.ListN.{drop_of_length-le}
@@ -7,7 +7,7 @@ use Rattle.hive_records.specs.Fields.{u16_bytes, u32_bytes}
 use Rattle.hive_records.specs.NameEncodings.{is_latin, wide, spelled, name_bytes}
 use Rattle.hive_records.specs.ListEncodings.{offsets_bytes}
 
--- the elements from a place on, one and the rest
+-- the elements from an index on, one and the rest
 rest_of : (xs : List ℕ) (i : ℕ) → i < length xs → drop i xs ≡ get_or xs i 0 ∷ drop (i + 1) xs
 rest_of xs i h = let next : suc i ≡ i + 1 = omega arith in drop-cons xs i 0 h ∙ ap (λ (n : ℕ). get_or xs i 0 ∷ drop n xs) next
 

@@ -1,4 +1,4 @@
--- Where a record breaks a rule by itself, the definition of the whole refuses for that rule; else it goes on from the
+-- If a record breaks a rule by itself, the definition of the whole refuses for that rule; else it goes on from the
 -- record's fields.
 use Rattle.std.proofs.Common.{◌≡◌, ◌≢◌, ℕ, ◌+◌, ◌-◌, ◌*◌, ◌≤◌, ◌^◌, ◌%◌, ◌==◌, nat_le, nat_lt, Bool, true, false, not, ◌||◌, if◌then◌else◌, List, [], ◌∷◌, length, take, drop, slice_range, flat_map, refl, ◌∙◌, ap, sym, Ok, Err, Option, Some, None, arith}
 use Rattle.std.specs.List.{list_any}
@@ -27,7 +27,7 @@ use Rattle.hive_records.specs.declared.security_cell.Security.{Security}
 use Rattle.hive_records.specs.declared.big_data.BigData.{BigData}
 use Rattle.hive_records.proofs.Each.{done_bind}
 
--- ---- rules one after another, and what comes behind them
+-- ---- rules one after another, and what comes after them
 
 module _ {A : Type 0} where
   abbrev pub guarded : List (Bool × Refusal) → Reader A → Reader A
@@ -92,7 +92,7 @@ module _ {B : Type 0} where
   name_on : (latin : Bool) (bytes : List ℕ) (g : List ℕ → Reader B) {m : Reader B} → g (units_in latin bytes) ≡ m → (name_in latin bytes ⟫ g) ≡ choice (is_even latin bytes) m (refuse (hive_damage cause.BadName))
   name_on latin bytes g e = name_as latin bytes g ∙ ap (λ (z : Reader B). choice (is_even latin bytes) z (refuse (hive_damage cause.BadName))) e
 
-  -- behind a cell that is there
+  -- after a cell that is there
   pub looked_as : (at : ℕ) (cells : Cells) (bytes : List ℕ) (f : List ℕ → Reader B) → cells at ≡ Some bytes → (look at ⟫ f) cells ≡ record { own = at ∷ (f bytes cells).own; lent = (f bytes cells).lent; says = (f bytes cells).says }
   unfolding look ◌⟫◌
   looked_as at cells bytes f e = ap (λ (o : Option (List ℕ)). joined_if (own_if at o).own (own_if at o).lent (own_if at o).says (λ x. f x cells)) e

@@ -1,4 +1,4 @@
--- What images say that were spelled byte by byte.
+-- What images say that were written byte by byte.
 use Rattle.std.proofs.Common.{◌≡◌, inl, inr, ℕ, List, [], ◌∷◌, refl, sym, true, Ok, arith}
 use Rattle.refusals.specs.declared.refusal.Refusal.{Refusal}
 use Rattle.refusals.specs.declared.refusal.Refusal.TheVariants as refusal

@@ -1,4 +1,4 @@
--- How long the texts of records are.
+-- How long the encodings of records are.
 use Rattle.std.proofs.Common.{◌≡◌, ◌+◌, ◌*◌, ◌≤◌, ◌^◌, ℕ, List, [], ◌∷◌, ◌++◌, length, take, replicate, refl, Bool, true, false, arith, length-append, length-take}
 use Rattle.reg_tree_parts.specs.declared.value.Value.{Value}
 use Rattle.reg_tree_parts.specs.Rows.{Row}

@@ -1,4 +1,4 @@
--- What was read of the records of a file is what a tree may hold.
+-- What was read of the records of a file is what a tree may contain.
 use Rattle.std.proofs.Common.{◌≡◌, ◌≢◌, ℕ, zero, suc, ◌+◌, ◌-◌, ◌*◌, ◌/◌, ◌%◌, ◌<◌, ◌≤◌, ◌^◌, inl, inr, List, [], ◌∷◌, length, take, drop, get_or, refl, ◌∙◌, ap, sym, subst, Bool, true, false, not, cond, ◌||◌, Option, Some, None, Ok, Err, Result, arith, eqb}
 use Rattle.std.specs.Prelude.{slice_range, nat_lt, bit_and, map, MatchOption}
 use Rattle.std.specs.List.{list_all, list_any, AllByRecursion}
@@ -155,7 +155,7 @@ yields_value split at cells held =
     yields_on (yields_any (data_of split (u32_at bytes 4) bytes) cells) (λ its d.
     yields_done _ cells (λ (v : Value). IsEncodableName v.name) spelled)))))
 
--- a value that is found stands under the fold of its name
+-- a value that is found is under the fold of its name
 found_filed : (values : List Value) (name : List ℕ) (value : Value) → AllByRecursion (λ (v : Value). IsEncodableName v.name) values → find name_order name (map (λ (v : Value). (folded v.name, v)) values) ≡ Some value → IsEncodableValue name value
 found_filed [] name value h e = some_none value e
 found_filed (v ∷ values) name value h e =

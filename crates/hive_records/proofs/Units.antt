@@ -1,4 +1,4 @@
--- The units that bytes spell, and hashes of names.
+-- The units that bytes decode to, and hashes of names.
 use Rattle.std.proofs.Common.{◌≡◌, ◌≢◌, ℕ, zero, suc, ◌+◌, ◌*◌, ◌/◌, ◌%◌, ◌<◌, ◌^◌, List, [], ◌∷◌, length, drop, get_or, refl, ◌∙◌, ap, sym, Bool, true, false, ◌||◌, eqb, arith}
 use Rattle.std.specs.List.{list_any}
 use Rattle.std.proofs.lemmas.Bool.{eq-eqb, ne_eqb}

@@ -14,7 +14,7 @@ use Rattle.hive_records.proofs.StepsAgain.{both, gives_on, gives_last, gives_don
 use Rattle.hive_records.proofs.NumbersAgain.{half_back, word_back, cut}
 use Rattle.hive_records.proofs.NamesAgain.{name_back}
 
--- a name behind its flag and its length
+-- a name after its flag and its length
 pub name_given : (cells : Cells) (name : List ℕ) (latin : Bool) (encoding : List ℕ) → AreUnits name → latin ≡ is_latin name → encoding ≡ name_bytes name → Gives (name_in latin encoding) cells [] [] name
 name_given cells name latin encoding h e f = subst (λ (t : List ℕ). Gives (name_in latin t) cells [] [] name) (sym f) (subst (λ (b : Bool). Gives (name_in b (spelled (is_latin name) name)) cells [] [] name) (sym e) (name_back (is_latin name) cells name h))
 
@@ -93,7 +93,7 @@ small_of split cells at name kind (a ∷ b ∷ c ∷ d ∷ e ∷ more) fits few 
 pub small_again : (split : Bool) (cells : Cells) (at : ℕ) (value : Value) → ValueIsEncodable value → length value.«data» ≤ 4 → CellHolds cells at (small_value value) → Gives (value_at split at) cells (at ∷ []) [] value
 small_again split cells at value fits few h = small_of split cells at value.name value.kind value.«data» fits few h
 
--- data that a cell holds
+-- data in a cell
 pub piece_back : (cells : Cells) (at : ℕ) (encoding : List ℕ) → CellHolds cells at encoding → Gives (cell_prefix (length encoding) at) cells (at ∷ []) [] encoding
 piece_back cells at encoding h =
     gives_on _ (gives_look at cells (encoding ++ h.0) h.1)

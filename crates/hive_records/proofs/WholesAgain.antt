@@ -1,4 +1,4 @@
--- A value whose cells hold what is written reads back, however its data are written; and so do all of a key's.
+-- A value whose cells have what is written reads back, however its data are written; and so do all of a key's.
 use Rattle.std.proofs.Common.{◌≡◌, ◌<◌, inl, inr, ℕ, Bool, true, List, [], ◌∷◌, length, map, flat_map, refl, sym, subst, arith}
 use Rattle.std.specs.List.{AllByRecursion}
 use Rattle.reg_names.specs.Names.{folded}

@@ -25,7 +25,7 @@ words_shift front xs k e at stride (suc n) =
     ∙ ap (λ (z : ℕ). u32_at xs at ∷ words_from (front ++ xs) z stride n) (omega arith)
     ∙ ap (λ (ws : List ℕ). u32_at xs at ∷ ws) (words_shift front xs k e (at + stride) stride n)
 
--- the first word of each text
+-- the first word of each encoding
 module _ {X : Type 0} (f : X → List ℕ) (g : X → ℕ) (stride : ℕ) (wide : (x : X) → length (f x) ≡ stride) (back : (x : X) (rest : List ℕ) → g x < 2 ^ 32 → u32_at (f x ++ rest) 0 ≡ g x) where
   pub all_back : (xs : List X) (rest : List ℕ) → AreOffsets (map g xs) → words_from (flat_map f xs ++ rest) 0 stride (length xs) ≡ map g xs
   all_back [] rest h = refl

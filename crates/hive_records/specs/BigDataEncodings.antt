@@ -1,4 +1,5 @@
--- Big data as they are written: segments in cells of their own, a list of their offsets, and the record that leads to it.
+-- Big data as they are written: segments in cells of their own, a list of their offsets, and the record that leads to
+-- it.
 use Rattle.std.specs.Prelude.{◌≡◌, ℕ, ◌<◌, ◌≤◌, List, [], ◌∷◌, ◌++◌, length, map, flat_map}
 use Rattle.hive_records.specs.Fields.{u16_bytes, u32_bytes}
 

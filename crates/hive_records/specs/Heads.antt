@@ -26,16 +26,16 @@ first_broken (rule ∷ rules) = if rule.0 then first_broken rules else Some rule
 abbrev pub hive_damage : Cause → Refusal
 hive_damage c = refusal.HiveDamaged 0 c
 
--- the units that bytes spell, a byte a unit or two
+-- the units that bytes decode to, a byte a unit or two
 abbrev pub units_in : Bool → List ℕ → List ℕ
 units_in true bytes = bytes
 units_in false bytes = pairs bytes
 
--- bytes spell whole units
+-- bytes decode to whole units
 abbrev pub is_even : Bool → List ℕ → Bool
 is_even latin bytes = latin || (length bytes % 2 == 0)
 
--- the name of a record: the bytes of a length behind its fields
+-- the name of a record: the bytes of a length after its fields
 abbrev pub IsNameAt : StoredName → Bool → List ℕ → ℕ → ℕ → Type 0
 IsNameAt name latin bytes from len = (name.latin ≡ latin) × (name.bytes.now ≡ slice_range bytes from (from + len))
 
@@ -82,7 +82,7 @@ pub record IsValueRec (value : ValueRec) (bytes : List ℕ) : Type 0 where
   pub small : value.small.now ≡ slice_range bytes 8 12
   pub name : IsNameAt value.name (has_flag 1 (u16_at bytes 16)) bytes 20 (u16_at bytes 2)
 
--- those of a security cell
+-- the rules and the fields of a security cell
 abbrev pub security_fault : List ℕ → Option Refusal
 security_fault bytes = first_broken (
     (begins_with bytes 0x6b73 20, hive_damage cause.BadRecord)
@@ -92,7 +92,7 @@ security_fault bytes = first_broken (
 pub record IsSecurity (security : Security) (bytes : List ℕ) : Type 0 where
   pub descriptor : security.descriptor.now ≡ slice_range bytes 20 (20 + u32_at bytes 16)
 
--- those of a list of subkeys: of key nodes, or of lists
+-- the rules and the fields of a list of subkeys: of key nodes, or of lists
 abbrev pub stride_of : List ℕ → ℕ
 stride_of bytes = if is_hinted bytes then 8 else 4
 
@@ -108,7 +108,7 @@ pub record IsSubkeyList (list : SubkeyList) (bytes : List ℕ) : Type 0 where
   pub stride : list.stride ≡ stride_of bytes
   pub elements : list.elements.now ≡ slice_range bytes 4 (4 + stride_of bytes * u16_at bytes 2)
 
--- those of big data of a size
+-- the rules and the fields of big data of a size
 abbrev pub big_fault : List ℕ → ℕ → Option Refusal
 big_fault bytes size = first_broken (
     (begins_with bytes 0x6264 8, hive_damage cause.BadRecord)

@@ -13,7 +13,7 @@ use Rattle.hive_records.specs.NameEncodings.{name_bytes, latin_flag, AreUnits}
 abbrev pub security_bytes : ℕ → ℕ → ℕ → List ℕ → List ℕ
 security_bytes next previous count descriptor = u16_bytes 0x6b73 ++ u16_bytes 0 ++ u32_bytes next ++ u32_bytes previous ++ u32_bytes count ++ u32_bytes (length descriptor) ++ descriptor
 
--- a key's record up to the offset of its class, and the upper bounds behind it
+-- a key's record up to the offset of its class, and the upper bounds after it
 abbrev pub node_head : ℕ → ℕ → KeyNodeFields → List ℕ
 node_head flags time its =
     u16_bytes 0x6b6e ++ u16_bytes flags ++ u64_bytes time ++ u32_bytes 0 ++ u32_bytes its.parent ++ u32_bytes its.subkey_total ++ u32_bytes 0 ++ u32_bytes its.subkey_list ++ u32_bytes nil_offset

@@ -16,7 +16,7 @@ use Rattle.hive_records.specs.Names.{has_flag, name_in}
 use Rattle.hive_records.specs.Values.{cell_prefix, values_at}
 use Rattle.hive_records.specs.Lists.{subkeys_at}
 
--- the descriptor that a security cell holds; none for no cell. Links and the count are not read.
+-- the descriptor in a security cell; none for no cell. Links and the count are not read.
 abbrev pub descriptor_at : ℕ → Reader (List ℕ)
 descriptor_at at =
     choice (at == nil_offset) (done [])
@@ -29,7 +29,7 @@ descriptor_at at =
 abbrev pub class_at : ℕ → ℕ → Reader (List ℕ)
 class_at size at = choice (size == 0) (done []) (cell_prefix size at)
 
--- the flags of a row are those stored but for the one that says how the name is spelled
+-- the flags of a row are the stored ones but for the flag that says how the name is stored
 abbrev pub flags_of : ℕ → ℕ
 flags_of stored = if has_flag 0x20 stored then stored - 0x20 else stored
 
@@ -48,7 +48,7 @@ key_at split at =
     subkeys_at (u32_at bytes 20) (u32_at bytes 28) ⟫ λ subkey_list.
     done (record { name = name; class = class; flags = flags_of (u16_at bytes 2); descriptor = descriptor; time = u64_at bytes 4; values = values }, subkey_list)
 
--- the same as the law of shapes asks for it
+-- the same in the form that the law of shapes requires
 abbrev pub parts_if : List ℕ → List ℕ → Result (Row × List ℕ) Refusal → Result (KeyParts Row) Refusal
 parts_if own lent (Ok x) = let row = x.0 in Ok (record { name = folded row.name; row = row; subkey_list = x.1; own = own; lent = lent })
 parts_if own lent (Err r) = Err r

@@ -3,11 +3,12 @@ use Rattle.std.specs.Prelude.{ℕ, ◌<◌, ◌+◌, ◌*◌, ◌%◌, ◌^◌, 
 use Rattle.std.specs.List.{AllByRecursion}
 use Rattle.hive_records.specs.Fields.{u16_bytes, u32_bytes}
 
--- offsets one after the other, as the list of a key's values has them, and that of a db's segments
+-- offsets one after the other, as the list of a key's values and the list of a db's segments have
+-- them
 abbrev pub offsets_bytes : List ℕ → List ℕ
 offsets_bytes offsets = flat_map u32_bytes offsets
 
--- the hash of a folded name, from the hash of what stands before it
+-- the hash of a folded name, from the hash of the units before it
 abbrev pub hash_from : ℕ → List ℕ → ℕ
 hash_from h [] = h
 hash_from h (u ∷ units) = hash_from ((37 * h + u) % 2 ^ 32) units

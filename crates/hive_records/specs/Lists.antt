@@ -24,7 +24,7 @@ leaf_in bytes = choice (is_plain bytes) (offsets_in 4 bytes) (rule (is_hinted by
 abbrev pub leaf_at : ℕ → Reader (List ℕ)
 leaf_at at = look at ⟫ leaf_in
 
--- a list, or a list of lists that are none of such
+-- a list, or a list of lists that are no lists of lists themselves
 abbrev pub list_in : List ℕ → Reader (List ℕ)
 list_in bytes = choice (is_indirect bytes)
     (offsets_in 4 bytes ⟫ λ leaves. each leaf_at leaves ⟫ λ lists. done (flat_map (λ l. l) lists))

@@ -1,4 +1,4 @@
--- How names are written: in Latin-1 where all units are below 0x100, else in UTF-16, the lower byte first.
+-- How names are written: in Latin-1 if all units are below 0x100, else in UTF-16, the lower byte first.
 use Rattle.std.specs.Prelude.{ℕ, ◌<◌, ◌^◌, nat_lt, Bool, true, false, if◌then◌else◌, List, [], ◌∷◌, ◌++◌}
 use Rattle.std.specs.List.{list_all, AllByRecursion}
 use Rattle.hive_records.specs.Fields.{u16_bytes}
@@ -17,7 +17,7 @@ spelled false name = wide name
 abbrev pub name_bytes : List ℕ → List ℕ
 name_bytes name = spelled (is_latin name) name
 
--- the flags of a record, with the one set that says Latin-1 where the name is so
+-- the flags of a record, with the flag of Latin-1 set if the name is stored so
 abbrev pub latin_flag : ℕ → List ℕ → ℕ
 latin_flag weight name = if is_latin name then weight else 0
 

@@ -16,7 +16,7 @@ pairs [] = []
 pairs (a ∷ []) = []
 pairs (a ∷ b ∷ rest) = (a + 0x100 * b) ∷ pairs rest
 
--- the name that bytes spell
+-- the name that bytes decode to
 abbrev pub name_in : Bool → List ℕ → Reader (List ℕ)
 name_in latin bytes = choice latin (done bytes) (rule (length bytes % 2 == 0) cause.BadName ⟫ λ _. done (pairs bytes))
 

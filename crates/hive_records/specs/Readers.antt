@@ -6,8 +6,8 @@ use Rattle.refusals.specs.declared.refusal.Cause.{Cause}
 use Rattle.refusals.specs.declared.refusal.Cause.TheVariants as cause
 use Rattle.hive_cells.specs.Bins.{Cells}
 
--- what came of reading: the cells looked at that belong to one key alone, in turn, those that others may name too, and
--- what was read. A refusal ends it, with the cells so far.
+-- the result of reading: the cells looked at, in turn, and what was read. The cells that belong to one key alone are
+-- apart from the cells that other keys may name too. A refusal ends it, with the cells so far.
 pub record Read (A : Type 0) : Type 0 where
   pub own : List ℕ
   pub lent : List ℕ
@@ -35,7 +35,7 @@ infixl 10 ◌⟫◌
 unfoldable pub ◌⟫◌ : {A B : Type 0} → Reader A → (A → Reader B) → Reader B
 (m ⟫ f) cells = joined_if (m cells).own (m cells).lent (m cells).says (λ x. f x cells)
 
--- the data of a cell that belongs to one key alone; of one that others may name too
+-- the data of a cell that belongs to one key alone, and of a cell that other keys may name too
 abbrev pub own_if : ℕ → Option (List ℕ) → Read (List ℕ)
 own_if at None = record { own = []; lent = []; says = Err (refusal.HiveDamaged 0 cause.BadOffset) }
 own_if at (Some bytes) = record { own = at ∷ []; lent = []; says = Ok bytes }

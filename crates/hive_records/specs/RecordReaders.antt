@@ -55,11 +55,11 @@ big_from size big =
 abbrev pub elements_of : SubkeyList → List ℕ
 elements_of list = words_from list.elements.now 0 list.stride list.count
 
--- the key nodes that a list below a list of lists leads to; such a one may be no list of lists
+-- the key nodes that a list below a list of lists leads to; it may not be a list of lists itself
 abbrev pub leaf_from : SubkeyList → Reader (List ℕ)
 leaf_from list = rule (not list.is_indirect) cause.BadList ⟫ λ _. done (elements_of list)
 
--- those that a key's list leads to
+-- the key nodes that a key's list leads to
 abbrev pub list_from : SubkeyList → Reader (List ℕ)
 list_from list = choice list.is_indirect
     (each leaf_at (elements_of list) ⟫ λ lists. done (flat_map (λ l. l) lists))

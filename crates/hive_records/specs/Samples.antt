@@ -1,5 +1,5 @@
--- Images that were spelled byte by byte: one with every kind of list, one with big data, and one for each rule that
--- can be broken.
+-- Images that were written byte by byte: one with every kind of list, one with big data, and one for each rule that can
+-- be broken.
 use Rattle.std.specs.Prelude.{ℕ, ◌==◌, if◌then◌else◌, List, [], ◌∷◌, ◌++◌, length, replicate, Some, None}
 use Rattle.std.specs.FinMap as finite
 use Rattle.reg_tree_parts.specs.declared.value.Value.{Value}
@@ -85,7 +85,7 @@ classed_row = record { name = []; class = 5 ∷ 6 ∷ []; flags = 0x0c; descript
 abbrev pub four_keys : TreeMap
 four_keys = finite.from_entries (([], classed_row) ∷ ((0x41 ∷ []) ∷ [], row_of (0x61 ∷ [])) ∷ ((0x41 ∷ 0x100 ∷ []) ∷ [], row_of (0x61 ∷ 0x100 ∷ [])) ∷ ((0x42 ∷ []) ∷ [], row_of (0x62 ∷ [])) ∷ [])
 
--- a value with data of a byte more than one segment holds, in a db
+-- a value with data of one byte more than a segment has, in a db
 abbrev pub big_cells : Cells
 big_cells = cells_of (
     (32, (0x76 ∷ 0x6b ∷ 1 ∷ 0 ∷ 0xd9 ∷ 0x3f ∷ 0 ∷ 0 ∷ []) ++ (small_word 64 ++ (small_word 3 ++ (1 ∷ 0 ∷ 0 ∷ 0 ∷ 0x76 ∷ []))))

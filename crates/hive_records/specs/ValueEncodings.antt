@@ -1,4 +1,4 @@
--- Values as they are written: the record, with data in the offset field where they have at most four bytes, else in a
+-- Values as they are written: the record, with data in the offset field if they have at most four bytes, else in a
 -- cell.
 use Rattle.std.specs.Prelude.{ℕ, ◌<◌, ◌+◌, ◌^◌, List, ◌++◌, length, take, replicate}
 use Rattle.reg_tree_parts.specs.declared.value.Value.{Value}

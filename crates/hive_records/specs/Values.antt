@@ -10,7 +10,7 @@ use Rattle.hive_records.specs.Readers.{Reader, done, rule, choice, look, each, �
 use Rattle.hive_records.specs.Numbers.{u16_at, words_from, begins_with}
 use Rattle.hive_records.specs.Names.{has_flag, name_in, all_apart}
 
--- the first bytes of a cell, which has so many
+-- the first bytes of a cell, which has at least as many
 abbrev pub cell_prefix : ℕ → ℕ → Reader (List ℕ)
 cell_prefix size at = look at ⟫ λ bytes. rule (nat_le size (length bytes)) cause.BadRecord ⟫ λ _. done (take size bytes)
 

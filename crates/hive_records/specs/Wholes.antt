@@ -1,4 +1,4 @@
--- A value with all its cells as they are written; and the places of the records of an image that was spelled by hand.
+-- A value with all its cells as they are written; and the offsets of the records of an image that was written by hand.
 use Rattle.std.specs.Prelude.{◌≡◌, ◌⊎◌, ℕ, ◌<◌, ◌≤◌, ◌^◌, Bool, true, List, [], ◌∷◌, length}
 use Rattle.std.specs.List.{AllByRecursion}
 use Rattle.hive_cells.specs.Bins.{Cells}

@@ -37,8 +37,8 @@ pub struct BigData {
 impl BigData {
     ghost use Rattle.hive_records.specs.Heads.{big_fault, IsBigData};
 
-    /// Reads the data of a cell, for data of a size. Refused with `BadRecord` where it doesn't begin with `db`, the fields
-    /// don't fit, or the number of segments isn't the one that such data lie in.
+    /// Reads the data of a cell, for data of a size. Refused with `BadRecord` if it doesn't begin with `db`, or the
+    /// fields don't fit. Refused with `BadRecord` too if the number of segments isn't the one for data of this size.
     pub fn read(cell: &[u8], size: u32) -> Result<BigData, Refusal>
         ensures { MatchResult result (λ big. (big_fault cell.now size ≡ None)
             × IsBigData big cell.now)

@@ -1,4 +1,4 @@
-//! The texts of records, each put behind some bytes. Where memory is refused, a beginning of the text may stand there.
+//! The encodings of records, each put after some bytes. If memory is refused, a beginning of the encoding may be there.
 ghost use Rattle.std.specs.Prelude.{◌≡◌, ◌<◌, ◌≤◌, ◌^◌, ◌+◌, ◌++◌, true, false, OnOk, length};
 ghost use Rattle.hive_records.specs.Fields.{u16_bytes, u32_bytes, u64_bytes};
 ghost use Rattle.hive_records.specs.NameEncodings.{is_latin, latin_flag, name_bytes, wide};
@@ -36,10 +36,10 @@ const LATIN: u16 = 0x20;
 // the offset of none
 const NIL: u32 = 0xffff_ffff;
 
-// the top bit of a size field, set where the data lie in the record
+// the top bit of a size field, set if the data lie in the record
 const IN_RECORD: u32 = 0x8000_0000;
 
-/// Puts a number of two bytes behind some bytes, the lowest byte first.
+/// Puts a number of two bytes after some bytes, the lowest byte first.
 fn put_u16(bytes: &mut Vec<u8>, number: u16) -> Result<(), AllocError>
     ensures { OnOk result (bytes.new.items ≡ bytes.old.items ++ u16_bytes number) }
 {
@@ -66,7 +66,7 @@ fn put_u64(bytes: &mut Vec<u8>, number: u64) -> Result<(), AllocError>
     bytes.extend_from_slice(&field)
 }
 
-/// Puts a name, in Latin-1 where all its units are below 0x100, else in UTF-16.
+/// Puts a name, in Latin-1 if all its units are below 0x100, else in UTF-16.
 fn put_name(bytes: &mut Vec<u8>, name: &[u16]) -> Result<(), AllocError>
     ensures { OnOk result (bytes.new.items ≡ bytes.old.items ++ name_bytes name.now) }
 {
@@ -140,7 +140,7 @@ pub fn put_large_value(bytes: &mut Vec<u8>, value: &Value, at: u32) -> Result<()
     put_value(bytes, value, value.data.bytes().len() as u32, &field)
 }
 
-/// Puts the record of big data in so many segments, whose offsets are in a cell.
+/// Puts the record of big data in `count` segments, whose offsets are in a cell.
 pub fn put_big_data(bytes: &mut Vec<u8>, count: u16, segments: u32) -> Result<(), AllocError>
     ensures { OnOk result (bytes.new.items ≡ bytes.old.items ++
         (u16_bytes 0x6264 ++ u16_bytes count ++ u32_bytes segments)) }
@@ -151,7 +151,7 @@ pub fn put_big_data(bytes: &mut Vec<u8>, count: u16, segments: u32) -> Result<()
     Ok(())
 }
 
-/// Puts offsets one after the other, as the list of a key's values has them, and that of big data's segments.
+/// Puts offsets one after the other, as the list of a key's values and the list of big data's segments have them.
 pub fn put_offsets(bytes: &mut Vec<u8>, offsets: &[u32]) -> Result<(), AllocError>
     ensures { OnOk result (bytes.new.items ≡ bytes.old.items ++ offsets_bytes offsets.now) }
 {
@@ -205,7 +205,7 @@ pub fn put_security(
     Ok(())
 }
 
-/// Puts what a list of subkeys with hashes begins with, where it has so many elements.
+/// Puts the fields with which a list of `count` subkeys with hashes begins.
 pub fn put_hashed_head(bytes: &mut Vec<u8>, count: u16) -> Result<(), AllocError>
     ensures { OnOk result (bytes.new.items ≡ bytes.old.items ++ (u16_bytes 0x686c ++ u16_bytes count)) }
 {
@@ -224,7 +224,7 @@ pub fn put_hashed(bytes: &mut Vec<u8>, at: u32, name: &[u16]) -> Result<(), Allo
     Ok(())
 }
 
-/// Puts a key's record: of its name, its flags, when it was written last, the length of its class, and what the record
+/// Puts a key's record: its name, its flags, when it was written last, the length of its class, and what the record
 /// says beside these.
 pub fn put_key_node(
     bytes: &mut Vec<u8>,
@@ -247,7 +247,7 @@ pub fn put_key_node(
     Ok(())
 }
 
-// the flags with the one set that says Latin-1 where the name is so
+// the flags, with the flag of Latin-1 set if the name is stored so
 fn stored_flags(name: &[u16], flags: u16) -> u16
     requires { has_flag 0x20 flags ≡ false }
     ensures { result ≡ flags + latin_flag 0x20 name.now }
@@ -280,7 +280,7 @@ fn put_node_head(
     Ok(())
 }
 
-// puts the upper bounds behind it
+// puts the upper bounds after it
 fn put_node_bounds(bytes: &mut Vec<u8>, its: &KeyNodeFields) -> Result<(), AllocError>
     ensures { OnOk result (bytes.new.items ≡ bytes.old.items ++ node_bounds its.now) }
 {

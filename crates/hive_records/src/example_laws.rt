@@ -1,4 +1,4 @@
-//! Images that were spelled byte by byte, so that no definition is empty.
+//! Images that were written byte by byte, so that no definition is empty.
 
 ghost use Rattle.std.specs.Prelude.{◌≡◌, ◌∷◌, [], true, Ok, Some};
 ghost use Rattle.hive_tree_model.specs.Keys.{none};
@@ -19,15 +19,15 @@ ghost use Rattle.hive_records.specs.NameEncodings.{name_bytes};
 
 /// Two images, so that none of this is empty.
 ///
-/// - `one`: one cell that holds a root without values and subkeys stands for the tree of one key.
-/// - `two`: a root with a value in its record, and one subkey behind two lists, both with one security cell, stand for
+/// - `one`: one cell with a root without values and subkeys encodes the tree of one key.
+/// - `two`: a root with a value in its record, and one subkey below two lists. Both have one security cell. They encode
 ///   the tree of two keys.
 pub fn example()
     ensures one { CellsEncodeTree (keys_in true one_cell) 32 one_key }
     ensures two { CellsEncodeTree (keys_in true full_cells) 32 two_keys }
 {}
 
-/// The texts of the records of an image that was spelled byte by byte.
+/// The encodings of the records of an image that was written byte by byte.
 pub fn records_by_hand()
     ensures root { key_node_bytes full_row root_fields ≡ full_root }
     ensures child { key_node_bytes child_row child_fields ≡ child_record }

@@ -1,4 +1,4 @@
-//! Which tree hive bins data stand for: laws.
+//! Which tree hive bins data encode: laws.
 
 ghost use Rattle.std.specs.Prelude.{◌≡◌, ◌++◌, [], T, ℕ, List, Bool, Ok, Some};
 ghost use Rattle.refusals.specs.declared.refusal.Refusal.{Refusal};
@@ -23,7 +23,7 @@ ghost use Rattle.hive_records.specs.KeyNodes.{keys_in, trail_in, lends_in};
 ghost use Rattle.hive_records.specs.Images.{BinsEncodeTree, FaultFor};
 ghost use Rattle.hive_cells.specs.Bins.{Cells, Shows};
 
-/// Hive bins data stand for at most one tree, and that is a tree; and for none where a fault stands in them.
+/// Hive bins data encode at most one tree, and what they encode is a tree. They encode none if a fault is in them.
 pub fn one_tree()
     ensures one { (bytes : List ℕ) (root minor : ℕ) (t u : TreeMap) →
         BinsEncodeTree bytes root minor t → BinsEncodeTree bytes root minor u → t ≡ u }
@@ -33,7 +33,8 @@ pub fn one_tree()
         FaultFor bytes root minor refusal → BinsEncodeTree bytes root minor tree → ⊥ }
 {}
 
-/// What a key's cells say hangs on no cells but its own and the security cell that it names: the law of shapes applies.
+/// What a key's cells say depends only on its own cells and on the security cell that it names: the law of shapes
+/// applies.
 pub fn keys_are_local()
     ensures hangs { (split : Bool) → IsLocal (keys_in split) }
     ensures there { (split : Bool) → IsThere (keys_in split) }
@@ -43,7 +44,7 @@ pub fn keys_are_local()
         IsLentTrail (lends_in split cells) (keys_in split cells) }
 {}
 
-/// Where the cells that a key and those below it hang on stay, what they say stays.
+/// If the cells stay that a key and the keys below it depend on, what they say stays.
 pub fn stays()
     ensures { (old new : List ℕ) (before after : Cells) → Shows old before → Shows new after →
         (split : Bool) (at : ℕ) (parts : KeyParts Row) (below : Keys Row) →
@@ -52,8 +53,8 @@ pub fn stays()
         Whole (keys_in split after) at parts below }
 {}
 
-/// A node of a tree is made of a key's subkeys one after another, in whatever order they are listed; of the root's node
-/// the tree is the one that the keys make.
+/// A node of a tree is made of a key's subkeys one after another, in whatever order they are listed. The tree of the
+/// root's node is the tree that the keys make.
 pub fn nodes()
     ensures begins { AreNodesOf [] none }
     ensures goes_on { (at : ℕ) (parts : KeyParts Row) (below first : Keys Row) (subkey_list : List (List ℕ
@@ -68,12 +69,13 @@ pub fn nodes()
         IsNodeOf entries parts keys → finite.from_sorted entries ≡ tree_of parts keys }
 {}
 
-/// What was read of a file is what a tree may hold.
+/// What was read of a file is what a tree may contain.
 ///
-/// - `row`: a record that was read has a name of at most 65,535 bytes as it is stored, without a backslash, a class of at
-///   most as many, flags of 16 bits without 0x0020 and 0x0040, and each value under the fold of its name.
-/// - `cells`: the cells of data that are bytes hold bytes.
-/// - `tree`: so is each row of the tree that such data stand for.
+/// - `row`: a record that was read has a name of at most 65,535 bytes as it is stored, without a backslash. Its class
+///   has at most as many bytes. Its flags have 16 bits, without 0x0020 and 0x0040. Each value is under the fold of its
+///   name.
+/// - `cells`: the cells of data that are bytes have bytes.
+/// - `tree`: each row of the tree that such data encode is as `row` says.
 pub fn rows_are_encodable()
     ensures row { (cells : Cells) → HoldBytes cells → (split : Bool) (at : ℕ) (parts : KeyParts Row) →
         keys_in split cells at ≡ Ok parts → IsEncodableRow parts.row }

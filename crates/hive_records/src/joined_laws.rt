@@ -16,8 +16,8 @@ ghost use Rattle.hive_records.specs.declared.security_cell.Security.{Security};
 ghost use Rattle.hive_records.specs.declared.list_record.SubkeyList.{SubkeyList};
 ghost use Rattle.hive_records.specs.declared.big_data.BigData.{BigData};
 
-/// A key whose key node is refused by itself is refused for that, with no cell looked at but that one; any other key is
-/// read on from the fields of its key node.
+/// A key whose key node is refused by itself is refused for the same cause, and no other cell is looked at. Any other
+/// key is read on from the fields of its key node.
 pub fn keys_go_on()
     ensures refused { (split : Bool) (cells : Cells) (at : ℕ) (bytes : List ℕ) (refusal : Refusal) →
         cells at ≡ Some bytes → key_node_fault bytes ≡ Some refusal →
@@ -27,7 +27,7 @@ pub fn keys_go_on()
         key_at split at cells ≡ (look at ⟫ λ _. key_from split node) cells }
 {}
 
-/// So it is with a value and its record.
+/// The same is true of a value and its record.
 pub fn values_go_on()
     ensures refused { (split : Bool) (cells : Cells) (at : ℕ) (bytes : List ℕ) (refusal : Refusal) →
         cells at ≡ Some bytes → value_fault bytes ≡ Some refusal →
@@ -37,7 +37,8 @@ pub fn values_go_on()
         value_at split at cells ≡ (look at ⟫ λ _. value_from split value) cells }
 {}
 
-/// A descriptor is that of its security cell, which is lent; where that is refused by itself, it is refused for that.
+/// A descriptor is the descriptor of its security cell, which is lent. If the cell is refused by itself, the descriptor
+/// is refused for the same cause.
 pub fn descriptors_go_on()
     ensures refused { (cells : Cells) (at : ℕ) (bytes : List ℕ) (refusal : Refusal) →
         at ≢ nil_offset → cells at ≡ Some bytes → security_fault bytes ≡ Some refusal →
@@ -48,8 +49,8 @@ pub fn descriptors_go_on()
         ≡ record { own = []; lent = at ∷ []; says = Ok security.descriptor.now } }
 {}
 
-/// A key's list of subkeys that is refused by itself is refused for that; any other is read on from its fields. So it is
-/// with a list below a list of lists, which may be none of lists itself.
+/// A key's list of subkeys that is refused by itself is refused for the same cause. Any other list is read on from its
+/// fields. The same is true of a list below a list of lists, which may not be a list of lists itself.
 pub fn lists_go_on()
     ensures refused { (cells : Cells) (count at : ℕ) (bytes : List ℕ) (refusal : Refusal) →
         count ≢ 0 → cells at ≡ Some bytes → list_fault bytes ≡ Some refusal →
@@ -66,7 +67,8 @@ pub fn lists_go_on()
         leaf_at at cells ≡ (look at ⟫ λ _. leaf_from list) cells }
 {}
 
-/// Big data whose record is refused by itself are refused for that; any others are read on from its fields.
+/// Big data whose record is refused by itself are refused for the same cause. Any others are read on from the record's
+/// fields.
 pub fn big_data_go_on()
     ensures refused { (cells : Cells) (size at : ℕ) (bytes : List ℕ) (refusal : Refusal) →
         cells at ≡ Some bytes → big_fault bytes size ≡ Some refusal →

@@ -8,15 +8,15 @@ use refusals::{Cause, Refusal};
 // `nk`, as the number of these two bytes
 const LETTERS: u16 = 0x6b6e;
 
-// the bytes of the fields, which stand before the name
+// the bytes of the fields, which come before the name
 const FIELDS: usize = 76;
 
-// the flag of a name in Latin-1, and that of a predefined handle, which stands where values would
+// the flag of a name in Latin-1, and the flag of a predefined handle, which is there instead of values
 const LATIN: u16 = 0x20;
 
 const PREDEFINED: u16 = 0x40;
 
-// the unit that parts names in a path
+// the unit that separates names in a path
 const BACKSLASH: u16 = 0x5c;
 
 const _: () = prove!(LETTERS == 0x6b6e);
@@ -32,15 +32,15 @@ pub struct KeyNode<'a> {
     pub time: u64,
     /// The number of subkeys.
     pub subkey_count: u32,
-    /// The cell of the list of subkeys, unread where there are none.
+    /// The cell of the list of subkeys, unread if there are none.
     pub subkeys: u32,
     /// The number of values.
     pub value_count: u32,
-    /// The cell of the list of values, unread where there are none.
+    /// The cell of the list of values, unread if there are none.
     pub values: u32,
     /// The security cell, or 0xffff_ffff for none.
     pub security: u32,
-    /// The cell of the class, unread where its length is 0.
+    /// The cell of the class, unread if its length is 0.
     pub class: u32,
     /// The bytes of the class.
     pub class_len: u16,
@@ -51,9 +51,9 @@ pub struct KeyNode<'a> {
 impl<'a> KeyNode<'a> {
     ghost use Rattle.hive_records.specs.Heads.{key_node_fault, IsKeyNode};
 
-    /// Reads the data of a cell. Refused with the first of these that holds: `BadRecord` where it doesn't begin with `nk`
-    /// or the fields or the name don't fit, `Unsupported` where it is a predefined handle, and `BadName` where a name of
-    /// two bytes a unit has an odd length, or a backslash stands in the name.
+    /// Reads the data of a cell. Refused for the first of these that holds. `BadRecord` if the data don't begin with
+    /// `nk`, or the fields or the name don't fit. `Unsupported` if it is a predefined handle. `BadName` if a name of
+    /// two bytes a unit has an odd length, or a backslash is in the name.
     pub fn read(cell: &'a [u8]) -> Result<KeyNode<'a>, Refusal>
         ensures { MatchResult result (λ node. (key_node_fault cell.now ≡ None)
             × IsKeyNode node cell.now)

@@ -1,7 +1,7 @@
 //! What a key's record says beside its row.
 
-/// What a key's record says beside the key's row: where the cells are that belong to it, how many they are, and upper
-/// bounds, which are not read. An offset beside a 0 is that of none.
+/// What a key's record says beside the key's row: the offsets and the numbers of the cells that belong to it, and upper
+/// bounds. The bounds are not read. An offset beside a 0 is the offset of none.
 #[derive(Drop)]
 pub struct KeyNodeFields {
     /// The parent's cell.

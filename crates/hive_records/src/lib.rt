@@ -1,10 +1,10 @@
-//! Records of hives: what the cells of one key say, which tree hive bins data stand for, and the texts of records that
-//! read back (regf format: nk, vk, sk, li, lf, lh, ri, db).
+//! Records of hives: what the cells of one key say, and which tree hive bins data encode. Also the encodings of
+//! records, which read back (regf format: nk, vk, sk, li, lf, lh, ri, db).
 //!
-//! Each record is read from the data of its cell, of which it borrows what isn't a number: [`KeyNode`], [`ValueRec`],
+//! Each record is read from the data of its cell, from which it borrows what isn't a number: [`KeyNode`], [`ValueRec`],
 //! [`SubkeyList`], [`Security`], [`BigData`]. A reader gives the fields at the format's offsets, or the refusal of the
-//! first rule that the record breaks by itself. The laws are contracts of functions that do nothing: `specs/` has the
-//! definitions, of which `Images` says which tree hive bins data stand for and what stands in data that stand for none.
+//! first rule that the record breaks by itself. The laws are contracts of functions that do nothing. `specs/` has the
+//! definitions. `Images` there says which tree hive bins data encode, and which faults are in data that encode none.
 #![tactic(auto)]
 
 mod big_data;

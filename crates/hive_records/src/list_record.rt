@@ -13,7 +13,7 @@ const HASHED: u16 = 0x686c;
 
 const INDIRECT: u16 = 0x6972;
 
-// the bytes of the fields, which stand before the elements, and of an element
+// the bytes of the fields, which come before the elements, and of an element
 const FIELDS: usize = 4;
 
 const OFFSET: usize = 4;
@@ -38,7 +38,7 @@ pub struct SubkeyList<'a> {
 impl<'a> SubkeyList<'a> {
     ghost use Rattle.hive_records.specs.Heads.{list_fault, IsSubkeyList};
 
-    /// Reads the data of a cell. Refused with `BadList` where it begins with none of `li`, `lf`, `lh` and `ri`, or the
+    /// Reads the data of a cell. Refused with `BadList` if it begins with none of `li`, `lf`, `lh` and `ri`, or the
     /// elements don't fit.
     pub fn read(cell: &'a [u8]) -> Result<SubkeyList<'a>, Refusal>
         ensures { MatchResult result (λ list. (list_fault cell.now ≡ None)

@@ -18,7 +18,8 @@ pub fn follows<A, B>()
         Follows m cells first then (Err e) → Follows (m ⟫ f) cells first last (Err e) }
 {}
 
-/// The loop of such a function over a list: what it has read of the first of them, and one more.
+/// The loop of such a function over a list: what it has read of the first elements, and one element
+/// more.
 pub fn loops<A, B>()
     ensures starts { (f : A → Reader B) (cells : Cells) (marks : CellMarks) →
         Follows (each f []) cells marks marks (Ok []) }

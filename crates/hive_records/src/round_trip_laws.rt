@@ -54,7 +54,7 @@ pub fn big_again()
         Gives (value_at true at) cells (at ∷ to ∷ list ∷ segment_offsets segments) [] value }
 {}
 
-/// A key's values whose cells hold what is written read back: each with data in its record, in a cell, or in segments.
+/// A key's values read back, whose cells have what is written: each with data in its record, in a cell, or in segments.
 pub fn written_again()
     ensures one { (split : Bool) (cells : Cells) (v : ValueCells) → IsWritten split cells v →
         Gives (value_at split v.at) cells v.own [] v.value }
@@ -103,7 +103,7 @@ pub fn cells_again()
 ///
 /// - `values`: the values of a key.
 /// - `leaves`: a list of leaves.
-/// - `no_values`, `no_subkeys`: where there are none, no list is looked at.
+/// - `no_values`, `no_subkeys`: if there are none, no list is looked at.
 pub fn many_again()
     ensures no_values { (split : Bool) (cells : Cells) (list : ℕ) →
         Gives (values_at split 0 list) cells [] [] (map_of []) }
@@ -126,8 +126,8 @@ pub fn many_again()
         (λ (l : Leaf). l.at) leaves) [] (flat_map (λ (l : Leaf). l.subkey_list) leaves) }
 {}
 
-/// A key whose class, descriptor, values and list of subkeys read back from where its record says, reads back whole, as
-/// the law of shapes asks for it.
+/// A key reads back whole, as the law of shapes requires, if its class, descriptor, values and list of subkeys read
+/// back from where its record says.
 pub fn keys_again()
     ensures { (split : Bool) (cells : Cells) (at : ℕ) (row : Row) (its : KeyNodeFields)
         (class lent values lists subkey_list : List ℕ) → RowFits row → KeyNodeFieldsFit its →
@@ -146,11 +146,11 @@ pub fn keys_again()
         }) }
 {}
 
-/// How many bytes texts have.
+/// How many bytes encodings have.
 ///
 /// - `name`: at most two for each unit.
-/// - `key`, `small`, `large`, `security`: the fields, and the name or the descriptor behind them.
-/// - `plain`, `hashed`, `indirect`, `offsets`: so many for each element of a list, behind its fields.
+/// - `key`, `small`, `large`, `security`: the fields, and the name or the descriptor after them.
+/// - `plain`, `hashed`, `indirect`, `offsets`: a fixed number for each element of a list, after its fields.
 pub fn record_lengths()
     ensures name { (name : List ℕ) → length (name_bytes name) ≤ 2 * length name }
     ensures key { (row : Row) (its : KeyNodeFields) →

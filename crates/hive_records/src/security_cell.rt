@@ -7,7 +7,7 @@ use refusals::{Cause, Refusal};
 // `sk`, as the number of these two bytes
 const LETTERS: u16 = 0x6b73;
 
-// the bytes of the fields, which stand before the descriptor
+// the bytes of the fields, which come before the descriptor
 const FIELDS: usize = 20;
 
 const _: () = prove!(LETTERS == 0x6b73);
@@ -24,7 +24,7 @@ pub struct Security<'a> {
 impl<'a> Security<'a> {
     ghost use Rattle.hive_records.specs.Heads.{security_fault, IsSecurity};
 
-    /// Reads the data of a cell. Refused with `BadRecord` where it doesn't begin with `sk`, or the fields or the
+    /// Reads the data of a cell. Refused with `BadRecord` if it doesn't begin with `sk`, or the fields or the
     /// descriptor don't fit.
     pub fn read(cell: &'a [u8]) -> Result<Security<'a>, Refusal>
         ensures { MatchResult result (λ security. (security_fault cell.now ≡ None)

@@ -35,7 +35,7 @@ impl StoredName<'_> {
         self.len() == 0
     }
 
-    /// The unit at a place.
+    /// The unit at an index.
     pub fn unit(&self, place: usize) -> u16
         requires { place < length (units_in self.now.latin self.now.bytes.now) }
         ensures { result ≡ slice_index (units_in self.now.latin self.now.bytes.now) place }
@@ -47,7 +47,7 @@ impl StoredName<'_> {
         }
     }
 
-    /// Whether a unit stands in the name.
+    /// Whether a unit is in the name.
     pub fn contains(&self, unit: u16) -> bool
         ensures { result ≡ list_any (λ u. u == unit) (units_in self.now.latin self.now.bytes.now) }
     {
@@ -59,7 +59,7 @@ impl StoredName<'_> {
         false
     }
 
-    // whether the bytes spell whole units
+    // whether the bytes decode to whole units
     pub(crate) fn is_even(&self) -> bool
         ensures { result ≡ is_even self.now.latin self.now.bytes.now }
     {
@@ -67,7 +67,7 @@ impl StoredName<'_> {
     }
 }
 
-// the unit of two bytes at a place
+// the unit of two bytes at an index
 fn pair_at(bytes: &[u8], place: usize) -> u16
     requires { place < length (pairs bytes.now) }
     ensures { result ≡ slice_index (pairs bytes.now) place }

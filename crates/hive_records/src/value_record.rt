@@ -8,13 +8,13 @@ use refusals::{Cause, Refusal};
 // `vk`, as the number of these two bytes
 const LETTERS: u16 = 0x6b76;
 
-// the bytes of the fields, which stand before the name
+// the bytes of the fields, which come before the name
 const FIELDS: usize = 20;
 
 // the flag of a name in Latin-1
 const LATIN: u16 = 1;
 
-// set in the size of data that lie in the offset field, which has room for so many bytes
+// set in the size of data that lie in the offset field; and how many bytes that field has room for
 const IN_RECORD: u32 = 0x8000_0000;
 
 const MOST_IN_RECORD: u32 = 4;
@@ -26,7 +26,7 @@ const _: () = prove!(FIELDS == 20);
 /// A value's record, whose name and small data are borrowed from its cell. What no field names is unread.
 #[derive(Drop)]
 pub struct ValueRec<'a> {
-    /// The size field: the length of the data, with its top bit set where they lie in the record.
+    /// The size field: the length of the data, with its top bit set if they lie in the record.
     pub size: u32,
     /// The offset field: the cell of the data, or of a db.
     pub offset: u32,
@@ -41,9 +41,9 @@ pub struct ValueRec<'a> {
 impl<'a> ValueRec<'a> {
     ghost use Rattle.hive_records.specs.Heads.{value_fault, IsValueRec};
 
-    /// Reads the data of a cell. Refused with the first of these that holds: `BadRecord` where it doesn't begin with `vk`
-    /// or the fields or the name don't fit, `BadName` where a name of two bytes a unit has an odd length, and `BadRecord`
-    /// where more than 4 bytes are said to lie in the record.
+    /// Reads the data of a cell. Refused for the first of these that holds. `BadRecord` if the data don't begin with
+    /// `vk`, or the fields or the name don't fit. `BadName` if a name of two bytes a unit has an odd length.
+    /// `BadRecord` if more than 4 bytes are said to lie in the record.
     pub fn read(cell: &'a [u8]) -> Result<ValueRec<'a>, Refusal>
         ensures { MatchResult result (λ value. (value_fault cell.now ≡ None)
             × IsValueRec value cell.now)

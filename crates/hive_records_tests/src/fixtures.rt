@@ -1,4 +1,4 @@
-//! Cells with records, spelled by hand, and such ones with some bytes changed.
+//! Cells with records, written by hand, and the same with some bytes changed.
 use refusals::{Cause, Refusal};
 use std::alloc::{AllocError, Global};
 

@@ -74,7 +74,7 @@ fn a_key_node_says_its_fields(rt: HostRuntime) -> Result<(), Fail> {
     Ok(())
 }
 
-// where the security cell is spoiled, with what, and what is wrong then
+// if the security cell is spoiled, with what, and what is wrong then
 const SPOILED_SECURITY: [(&[Part], &str); 3] = [
     (&[(0, b"sl")], "letters"),
     (&[(16, &[3])], "a descriptor past the cell"),

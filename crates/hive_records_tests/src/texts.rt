@@ -1,4 +1,4 @@
-//! Hashes of names, and texts of records.
+//! Hashes of names, and encodings of records.
 use hive_records::{is_latin, name_hash, put_big_data, put_hashed};
 use std::test::Fail;
 

@@ -1,4 +1,4 @@
--- Lists in which nothing stands twice, tests of names, and what is found in joined lists.
+-- Lists in which nothing is twice, tests of names, and what is found in joined lists.
 use Rattle.std.proofs.Common.{◌≡◌, ◌⊎◌, inl, inr, ℕ, List, [], ◌∷◌, ◌++◌, refl, ◌∙◌, ap, sym, subst, Bool, true, false, if◌then◌else◌, Ok, Err, Result, Some, None, Option}
 use Rattle.std.specs.FinMap.Entries.{find}
 use Rattle.std.specs.FinMap.{slice_cmp-IsAntisymmetric, nat_cmp-IsAntisymmetric}
@@ -157,7 +157,7 @@ then_eq Less p = refl
 then_eq Equal p = refl
 then_eq Greater p = refl
 
--- two paths are the same where their first names are, and the rest
+-- two paths are the same if their first names are, and the rest
 pub path_step : (n m : List ℕ) (p q : List (List ℕ)) → eq_by_cmp path_order (n ∷ p) (m ∷ q) ≡ (if same n m then eq_by_cmp path_order p q else false)
 path_step n m p q = then_eq (name_order n m) (slice_cmp (slice_cmp nat_cmp) p q)
 

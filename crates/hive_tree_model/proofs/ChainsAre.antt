@@ -1,4 +1,4 @@
--- A path is in the tree exactly where a chain of listed keys spells it.
+-- A path is in the tree exactly if a chain of listed keys has its names.
 use Rattle.std.proofs.Common.{◌≡◌, inl, inr, ℕ, List, [], ◌∷◌, ◌++◌, refl, ◌∙◌, ap, sym, subst, true, false, Some, Ok, IsSome, is_some}
 use Rattle.std.specs.FinMap.{get}
 use Rattle.hive_tree_model.specs.Lists.{IsIn}
@@ -11,7 +11,7 @@ use Rattle.hive_tree_model.proofs.Rows.{row_of_tree}
 use Rattle.hive_tree_model.proofs.Only.{one_parts}
 
 module _ {R C : Type 0} (reads : KeyReader R C) where
-  -- a subkey of the name, from which a chain spells the rest
+  -- a subkey of the name, from which a chain has the rest of the names
   abbrev Subkey : List ℕ → List ℕ → List (List ℕ) → R → Type 0
   Subkey subkey_list n path row = (subkey : ℕ) × (its : KeyParts R) × IsIn subkey subkey_list × (reads subkey ≡ Ok its) × (its.name ≡ n) × PathReachesRow reads subkey path row
 
@@ -74,7 +74,7 @@ module _ {R C : Type 0} (reads : KeyReader R C) where
       let at : get tree path ≡ row_from s.0.row s.1 path = ap (λ (t : TreeOf R). get t path) s.3 ∙ row_of_tree s.0 s.1 s.2.named path in
       (λ h. from_whole root s.0 s.1 s.2 path row (sym at ∙ h), λ h. at ∙ to_whole root s.0 s.1 s.2 path row h)
 
-  -- with a key its parent, and a key stands under its name
+  -- with each key its parent is there, and each key is under its name
   module _ (name_of : R → List ℕ) (by : NamesBy name_of reads) where
     parent : (f : Keys R) → (n : List ℕ) (path : List (List ℕ)) (m : List ℕ) → IsSome (row_in f (n ∷ (path ++ m ∷ []))) → IsSome (row_in f (n ∷ path))
     parent none n path m h = h

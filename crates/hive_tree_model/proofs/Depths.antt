@@ -1,4 +1,4 @@
--- A way to a key spells a path of as many names.
+-- A way to a key has a path of as many names.
 use Rattle.std.proofs.Common.{◌≡◌, ◌<◌, inl, inr, ℕ, zero, suc, List, [], ◌∷◌, length, refl, ◌∙◌, ap, sym, subst, Ok, Some, slice_get}
 use Rattle.std.specs.FinMap.{get}
 use Rattle.hive_tree_model.specs.Lists.{IsIn}

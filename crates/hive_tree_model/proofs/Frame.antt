@@ -1,4 +1,4 @@
--- Cells that nothing read hangs on may change.
+-- Cells that nothing read depends on may change.
 use Rattle.std.proofs.Common.{◌≡◌, ℕ, ◌++◌, Option}
 use Rattle.hive_tree_model.specs.Lists.{IsIn}
 use Rattle.hive_tree_model.specs.Keys.{KeyParts, KeyReader, Keys, none, key, all_cells}

@@ -98,7 +98,7 @@ module _ {R C : Type 0} (reads : KeyReader R C) where
         go (inl i) in_below in_after = elim (in_either cell p.own (own_cells below) i) [ inl j ↦ here j | inr j ↦ down (in_below j) ]
         go (inr i) in_below in_after = past (in_after i)
 
-    -- the place behind a list's front
+    -- the index after a list's front
     behind : (xs : List ℕ) (x : ℕ) (ys : List ℕ) → slice_get (xs ++ x ∷ ys) (length xs) ≡ Some x
     behind [] x ys = refl
     behind (z ∷ xs) x ys = behind xs x ys

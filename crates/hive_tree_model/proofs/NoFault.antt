@@ -1,4 +1,4 @@
--- In an image that stands for a tree no fault stands.
+-- In an image that encodes a tree there is no fault.
 use Rattle.std.proofs.Common.{◌≡◌, ◌≢◌, inl, inr, ℕ, zero, suc, List, [], ◌∷◌, ◌++◌, refl, ◌∙◌, ap, sym, subst, Ok, Some, slice_get, false}
 use Rattle.hive_tree_model.specs.Lists.{IsIn, Once}
 use Rattle.hive_tree_model.specs.Keys.{KeyParts, KeyReader, Keys, none, key, offsets, names, own_cells, lent_cells}
@@ -10,7 +10,7 @@ use Rattle.hive_tree_model.proofs.Basics.{never, some_same, some_none, ok_err, i
 use Rattle.hive_tree_model.proofs.Only.{one_parts}
 
 module _ {R C : Type 0} (reads : KeyReader R C) where
-  -- the cells of the key at a place among keys beside one another, and of those below it
+  -- the cells of the key at an index among keys beside one another, and of those below it
   abbrev cells_at : Keys R → ℕ → List ℕ
   cells_at none i = []
   cells_at (key at p below after) zero = p.own ++ own_cells below
@@ -58,7 +58,7 @@ module _ {R C : Type 0} (reads : KeyReader R C) where
   names_apart (key at p below after) named (suc i) zero n d h (inr g) = absurd g
   names_apart (key at p below after) named (suc i) (suc j) n d h g = names_apart after named.3 i j n (λ e. d (ap suc e)) h g
 
-  -- the key at a place
+  -- the key at an index
   record Place (f : Keys R) (i subkey : ℕ) : Type 0 where
     parts : KeyParts R
     below : Keys R
@@ -117,7 +117,7 @@ module _ {R C : Type 0} (reads : KeyReader R C) where
   own_of : (to : ℕ) (p q : KeyParts R) (cell : ℕ) → reads to ≡ Ok p → reads to ≡ Ok q → IsIn cell q.own → IsIn cell p.own
   own_of to p q cell r s h = subst (λ (z : KeyParts R). IsIn cell z.own) (one_parts reads to to q p refl s r) h
 
-  -- a cell of the key at the end of a way that goes through the key at a place
+  -- a cell of the key at the end of a way that goes through the key at an index
   reached : (i : ℕ) (way : List ℕ) (at : ℕ) (p : KeyParts R) (below : Keys R) (to : ℕ) (q : KeyParts R) (cell : ℕ) → Whole reads at p below → WayLeadsTo reads at (i ∷ way) to → reads to ≡ Ok q → IsIn cell q.own → IsIn cell (cells_at below i)
   reached i way at p below to q cell w l r h =
       let s : Place below i l.1 = step at p below w l.0 i l.1 l.2 l.3 in

@@ -1,4 +1,4 @@
--- Where the keys below the changed one stay, one row changes.
+-- If the keys below the changed one stay, one row changes.
 use Rattle.std.proofs.Common.{◌≡◌, ◌≢◌, inl, inr, ℕ, List, [], ◌∷◌, ◌++◌, refl, ◌∙◌, ap, sym, Some, None, Option, append-nil}
 use Rattle.std.specs.FinMap.{get}
 use Rattle.hive_tree_model.specs.Keys.{KeyParts, KeyReader, Keys, none, key}

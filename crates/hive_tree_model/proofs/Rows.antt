@@ -1,4 +1,4 @@
--- What stands at a path is found by going down.
+-- What is at a path is found by going down.
 use Rattle.std.proofs.Common.{◌≡◌, inl, inr, ℕ, List, [], ◌∷◌, ◌++◌, refl, ◌∙◌, ap, sym, subst, true, false, if◌then◌else◌, Some, None}
 use Rattle.std.specs.FinMap.{get, get-from_entries}
 use Rattle.std.specs.FinMap.Entries.{find}

@@ -12,7 +12,7 @@ module _ {R C : Type 0} (reads : KeyReader R C) where
   pub settled : (now : CellMarks) (root : ℕ) (p : KeyParts R) (below : Keys R) → Loaded reads (λ cell. false) now root p below → ((cell : ℕ) → IsIn cell (p.lent ++ lent_cells below) → now cell ≡ false) → LentApart p below
   settled now root p below l free = λ cell h g. clash (now cell) ((l.1.now cell).1 (inr g)) (free cell h)
 
-  -- a way from a key to a key of which a list has the cell
+  -- a way from a key to a key whose list has the cell
   To : (ℕ → List ℕ) → ℕ → ℕ → Type 0
   To list at cell = (way : List ℕ) × (to : ℕ) × WayLeadsTo reads at way to × IsIn cell (list to)
 

@@ -22,7 +22,7 @@ none_before old mid grows cell e = go (old cell) refl
 grows_on : {D : Type 0} (old mid new : ℕ → Option D) → Grows old mid → Grows mid new → Grows old new
 grows_on old mid new g h = λ cell s. h cell (ap is_some (g cell s) ∙ s) ∙ g cell s
 
--- a cell that keys hang on is their own, or is lent
+-- a cell that keys depend on is their own, or is lent
 own_or_lent : {R : Type 0} (f : Keys R) (cell : ℕ) → IsIn cell (all_cells f) → IsIn cell (own_cells f) ⊎ IsIn cell (lent_cells f)
 own_or_lent none cell h = absurd h
 own_or_lent (key at p below after) cell h = elim (in_either cell ((p.own ++ p.lent) ++ all_cells below) (all_cells after) h) [

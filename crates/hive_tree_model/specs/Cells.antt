@@ -1,11 +1,11 @@
--- How keys hang on cells. Cells are given by their data at each offset; what is no cell has none.
+-- How keys depend on cells. Cells are given by their data at each offset; what is no cell has none.
 use Rattle.std.specs.Prelude.{◌≡◌, ℕ, List, ◌++◌, Option, None, IsSome, Ok}
 use Rattle.hive_tree_model.specs.Lists.{IsIn, Once}
 use Rattle.hive_tree_model.specs.Keys.{KeyParts, KeyReader, Keys, own_cells, lent_cells}
 use Rattle.hive_tree_model.specs.Encodings.{CellsMatchKeys, Whole}
 use Rattle.hive_tree_model.specs.Loads.{Inner}
 
--- what a key's cells say hangs on no cells but those that it names as its own or as lent
+-- what a key's cells say depends on no cells but those that it names as its own or as lent
 abbrev pub IsLocal : {D R C : Type 0} → ((ℕ → Option D) → KeyReader R C) → Type 0
 IsLocal {D} {R} read = (old new : ℕ → Option D) (at : ℕ) (parts : KeyParts R) → read old at ≡ Ok parts →
     ((cell : ℕ) → IsIn cell (parts.own ++ parts.lent) → new cell ≡ old cell) → read new at ≡ Ok parts

@@ -38,13 +38,13 @@ abbrev pub last_name : List ℕ → List (List ℕ) → List ℕ
 last_name n [] = n
 last_name n (m ∷ path) = last_name m path
 
--- what is left of a path behind another, where it goes on from it
+-- what is left of a path after another, if it goes on from it
 abbrev pub rest_of : List (List ℕ) → List (List ℕ) → Option (List (List ℕ))
 rest_of [] path = Some path
 rest_of (n ∷ first) [] = None
 rest_of (n ∷ first) (m ∷ path) = if same m n then rest_of first path else None
 
--- the row at a path after the change: at and below the changed key what now stands there, elsewhere the old row
+-- the row at a path after the change: at and below the changed key what is there now, elsewhere the old row
 abbrev pub row_or : {R : Type 0} → Option (List (List ℕ)) → R → Keys R → Option R → Option R
 row_or None row below old = old
 row_or (Some rest) row below old = row_from row below rest

@@ -1,4 +1,4 @@
--- What stands in an image that stands for no tree. Each fault names the keys in question by the ways to them.
+-- The faults of an image that encodes no tree. Each fault names the keys in question by the ways to them.
 use Rattle.std.specs.Prelude.{◌≡◌, ◌≢◌, ◌<◌, ℕ, List, [], ◌∷◌, length, Ok, Err, Some, slice_get}
 use Rattle.hive_tree_model.specs.Lists.{IsIn, Once}
 use Rattle.hive_tree_model.specs.Keys.{KeyParts, KeyReader}
@@ -32,8 +32,8 @@ pub record HasSubkeysAlike {R C : Type 0} (reads : KeyReader R C) (root : ℕ) :
   pub other_reads : reads other ≡ Ok other_parts
   pub same_name : one_parts.name ≡ other_parts.name
 
--- the cells of its own that are looked at while a key is read, in turn, as far as the reading goes: those that belong to
--- it where it is read
+-- the cells of its own that are looked at while a key is read, in turn, as far as the reading goes: those that belong
+-- to it if it is read
 abbrev pub IsTrail : {R C : Type 0} → (ℕ → List ℕ) → KeyReader R C → Type 0
 IsTrail {R} trail reads = (at : ℕ) (parts : KeyParts R) → reads at ≡ Ok parts → trail at ≡ parts.own
 
@@ -54,7 +54,7 @@ pub record Shared {R C : Type 0} (trail : ℕ → List ℕ) (reads : KeyReader R
   pub first : IsIn cell (trail at)
   pub second : IsIn cell (trail other)
 
--- the cells that are lent to a key where it is read
+-- the cells that are lent to a key if it is read
 abbrev pub IsLentTrail : {R C : Type 0} → (ℕ → List ℕ) → KeyReader R C → Type 0
 IsLentTrail {R} lends reads = (at : ℕ) (parts : KeyParts R) → reads at ≡ Ok parts → lends at ≡ parts.lent
 

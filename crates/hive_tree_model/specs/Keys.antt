@@ -1,9 +1,9 @@
--- What is read of an image, key by key. How the cells of one key are read is left open: `reads` tells, for an
--- offset, what the cells of the key there say, or the cause for which they say nothing.
+-- What is read of an image, key by key. How the cells of one key are read is left open. For an offset `reads` gives
+-- what the cells of the key there say, or the cause for which they say nothing.
 use Rattle.std.specs.Prelude.{ℕ, List, [], ◌∷◌, ◌++◌, Result}
 
--- what the cells of one key say: its folded name, its row, the offsets of its subkeys in the order of its lists;
--- and which cells these are: those that belong to it alone, and those that other keys may name too
+-- what the cells of one key say: its folded name, its row, the offsets of its subkeys in the order of its lists. And
+-- which cells these are: those that belong to it alone, and those that other keys may name too
 pub record KeyParts (R : Type 0) : Type 0 where
   pub name : List ℕ
   pub row : R

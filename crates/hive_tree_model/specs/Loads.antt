@@ -40,8 +40,8 @@ with_last (key to its subkey_list after) at parts below = key to its subkey_list
 abbrev pub MeetsMarkedCell : {R C : Type 0} → (ℕ → List ℕ) → KeyReader R C → CellMarks → ℕ → Type 0
 MeetsMarkedCell trail reads marks at = (way : List ℕ) × (to : ℕ) × (cell : ℕ) × WayLeadsTo reads at way to × IsIn cell (trail to) × (marks cell ≡ true)
 
--- A cause that is told for the key at an offset and what is below it stands there: the key at the end of a way can't be
--- read for that cause; a name is missing or stands twice; a cell is reached twice, or was marked before.
+-- A cause reported for the key at an offset and what is below it is true there. The key at the end of a way can't be
+-- read for that cause; a name is missing or there twice; a cell is reached twice, or was marked before.
 abbrev pub HasFault : {R C : Type 0} → (ℕ → List ℕ) → KeyReader R C → C → C → CellMarks → ℕ → C → Type 0
 HasFault trail reads bad_name shared marks at cause =
     KeyIsUnreadable reads at cause

@@ -1,18 +1,19 @@
-//! The law of shapes: which tree an image of cells stands for, why it is at most one, which cells it hangs on,
-//! what an edit in place makes of it, and what stands in an image that stands for none.
+//! The law of shapes. It says which tree an image of cells encodes, why it is at most one, and which cells it depends
+//! on. It says what an edit in place makes of the tree, and which faults are in an image that encodes none.
 //!
-//! An image has cells, each with data at an offset. Keys are spelled by cells: a key's own cells say what its row is and
-//! which subkeys it has, by their offsets. How one key's cells are read is left open here; it is no recursion. The
-//! recursion is over keys alone, and is the same for every format of records: so it is told and proved once.
+//! An image has cells, each with data at an offset. Cells encode keys: a key's own cells say what its row is and which
+//! subkeys it has, by their offsets. How one key's cells are read is left open here; it is no recursion. The recursion
+//! is over keys alone. It is the same for every format of records, and so it is defined and proved once.
 //!
-//! There is no code here. Each law is the contract of a function with an empty body; `specs/` has the words:
+//! There is no code here. Each law is the contract of a function with an empty body; `specs/` has the definitions:
 //!
-//! - `Keys`: what the cells of one key say (`KeyParts`), how keys are read (`KeyReader`), and keys with all that is below them;
-//! - `Trees`: the finite map that such keys make;
-//! - `CellsEncodeTree`: when the cells say it, and so which tree an image stands for;
+//! - `Keys`: what the cells of one key say (`KeyParts`), how keys are read (`KeyReader`), and keys with all that is
+//!   below them;
+//! - `Trees`: the finite map that these keys make;
+//! - `CellsEncodeTree`: when the cells say it, and so which tree an image encodes;
 //! - `Chains`: the same without keys as a whole, by chains of listed keys;
-//! - `Faults`: what stands in an image that stands for no tree;
-//! - `Cells`, `Changes`: how keys hang on cells, and a change of one key and of what is below it.
+//! - `Faults`: which faults are in an image that encodes no tree;
+//! - `Cells`, `Changes`: how keys depend on cells, and a change of one key and of what is below it.
 #![tactic(auto)]
 
 ghost use Rattle.std.specs.Prelude.{◌≡◌, ◌≢◌, ◌↔◌, ◌<◌, ◌++◌, ◌∷◌, [], ℕ, true, false, List, length, Option, Some, None, IsSome, Ok};
@@ -27,12 +28,12 @@ ghost use Rattle.hive_tree_model.specs.Cells.{IsLocal, IsThere, Grows, AreNew, S
 ghost use Rattle.hive_tree_model.specs.Loads.{CellMarks, Marked, Loaded, Loading, with_last, HasFault};
 ghost use Rattle.hive_tree_model.specs.Changes.{Edits, with_key, rest_of, row_or, below_in};
 
-/// An image stands for at most one tree, and that is a tree.
+/// An image encodes at most one tree, and what it encodes is a tree.
 ///
 /// - `one`: at most one.
-/// - `chains`: a path is in it exactly where a chain of listed keys from the root spells the path, with the row of the
-///   last of them.
-/// - `is`: the root is there, with a key its parent, and a key stands under its name.
+/// - `chains`: a path is in it exactly if a chain of listed keys from the root has the path's names. The row is the row
+///   of the last of these keys.
+/// - `is`: the root is there, with each key its parent is there, and each key is under its name.
 pub fn one_tree<R, C>()
     ensures one { (reads : KeyReader R C) (root : ℕ) (t u : TreeOf R) → CellsEncodeTree reads root t →
         CellsEncodeTree reads root u → t ≡ u }
@@ -43,7 +44,7 @@ pub fn one_tree<R, C>()
         (root : ℕ) (tree : TreeOf R) → CellsEncodeTree reads root tree → IsKeyTree name_of tree }
 {}
 
-/// Cells that nothing read hangs on may change: what the key at an offset and those below it say stays as it is.
+/// Cells that nothing read depends on may change: what the key at an offset and those below it say stays as it is.
 pub fn stays<D, R, C>()
     ensures { (read : (ℕ → Option D) → KeyReader R C) → IsLocal read → (old new : ℕ →
         Option D) (at : ℕ) (parts : KeyParts R) (below : Keys R) →
@@ -52,11 +53,11 @@ pub fn stays<D, R, C>()
         Whole (read new) at parts below }
 {}
 
-/// Where one key below the root comes to say something else, or has other keys below it, and its offset and name stay, the
-/// image stands for the tree that differs from the old one at and below that key's path alone.
+/// One key below the root may come to say something else, or have other keys below it, while its offset and name stay.
+/// Then the image encodes a tree that differs from the old one at and below that key's path alone.
 ///
 /// - `whole`, `rows`: so in general.
-/// - `own`, `others`: where the keys below it stay too, it has its new row, and every other key its old one.
+/// - `own`, `others`: if the keys below it stay too, it has its new row, and every other key its old one.
 pub fn edits<D, R, C>()
     ensures whole { (read : (ℕ → Option D) → KeyReader R C) → IsLocal read → (old new : ℕ →
         Option D) (root : ℕ) (above : KeyParts R) (subkey_list : Keys R)
@@ -87,8 +88,8 @@ pub fn edits<D, R, C>()
         ≡ finite.get (tree_of above subkey_list) q }
 {}
 
-/// An image in which a fault stands stands for no tree; and one that has a key deeper than a number of levels stands
-/// for no tree but one with a longer path.
+/// An image with a fault encodes no tree. An image that has a key deeper than a number of levels encodes no tree but
+/// one with a longer path.
 pub fn faults<R, C>()
     ensures unread { (reads : KeyReader R C) (root : ℕ) (tree : TreeOf R) (cause : C) →
         KeyIsUnreadable reads root cause → CellsEncodeTree reads root tree → ⊥ }
@@ -115,10 +116,10 @@ pub fn faults<R, C>()
 /// Reading keys one after another, each cell marked as it is looked at, so that none is looked at twice.
 ///
 /// - `begins`, `goes_on`: the first of a key's subkeys are read, and one more.
-/// - `ends`: a key is read where its own cells are and all its subkeys, and no name is missing or stands twice.
-/// - `settled`, `lent`: at the end each cell that is lent is looked for among the marked ones: either none is there, or a
-///   fault is found.
-/// - `told`: a cause that is told for a subkey, the first ones being read, may be told for the key.
+/// - `ends`: a key is read if its own cells are read and all its subkeys, and no name is missing or there twice.
+/// - `settled`, `lent`: at the end each cell that is lent is looked for among the marked ones. Either none is there, or
+///   a fault is found.
+/// - `told`: a cause reported for a subkey, the first ones being read, may be reported for the key.
 pub fn loads<R, C>()
     ensures begins { (reads : KeyReader R C) (marks : CellMarks) → Loading reads marks marks none }
     ensures goes_on { (reads : KeyReader R C) (old mid new : CellMarks) (first : Keys R) (at : ℕ)
@@ -151,8 +152,8 @@ pub fn loads<R, C>()
 /// Writing keys one after another, each into cells that were not there, while all cells that are there stay.
 ///
 /// - `begins`, `goes_on`: the first of a key's subkeys are written, and one more.
-/// - `ends`: a key is written where its own cells are, behind its subkeys.
-/// - `filled`: a key is written whose first cell was there ahead of its subkeys, and is filled behind them.
+/// - `ends`: a key is written if its own cells are, after its subkeys.
+/// - `filled`: a key is written whose first cell was there ahead of its subkeys, and is filled after them.
 pub fn writes<D, R, C>()
     ensures begins { (read : (ℕ → Option D) → KeyReader R C) → IsLocal read → IsThere read →
         (cells : ℕ → Option D) → SubkeysAreWritten read cells cells none }

@@ -34,7 +34,7 @@ pub raised_is : (b : BaseBlock) (next : SequenceNumber) (sector : List ℕ) → 
 unfolding numbered
 raised_is b next sector n e = e ∙ ap (λ (n : ℕ). sector_of (numbered b n)) n
 
--- no dirty page from one on: no byte behind its beginning is in one
+-- no dirty page from one on: no byte after its beginning is in one
 pub clean_from : (v : Pages) (from end : ℕ) → NoneFrom v from → AreClean v (512 * from) end
 clean_from v from end none = λ i low high. none (i / 512) (omega (arith, low))
 
@@ -55,7 +55,7 @@ run_falls v from start end (suc page) run some le =
 
 -- ---- the log
 
--- a piece of a text, as it is handed on
+-- a chunk of an encoding, as it is handed on
 chunk_is : (encoding bytes : List ℕ) (n : ℕ) → bytes ≡ take 65536 (drop n encoding) → bytes ≡ take (length bytes) (drop n encoding)
 chunk_is encoding bytes n is =
     let size : length bytes ≡ length (take 65536 (drop n encoding)) = ap (λ (xs : List ℕ). length xs) is in
@@ -63,7 +63,7 @@ chunk_is encoding bytes n is =
     (λ k lt. get_or-take 65536 (drop n encoding) k 0 (omega (arith, lt, length-take 65536 (drop n encoding)))
     ∙ sym (get_or-take (length bytes) (drop n encoding) k 0 (omega (arith, lt, size))))
 
--- where a piece stands, that it lies in the text, and where the next begins
+-- where a chunk is, that it lies in the encoding, and where the next begins
 pub record IsChunkAt (encoding bytes : List ℕ) (index : ℕ) : Type 0 where
   pub here : min (65536 * index) (length encoding) ≡ 65536 * index
   pub within : 65536 * index + length bytes ≤ length encoding

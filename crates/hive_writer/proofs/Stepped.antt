@@ -1,4 +1,4 @@
--- A step: where it begins, its call, and what is taken in of it.
+-- A step: where it begins, its call, and what is applied of its result.
 use Rattle.std.proofs.Common.{◌≡◌, inl, inr, ℕ, ◌*◌, ◌<◌, List, length, refl, sym, ap, ◌∙◌, subst, arith, Option, Result, Ok, Err}
 use Rattle.std.specs.Prelude.{min, IfOk}
 use Rattle.std.proofs.lemmas.Bool.{true≢false}
@@ -23,7 +23,7 @@ use Rattle.hive_writer.specs.declared.stage.FlushStage.TheVariants as stage
 use Rattle.hive_writer.specs.declared.stage.Purpose.{Purpose}
 use Rattle.hive_writer.specs.WriterSteps.{CallsDecrease, calls_left, plan_of, work_of, FilesMatchStage, PrimaryIsSyncedAt, CallLeadsTo, StepKeepsMatch, IsNext, IsFlushing, BeginsAt, StepEndsAs, KeepsBlocks, base_after, choice_at, durable_after, dirty_after}
 
--- ---- what is taken in
+-- ---- what is applied
 
 pub settled_keeps : (called : Result FlushStage Failed) (result : Result Progress Refusal) (old new : HiveWriter) → StepEndsAs called result old new → KeepsBlocks old new result
 settled_keeps (Ok stage.AtRest) result old new s = subst (λ (r : Result Progress Refusal). KeepsBlocks old new r) (sym s.0) (subst (λ (n : HiveWriter). KeepsBlocks old n (Ok progress.Done)) (sym s.1) (record { hive = refl; block = refl; base = refl }))

@@ -1,4 +1,4 @@
--- A hive's two files, told apart.
+-- A hive's two files, distinguished.
 use Rattle.std.specs.Prelude.{ℕ}
 use Rattle.disk_model.specs.StoreFiles.{primary_file, log_file}
 use Rattle.hive_writer.specs.declared.device.HiveFileKind.{HiveFileKind}

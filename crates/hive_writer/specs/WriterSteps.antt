@@ -34,7 +34,7 @@ plan_of writer image pages = record {
   encoding = log_bytes image pages writer.block;
 }
 
--- A plan ends with the writer's block, as that of a flush and that of a repair do.
+-- A plan ends with the writer's block, as the plan of a flush and the plan of a repair do.
 pub record PlanEndsWith (last : BaseBlock) (plan : FlushPlan) : Type 0 where
   pub block : plan.block ≡ last
   pub final : plan.final ≡ sector_of last
@@ -43,7 +43,7 @@ abbrev pub purpose_in : Purpose → phases.Purpose
 purpose_in purpose.Flush = Flush
 purpose_in purpose.Repair = Repair
 
--- the phase of a stage, for a log of so many bytes, which is written in pieces
+-- the phase of a stage, for a log of a number of bytes, which is written in chunks
 abbrev pub phase_in : ℕ → FlushStage → FlushPhase
 phase_in total stage.AtRest = AtRest
 phase_in total (stage.WritingLog chunks) = WritingLog (min (CHUNK_BYTES * chunks) total)
@@ -56,7 +56,7 @@ phase_in total (stage.HeaderWritten purpose) = HeaderWritten (purpose_in purpose
 abbrev pub work_of : {T : Type 0} → FlushPlan → List ℕ → Pages → T × ℕ → T × ℕ → FlushState T
 work_of plan image pages now memory = record { now = now; memory = memory; image = image; pages = pages; plan = plan }
 
--- what surely stands in a stage that a call led to: where the hive is quiet again, what was in memory
+-- what is surely durable in a stage that a call led to: if the hive is quiet again, what was in memory
 abbrev pub durable_in : {T : Type 0} → FlushStage → T × ℕ → T × ℕ → T × ℕ
 durable_in stage.AtRest now memory = memory
 durable_in (stage.WritingLog chunks) now memory = now
@@ -66,8 +66,8 @@ durable_in (stage.WritingPages purpose page) now memory = now
 durable_in (stage.PagesSynced purpose) now memory = now
 durable_in (stage.HeaderWritten purpose) now memory = now
 
--- the pages in which the primary file may differ from the image in a stage that a call led to: where the hive is quiet again,
--- none does, whatever is said to be dirty
+-- the pages in which the primary file may differ from the image in a stage that a call led to. If the hive is quiet
+-- again, none does, whatever is said to be dirty
 abbrev pub dirty_in : FlushStage → Pages → Pages → Pages
 dirty_in stage.AtRest pages others = others
 dirty_in (stage.WritingLog chunks) pages others = pages
@@ -81,11 +81,13 @@ dirty_in (stage.HeaderWritten purpose) pages others = pages
 abbrev pub FilesMatchStage : {T : Type 0} → TreeDecoder T → FlushState T → ℕ → FlushStage → (ℕ → FileState) → Type 0
 FilesMatchStage decode work hive at states = files_match_phase decode work (phase_in (length work.plan.encoding) at) (states (primary_file hive)) (states (log_file hive))
 
--- At a stage that a call has led to, the primary file is at rest behind the sync of the log, and behind that of the pages.
+-- At a stage that a call has led to, the primary file is at rest after the sync of the log, and after the sync of the
+-- pages.
 abbrev pub PrimaryIsSyncedAt : ℕ → FlushStage → (ℕ → FileState) → Type 0
 PrimaryIsSyncedAt hive at states = PrimaryIsSyncedIn (phase_in 0 at) (states (primary_file hive))
 
--- A call leads from a stage to the next, for whatever stands and is in memory; one that failed leaves the files in theirs.
+-- A call leads from a stage to the next, for whatever is durable and in memory; a call that failed leaves the files in
+-- their stage.
 abbrev pub CallLeadsTo : {T : Type 0} → TreeDecoder T → FlushPlan → List ℕ → Pages → ℕ → FlushStage → Result FlushStage Failed → (ℕ → FileState) → (ℕ → FileState) → Type 0
 CallLeadsTo {T = T} decode plan image pages hive at result before after =
     (now memory : T × ℕ) (others : Pages) → others.bins_size ≡ length image → PlanFitsImage decode memory image pages plan
@@ -93,7 +95,7 @@ CallLeadsTo {T = T} decode plan image pages hive at result before after =
     → MatchResult result (λ next. FilesMatchStage decode (work_of plan image (dirty_in next pages others) (durable_in next now memory) memory) hive next after × PrimaryIsSyncedAt hive next after)
     (λ _. FilesMatchStage decode (work_of plan image pages now memory) hive at after)
 
--- which stage follows one: as many pieces and pages as there are
+-- which stage follows one: as many chunks and pages as there are
 abbrev pub IsNext : FlushStage → FlushStage → Type 0
 IsNext stage.AtRest next = ⊥
 IsNext (stage.WritingLog chunks) next = (next ≡ stage.WritingLog (chunks + 1)) ⊎ (next ≡ stage.LogSynced)
@@ -127,13 +129,13 @@ IsFlushing (stage.HeaderWritten whose) = whose ≡ purpose.Flush
 abbrev pub dirty_from : Pages → ℕ → ℕ
 dirty_from pages page = dirty_count pages - marked_count (is_dirty pages) page
 
--- how many pieces a log of so many bytes has
+-- how many chunks a log of a number of bytes has
 abbrev pub chunk_count : ℕ → ℕ
 chunk_count total = (total + (CHUNK_BYTES - 1)) / CHUNK_BYTES
 
--- How many calls are left until a flush or a repair is done, at most, for a log of so many bytes: its pieces and its sync, the
--- raised sector and its sync, a write for each dirty page and their sync, the last sector and its sync. Of a quiet hive it is
--- a whole flush.
+-- How many calls are left until a flush or a repair is done, at most, for a log of a number of bytes. They are its
+-- chunks and its sync, the raised sector and its sync. Then a write for each dirty page and their sync, the last sector
+-- and its sync. For a quiet hive it is a whole flush.
 abbrev pub calls_left : ℕ → Pages → FlushStage → ℕ
 calls_left total pages stage.AtRest = chunk_count total + dirty_count pages + 6
 calls_left total pages (stage.WritingLog chunks) = chunk_count total - chunks + dirty_count pages + 6
@@ -143,7 +145,7 @@ calls_left total pages (stage.WritingPages purpose page) = dirty_from pages page
 calls_left total pages (stage.PagesSynced purpose) = 2
 calls_left total pages (stage.HeaderWritten purpose) = 1
 
--- a call leads to the end, or to where fewer calls are left
+-- a call leads to the end, or to a stage with fewer calls left
 abbrev pub CallsDecrease : ℕ → Pages → FlushStage → FlushStage → Type 0
 CallsDecrease total pages at next = (next ≡ stage.AtRest) ⊎ (calls_left total pages next < calls_left total pages at)
 
@@ -151,7 +153,7 @@ CallsDecrease total pages at next = (next ≡ stage.AtRest) ⊎ (calls_left tota
 abbrev pub choice_at : {T : Type 0} → FlushStage → T × ℕ → T × ℕ → Choice (T × ℕ)
 choice_at at now memory = choice_in (phase_in 0 at) now memory
 
--- what surely stands after a step
+-- what is surely durable after a step
 abbrev pub durable_after : {T : Type 0} → Result Progress Refusal → T × ℕ → T × ℕ → T × ℕ
 durable_after (Ok progress.Done) now memory = memory
 durable_after (Ok progress.More) now memory = now
@@ -165,7 +167,7 @@ dirty_after (Ok progress.More) pages others = pages
 dirty_after (Ok progress.Idle) pages others = pages
 dirty_after (Err refusal) pages others = pages
 
--- a flush begins with the first piece of its log; one that has begun goes on
+-- a flush begins with the first chunk of its log; one that has begun goes on
 abbrev pub BeginsAt : FlushStage → HiveWriter → HiveWriter → Type 0
 BeginsAt stage.AtRest old new = new ≡ record old { stage = stage.WritingLog 0 }
 BeginsAt (stage.WritingLog chunks) old new = new ≡ old
@@ -175,22 +177,23 @@ BeginsAt (stage.WritingPages purpose page) old new = new ≡ old
 BeginsAt (stage.PagesSynced purpose) old new = new ≡ old
 BeginsAt (stage.HeaderWritten purpose) old new = new ≡ old
 
--- What a step does to a writer: it comes to the next stage; where that is quiet, it is done, and the primary file's block is
--- the one that was to be. Where the device failed, it stays in its stage for good.
+-- What a step does to a writer: it comes to the next stage. If that stage is quiet, it is done, and the primary file's
+-- block is the one that was to be. If the device failed, it stays in its stage for good.
 abbrev pub StepEndsAs : Result FlushStage Failed → Result Progress Refusal → HiveWriter → HiveWriter → Type 0
 StepEndsAs (Ok stage.AtRest) result old new = (result ≡ Ok progress.Done) × (new ≡ record old { stage = stage.AtRest; base = old.block })
 StepEndsAs (Ok next) result old new = (result ≡ Ok progress.More) × (new ≡ record old { stage = next })
 StepEndsAs (Err why) result old new = (result ≡ Err DiskFault) × (new ≡ record old { failed = true })
 
--- A step leads a writer's files on, for whatever stands and is in memory; and where it is done, whatever pages are said to be
--- dirty from then on. As long as the device hasn't failed in it, the primary file rests where no write of it is on its way.
+-- A step leads a writer's files on, for whatever is durable and in memory; and if it is done, whatever pages are said
+-- to be dirty from then on. The primary file rests if no write of it is on its way, as long as the device hasn't failed
+-- in the step.
 abbrev pub StepKeepsMatch : {T : Type 0} → TreeDecoder T → FlushPlan → List ℕ → Pages → Result Progress Refusal → HiveWriter → HiveWriter → (ℕ → FileState) → (ℕ → FileState) → Type 0
 StepKeepsMatch {T = T} decode plan image pages result old new before after =
     (now memory : T × ℕ) (others : Pages) → others.bins_size ≡ length image → PlanFitsImage decode memory image pages plan
     → FilesMatchStage decode (work_of plan image pages now memory) old.hive old.stage before
     → FilesMatchStage decode (work_of plan image (dirty_after result pages others) (durable_after result now memory) memory) new.hive new.stage after × (new.failed ≡ false → PrimaryIsSyncedAt new.hive new.stage after)
 
--- the block that a primary file has after a step: where it is done, the one that was to be
+-- the block that a primary file has after a step: if it is done, the one that was to be
 abbrev pub base_after : Result Progress Refusal → HiveWriter → BaseBlock
 base_after (Ok progress.Done) old = old.block
 base_after (Ok progress.More) old = old.base

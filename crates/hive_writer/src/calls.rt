@@ -23,7 +23,7 @@ use std::ops::Range;
 const MOST_PAGES: usize = CHUNK_BYTES / PAGE_BYTES;
 
 impl HiveWriter {
-    // a piece of the log, of which there is one
+    // a chunk of the log, given that there is one
     pub(crate) fn write_log_chunk<D: Disk, T>(
         &self,
         disk: &mut D,
@@ -57,7 +57,7 @@ impl HiveWriter {
         }
     }
 
-    // the sync of the log, behind its last piece
+    // the sync of the log, after its last chunk
     pub(crate) fn sync_log<D: Disk, T>(
         &self,
         disk: &mut D,
@@ -85,7 +85,7 @@ impl HiveWriter {
         }
     }
 
-    // the next piece of the log, or its sync
+    // the next chunk of the log, or its sync
     pub(crate) fn write_log<D: Disk, T>(
         &self,
         disk: &mut D,
@@ -202,7 +202,7 @@ impl HiveWriter {
         }
     }
 
-    // the sync behind the last page
+    // the sync after the last page
     pub(crate) fn sync_pages<D: Disk, T>(
         &self,
         disk: &mut D,
@@ -265,7 +265,7 @@ impl HiveWriter {
         }
     }
 
-    // its sync: what was in memory stands
+    // its sync: what was in memory is durable
     pub(crate) fn sync_header<D: Disk, T>(
         &self,
         disk: &mut D,

@@ -7,10 +7,9 @@ ghost use Rattle.hive_writer.specs.declared.stage.Purpose.TheVariants as purpose
 ghost use Rattle.hive_writer.specs.declared.stage.FlushStage.TheVariants as stage;
 ghost use Rattle.refusals.specs.declared.limits.TheConstants.{MOST_BINS_BYTES};
 
-/// A law: a flush of `p` dirty pages is done within `2 * p + 7` of its steps, and a repair of `p` marked pages within `p + 3`,
-/// where none is refused: each step
-/// that is not the last leaves fewer calls, and these are what there are at the beginning, the log being the text behind a first
-/// sector.
+/// A law: if none is refused, a flush of `p` dirty pages is done within `2 * p + 7` of its steps, and a repair of `p`
+/// marked pages within `p + 3`. Each step that is not the last leaves fewer calls. At the beginning as many calls as
+/// these are left, the log being the encoding after a first sector.
 pub fn step_bounds()
     ensures flush { (image sector : List ℕ) (pages : Pages) → length image ≡ pages.bins_size →
         length sector ≡ 512 → pages.bins_size ≤ MOST_BINS_BYTES →

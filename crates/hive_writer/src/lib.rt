@@ -1,13 +1,13 @@
 //! The device calls of a flush and of a repair of one hive, one a step.
 //!
-//! A [`HiveWriter`] knows the numbers of the hive's two files, the base block as the primary file has it and as it will be,
-//! and how far it is. It holds no image: whoever owns the bins data and their dirty pages hands them in, the same ones from
-//! the first step of a flush to the last. Which tree an image stands for is no matter here.
+//! A [`HiveWriter`] knows the numbers of the hive's two files, and how far it is. It knows the base block as the
+//! primary file has it and as it will be. It keeps no image. Whoever owns the bins data and their dirty pages hands
+//! them in, the same ones from the first step of a flush to the last. Which tree an image encodes doesn't matter here.
 //!
-//! A flush writes the log in pieces of 65,536 bytes and syncs it; writes the first sector of the primary file with the raised
-//! number and syncs it; writes each run of adjacent dirty pages, at most 65,536 bytes at once and straight from the image, and
-//! syncs them; writes the first sector with both numbers raised, and syncs it. A repair is the part from the pages on.
-//! No step takes memory.
+//! A flush writes the log in chunks of 65,536 bytes and syncs it. It writes the first sector of the primary file with
+//! the raised number and syncs it. It writes each run of adjacent dirty pages, at most 65,536 bytes at once and
+//! straight from the image, and syncs them. It writes the first sector with both numbers raised, and syncs it. A repair
+//! is the part from the pages on. No step takes memory.
 #![tactic(auto)]
 
 mod calls;

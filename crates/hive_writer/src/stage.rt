@@ -3,9 +3,9 @@
 /// Whose pages are written.
 #[derive(Clone, Copy)]
 pub enum Purpose {
-    /// Those of an image that is newer than the primary file.
+    /// The pages of an image that is newer than the primary file.
     Flush,
-    /// Those of a log, into a primary file that isn't clean.
+    /// The pages of a log, into a primary file that isn't clean.
     Repair,
 }
 
@@ -14,7 +14,7 @@ pub enum Purpose {
 pub enum FlushStage {
     /// Nothing is on its way: the primary file is clean.
     AtRest,
-    /// So many pieces of the log are written.
+    /// This many chunks of the log are written.
     WritingLog(u32),
     /// The log is synced.
     LogSynced,

@@ -19,8 +19,8 @@ use dirty_vector::DirtyVector;
 use disk_model::{Disk, Failed, Progress};
 use refusals::Refusal;
 
-/// Where a flush or a repair of one hive is, and what it writes beside pages. Plain data: whoever owns it changes it through
-/// the calls below alone.
+/// How far a flush or a repair of one hive is, and what it writes beside pages. Plain data: whoever owns it changes it
+/// through the calls below alone.
 #[derive(Drop)]
 pub struct HiveWriter {
     /// The hive's number in its store.
@@ -56,7 +56,7 @@ impl HiveWriter {
         }
     }
 
-    /// Of an unclean primary file, whose log's block, as that of a primary file, is the one that it will have.
+    /// Of an unclean primary file. The base block that it will have is its log's, as the block of a primary file.
     pub fn of_unclean(hive: u8, block: BaseBlock) -> HiveWriter
         ensures { result ≡ record {
           hive = hive;
@@ -84,11 +84,11 @@ impl HiveWriter {
         self.block = block;
     }
 
-    /// One step of a flush, which begins where the hive is quiet. The image and its dirty pages are the same from the first
-    /// step to the last. A write takes at most 65,536 bytes.
+    /// One step of a flush, which begins if the hive is quiet. The image and its dirty pages are the same from the
+    /// first step to the last. A write takes at most 65,536 bytes.
     ///
-    /// Takes no memory. Refused with `DiskFault` where the device failed in the call, and with `Faulted` exactly where it had
-    /// failed in an earlier one: nothing is done then.
+    /// Takes no memory. Refused with `DiskFault` if the device failed in the call. Refused with `Faulted` exactly if it
+    /// had failed in an earlier one: nothing is done then.
     pub fn step<D: Disk, T>(
         &mut self,
         disk: &mut D,
@@ -132,8 +132,8 @@ impl HiveWriter {
         self.finish_call(called)
     }
 
-    /// One step of a repair, with the image as the log repairs it and the pages that the log marks. A write takes at most 65,536
-    /// bytes.
+    /// One step of a repair, with the image as the log repairs it and the pages that the log marks. A write takes at
+    /// most 65,536 bytes.
     ///
     /// Takes no memory. Refused as [`step`](HiveWriter::step) is.
     pub fn repair_step<D: Disk, T>(
@@ -177,7 +177,7 @@ impl HiveWriter {
         self.finish_call(called)
     }
 
-    // where the hive is quiet, the log is what is written first
+    // if the hive is quiet, the log is what is written first
     fn begin(&mut self)
         ensures begins { BeginsAt self.old.stage self.old self.new }
         ensures flushing { IsFlushing self.old.stage → IsFlushing self.new.stage }
@@ -258,7 +258,7 @@ impl HiveWriter {
         }
     }
 
-    // takes in what a call has come to
+    // applies the result of a call
     fn finish_call(&mut self, called: Result<FlushStage, Failed>) -> Result<Progress, Refusal>
         ensures { StepEndsAs called result self.old self.new }
     {

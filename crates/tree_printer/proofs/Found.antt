@@ -35,7 +35,7 @@ all_found (subkey ∷ subkey_list) h = (
   later_found subkey subkey_list subkey_list (front_of (below_all name_order subkey.0 subkey_list) (is_sorted name_order subkey_list) h) (all_found subkey_list (back_of (below_all name_order subkey.0 subkey_list) (is_sorted name_order subkey_list) h)),
 )
 
--- below the name of a subkey stands what stands in the subkey
+-- below the name of a subkey is what is in the subkey
 abbrev pub StandsBelow : Entries → List ℕ × Entries → Type 0
 StandsBelow whole subkey = (path : List (List ℕ)) → row_at whole (subkey.0 ∷ path) ≡ row_at subkey.1 path
 

@@ -1,4 +1,5 @@
--- The lines of a key and of all below it are its own and those of its subkeys, one after the other.
+-- The lines of a key and of all below it are its own and the lines of its subkeys, one after the
+-- other.
 use Rattle.std.proofs.Common.{◌≡◌, ℕ, zero, suc, ◌+◌, ◌<◌, T, List, [], ◌∷◌, ◌++◌, length, map, take, slice_get, Option, Some, None, refl, sym, ◌∙◌, ap, arith, append_assoc}
 use Rattle.std.specs.List.{AllByRecursion, flat_map}
 use Rattle.std.specs.FinMap as finite
@@ -56,7 +57,7 @@ next_text text xs i x e =
     sym (ap (flat_map text) (take_more xs i x (slice_get_within xs i x e) ∙ ap (λ y. take i xs ++ y ∷ []) (get_or_from_slice_get xs i x x e))
     ∙ flat_map-append text (take i xs) (x ∷ []) ∙ ap (λ t. flat_map text (take i xs) ++ t) (append-nil (text x)))
 
--- the subkey whose entries stand at a place
+-- the subkey whose entries are at an index
 subkey_at : (subkey_list : List (List ℕ × Entries)) (i : ℕ) (es : Entries) → Some es ≡ slice_get (map (λ subkey. subkey.1) subkey_list) i → (subkey : List ℕ × Entries) × (slice_get subkey_list i ≡ Some subkey) × (subkey.1 ≡ es)
 subkey_at [] i es e = absurd (let no : ⊥ = cc in no)
 subkey_at (subkey ∷ subkey_list) zero es e = (subkey, refl, cc)
@@ -71,7 +72,7 @@ next_subkey hive names subkey_list i es row at here =
     ap (λ r. node_lines hive (names ++ name_of_row r ∷ []) es) (sym here) ∙ ap (λ xs. node_lines hive (names ++ name_of_row (row_at xs []) ∷ []) xs) (sym subkey.2) in
     ap (λ t. flat_map (subkey_lines hive names) (take i subkey_list) ++ t) its ∙ next_text (subkey_lines hive names) subkey_list i subkey.0 subkey.1
 
--- what is at a place within a list
+-- what is at an index within a list
 pub is_there : {X : Type 0} (xs : List X) (i : ℕ) → i < length xs → None ≡ slice_get xs i → ⊥
 is_there [] i h e = absurd (omega arith)
 is_there (x ∷ xs) zero h e = cc
@@ -81,7 +82,7 @@ is_there (x ∷ xs) (suc i) h e = is_there xs i (omega arith) e
 pub values_long : (values : ValueMap) → finite.len values ≡ length (finite.values values)
 values_long values = len-entries values ∙ sym (length-map (finite.entries values) (λ e. e.1))
 
--- a tree's keys are those of its root's node
+-- a tree's keys are the keys of its root's node
 pub whole_lines : (hive : ℕ) (entries : Entries) → IsNode entries → node_lines hive [] entries ≡ flat_map (λ (e : List (List ℕ) × Row). key_lines hive (spelled_names (finite.from_sorted {R = path_order} entries) e.0) e.1) (finite.entries (finite.from_sorted {R = path_order} entries))
 whole_lines hive entries node =
     let tree = finite.from_sorted {R = path_order} entries in

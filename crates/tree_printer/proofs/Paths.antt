@@ -16,14 +16,14 @@ behind : (names : List (List ℕ)) (last : List ℕ) → 0 < length names → pa
 behind [] last some = absurd (omega arith)
 behind (name ∷ names) last some = one_more name names last
 
--- a name behind others was written, with a backslash between
+-- a name after others was written, with a backslash between
 pub written_behind : (a b c d : Option (List ℕ)) (names : List (List ℕ)) (before last : List ℕ) → Appends a b (path_text (names ++ before ∷ [])) → Appends b c (92 ∷ []) → Appends c d (name_text last) → Appends a d (path_text ((names ++ before ∷ []) ++ last ∷ []))
 written_behind a b c d names before last one two three =
     appends_both a c d (path_text (names ++ before ∷ []) ++ 92 ∷ []) (name_text last) (path_text ((names ++ before ∷ []) ++ last ∷ []))
     (appends_both a b c (path_text (names ++ before ∷ [])) (92 ∷ []) (path_text (names ++ before ∷ []) ++ 92 ∷ []) one two refl) three
     (append_assoc (path_text (names ++ before ∷ [])) (92 ∷ []) (name_text last) ∙ sym (behind (names ++ before ∷ []) last (omega (arith, length-append names (before ∷ [])))))
 
--- what follows where an answer is Ok
+-- what follows if an answer is Ok
 pub on_ok : {T E P Q : Type 0} (answer : Result T E) → (P → Q) → OnOk answer P → OnOk answer Q
 on_ok (Ok x) f p = f p
 on_ok (Err e) f p = tt

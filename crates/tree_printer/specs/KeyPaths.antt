@@ -15,10 +15,10 @@ names_on (Below' at above name) = names_on above ++ name.now ∷ []
 abbrev pub spelled_in : Entries → List (List ℕ) → List (List ℕ)
 spelled_in entries path = map (λ start. name_of_row (row_at entries start)) (beginnings path)
 
--- the lines of the keys whose entries these are, where names lead to the first of them
+-- the lines of the keys whose entries these are, if names lead to the first of them
 abbrev pub node_lines : ℕ → List (List ℕ) → Entries → List ℕ
 node_lines hive names entries = flat_map (λ entry. key_lines hive (names ++ spelled_in entries entry.0) entry.1) entries
 
--- those of a subkey
+-- the lines of a subkey
 abbrev pub subkey_lines : ℕ → List (List ℕ) → List ℕ × Entries → List ℕ
 subkey_lines hive names subkey = node_lines hive (names ++ name_of_row (row_at subkey.1 []) ∷ []) subkey.1

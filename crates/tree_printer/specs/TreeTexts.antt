@@ -8,12 +8,12 @@ use Rattle.reg_tree_parts.specs.Rows.{Row}
 use Rattle.reg_tree.specs.Maps.{TreeMap, row, beginnings}
 use Rattle.script_syntax.specs.Replies.{name_text, data_text}
 
--- the name of a key as spelled, where one is there
+-- the name of a key as spelled, if one is there
 abbrev pub name_of_row : Option Row → List ℕ
 name_of_row None = []
 name_of_row (Some key) = key.name
 
--- the names along a path, each as the key spells it that stands there in the tree
+-- the names along a path, each as spelled by the key that is there in the tree
 abbrev pub spelled_names : TreeMap → List (List ℕ) → List (List ℕ)
 spelled_names tree path = map (λ start. name_of_row (row tree start)) (beginnings path)
 
@@ -27,7 +27,7 @@ path_text (name ∷ next ∷ names) = name_text name ++ 92 ∷ path_text (next �
 abbrev pub value_line : Value → List ℕ
 value_line value = codes "val " ++ name_text value.name ++ codes " " ++ decimal value.kind ++ codes " " ++ data_text value.«data» ++ codes "\n"
 
--- the line of a key of a hive, whose path has these names, with the moment of its last write; and behind it the lines of
+-- the line of a key of a hive, whose path has these names, with the moment of its last write; and after it the lines of
 -- its values
 abbrev pub key_lines : ℕ → List (List ℕ) → Row → List ℕ
 key_lines hive names key =

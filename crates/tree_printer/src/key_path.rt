@@ -9,8 +9,8 @@ use script_syntax::write_name;
 use std::io;
 use std::io::Write;
 
-/// How a key is reached from the root of its tree. Each level of a walk holds its own name and knows the way before it, so
-/// that a walk takes no memory for the names.
+/// How a key is reached from the root of its tree. Each level of a walk keeps its own name and knows the way before it,
+/// so that a walk takes no memory for the names.
 #[derive(Clone, Copy)]
 pub(crate) enum KeyPath<'a> {
     /// The root, which has no name.

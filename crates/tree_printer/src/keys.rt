@@ -11,9 +11,9 @@ use reg_tree_parts::{Key, Node};
 use std::io;
 use std::io::Write;
 
-/// Writes the text of a tree, as that of the hive of this number: a line for the hive, then for each key in the order of
-/// paths its line and a line for each of its values, in the order of their names. It takes no memory. `Err` says that a
-/// write failed.
+/// Writes the text of a tree, as the hive of this number. First comes a line for the hive. Then for each key in the
+/// order of paths come its line and a line for each of its values, in the order of their names. It takes no memory.
+/// `Err` says that a write failed.
 pub fn write_tree<W: Write>(writer: &mut W, hive: u8, tree: &Tree) -> io::Result<()>
     ensures { OnOk result (Appends (W.contents writer.old) (W.contents writer.new)
         (tree_text hive tree.now)) }
@@ -43,7 +43,7 @@ fn write_keys<'a, W: Write>(
     Ok(())
 }
 
-// writes the line of a key, to which this way leads, and those of its values
+// writes the line of a key, to which this way leads, and the lines of its values
 fn write_key<W: Write>(
     writer: &mut W,
     hive: u8,

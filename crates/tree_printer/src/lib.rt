@@ -1,7 +1,7 @@
-//! The text of a registry tree: a line for its hive, a line for each key, and behind it one for each of its values.
+//! The text of a registry tree: a line for its hive, a line for each key, and after it one for each of its values.
 //!
-//! [`write_tree`] writes it into any writer, a key at a time, in the order of paths. It takes no memory, so what was begun
-//! is told to its end wherever the writer takes it, and it holds nothing of the text: whoever calls it hands in a writer
+//! [`write_tree`] writes it into any writer, a key at a time, in the order of paths. It takes no memory, so what was
+//! begun is written to its end if the writer takes it. It keeps nothing of the text: whoever calls it hands in a writer
 //! with a buffer.
 #![tactic(auto)]
 

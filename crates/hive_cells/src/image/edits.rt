@@ -1,6 +1,6 @@
 //! Changes of cells in place: each leaves data that bins and cells tile.
 //!
-//! Where a function begins by `let _ = &self.bytes;`, its proof needs what every image keeps.
+//! If a function begins with `let _ = &self.bytes;`, its proof needs what every image keeps.
 ghost use Rattle.std.specs.Prelude.{◌≡◌, ℕ, ◌+◌, ◌*◌, ◌%◌, ◌^◌, ◌<◌, ◌≤◌, List, length, false};
 ghost use Rattle.refusals.specs.declared.limits.TheConstants.{MOST_BINS_BYTES};
 ghost use Rattle.hive_cells.specs.Tiles.{BeginsCell, IsAllocatedCell, IsFreeCell, cell_size};
@@ -24,7 +24,7 @@ impl Image {
         self.free.note(at, size);
     }
 
-    // splits the free cell at an offset into two free ones, of which the first has the size.
+    // splits the free cell at an offset into two free cells, the first of which has the size.
     fn split(&mut self, at: usize, size: usize)
         requires limit { length self.old.bytes ≤ MOST_BINS_BYTES }
         requires free { IsFreeCell self.old.bytes at }
@@ -40,7 +40,7 @@ impl Image {
         self.free.note(at + size, rest);
     }
 
-    // joins the free cell at an offset with the free cell behind it.
+    // joins the free cell at an offset with the free cell after it.
     fn join(&mut self, at: usize, next: usize)
         requires limit { length self.old.bytes ≤ MOST_BINS_BYTES }
         requires free { IsFreeCell self.old.bytes at }
@@ -55,7 +55,7 @@ impl Image {
         self.free.note(at, size);
     }
 
-    // joins the free cell at an offset with the cell behind it, if that is free
+    // joins the free cell at an offset with the cell after it, if that is free
     fn join_behind(&mut self, at: usize)
         requires limit { length self.old.bytes ≤ MOST_BINS_BYTES }
         requires free { IsFreeCell self.old.bytes at }
@@ -69,7 +69,7 @@ impl Image {
         }
     }
 
-    // joins the free cell at an offset with the cell before it, if that is free; gives where it begins
+    // joins the free cell at an offset with the cell before it, if that is free; gives the offset of the joined cell
     fn join_before(&mut self, at: usize) -> usize
         requires limit { length self.old.bytes ≤ MOST_BINS_BYTES }
         requires free { IsFreeCell self.old.bytes at }
@@ -86,7 +86,7 @@ impl Image {
         }
     }
 
-    // frees the allocated cell at an offset; gives where the free cell begins in which it then lies
+    // frees the allocated cell at an offset; gives the offset of the free cell in which it then lies
     pub(super) fn give_back(&mut self, at: usize) -> usize
         requires limit { length self.old.bytes ≤ MOST_BINS_BYTES }
         requires allocated { IsAllocatedCell self.old.bytes at }
@@ -99,7 +99,7 @@ impl Image {
         self.join_before(at)
     }
 
-    // splits the free cell at an offset where more than 8 bytes would be over the size
+    // splits the free cell at an offset if more than 8 bytes would be left over
     fn fit(&mut self, at: usize, size: usize)
         requires limit { length self.old.bytes ≤ MOST_BINS_BYTES }
         requires free { IsFreeCell self.old.bytes at }
@@ -114,8 +114,8 @@ impl Image {
         }
     }
 
-    // allocates the free cell at an offset with a size, or with what it has where no more than 8 bytes would be over;
-    // what is over becomes a free cell
+    // allocates the free cell at an offset with a size, or whole if no more than 8 bytes would be left over; what is
+    // left over becomes a free cell
     pub(super) fn take(&mut self, at: usize, size: usize)
         requires limit { length self.old.bytes ≤ MOST_BINS_BYTES }
         requires free { IsFreeCell self.old.bytes at }
@@ -131,7 +131,7 @@ impl Image {
     }
 }
 
-// writes the sizes of two free cells, one behind the other
+// writes the sizes of two free cells, one after the other
 fn put_two_sizes(bytes: &mut [u8], at: usize, size: usize, rest: usize)
     requires within { at + size + 4 ≤ length bytes.old }
     requires least { 8 ≤ size }

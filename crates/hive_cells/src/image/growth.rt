@@ -1,4 +1,4 @@
-//! New bins behind the data, and memory for them.
+//! New bins after the data, and memory for them.
 ghost use Rattle.std.specs.Prelude.{◌≡◌, ℕ, ◌+◌, ◌-◌, ◌*◌, ◌/◌, ◌%◌, ◌<◌, ◌≤◌, ◌++◌, ◌⊎◌, max, MatchResult, IfErr, OnOk, OnErr, length, replicate, slice_index};
 ghost use Rattle.std.specs.Vec.{vec_capacity};
 ghost use Rattle.refusals.specs.declared.limits.TheConstants.{MOST_BINS_BYTES};
@@ -14,8 +14,8 @@ use refusals::limits::MOST_BINS_BYTES;
 use std::alloc::AllocError;
 
 impl Image {
-    /// Takes memory by which the data may get so many bytes longer, if they may not yet: what is spare becomes so many
-    /// bytes, if it is less.
+    /// Takes memory by which the data may get `more` bytes longer. If fewer than `more` bytes are spare, `more` bytes
+    /// are spare then.
     ///
     /// Refused with `NoMemory` alone, and then everything is as before.
     pub fn reserve(&mut self, more: usize) -> Result<(), Refusal>
@@ -34,7 +34,8 @@ impl Image {
         Ok(())
     }
 
-    // adds the least bin for a cell of a size, where no free cell is as long; gives where its free cell begins
+    // adds the least bin for a cell of a size, given that no free cell is long enough; gives the offset of the bin's
+    // free cell
     pub(super) fn add_bin(&mut self, size: usize) -> Result<usize, Refusal>
         requires limit { length self.old.bytes ≤ MOST_BINS_BYTES }
         requires fits { size ≤ MOST_BINS_BYTES + 16 }
@@ -52,7 +53,7 @@ impl Image {
         Ok(at + BIN_HEADER_BYTES)
     }
 
-    // lays a bin of a size behind the data, with one free cell
+    // lays a bin of a size after the data, with one free cell
     fn lengthen(&mut self, size: usize) -> Result<(), AllocError>
         requires pages { size % 4096 ≡ 0 }
         requires some { 0 < size }

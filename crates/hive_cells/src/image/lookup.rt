@@ -14,8 +14,8 @@ use crate::tiling::{MARKED_BYTES, PAGE_BYTES, cell_size, is_allocated};
 const PAGE_SLOTS: usize = PAGE_BYTES / MARKED_BYTES;
 
 impl Image {
-    /// All bytes of the data, headers and free cells too, for whoever writes them to a file. It takes `&mut self`, since
-    /// nobody who has an image lent is to see a cell's data without a look; the image stays as it is.
+    /// All bytes of the data, headers and free cells too, for whoever writes them to a file. It takes `&mut self`, so
+    /// that nobody who borrows the image sees a cell's data without a look. The image stays as it is.
     pub fn bytes(&mut self) -> &[u8]
         ensures* stays { sem 𝓛 (StaysAsLent self.entry) }
         ensures all { result.now ≡ self.old.bytes }
@@ -66,7 +66,7 @@ impl Image {
         &bytes[at + SIZE_BYTES..at + self.size_at(at)]
     }
 
-    // where the free cell begins that ends at an offset, if there is one.
+    // the offset of the free cell that ends at an offset, if there is one.
     pub(super) fn free_before(&self, at: usize) -> Option<usize>
         requires { BeginsCell self.now.bytes at }
         ensures { MatchOption result
@@ -85,7 +85,7 @@ impl Image {
         }
     }
 
-    // a free cell of at least a size, or none where there is none; bounds that are too great are made exact on the way
+    // a free cell of at least a size, or none if there is none; bounds that are too great are made exact on the way
     pub(super) fn find_free(&mut self, size: usize) -> Option<usize>
         requires { 0 < size }
         ensures same { self.new ≡ self.old }

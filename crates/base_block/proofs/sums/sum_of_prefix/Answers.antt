@@ -1,4 +1,4 @@
--- The loop ends at the number of words, so the XOR is that of all of them.
+-- The loop ends at the number of words, so the XOR is the XOR of all of them.
 use Rattle.std.proofs.Common.{◌≡◌, ap, ◌∙◌, arith}
 use Rattle.base_block.specs.Sums.{xor_of_words, stored_sum, sum_of}
 use Rattle.base_block.proofs.sums.sum_of_prefix.Goals as goal

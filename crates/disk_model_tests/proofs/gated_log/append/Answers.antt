@@ -1,4 +1,5 @@
--- One line for each device call, at each exit: what it does, and that whatever a crash has left since the beginning is still right.
+-- One line for each device call, at each exit: what it does, and that whatever a crash has left since the beginning is
+-- still right.
 use Rattle.std.proofs.Common.{refl, ◌∙◌, arith}
 use Rattle.disk_model.specs.Crash.{LeavesAll}
 use Rattle.disk_model.proofs.Crashes.{begins, goes_on}

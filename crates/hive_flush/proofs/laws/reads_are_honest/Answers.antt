@@ -12,7 +12,7 @@ works : (failed : Bool) → (failed ≡ true → ⊥) → failed ≡ false
 works true not = absurd (not refl)
 works false not = refl
 
--- where the primary file rests, how long the log is doesn't matter
+-- if the primary file rests, how long the log is doesn't matter
 rests : (total : ℕ) (at : FlushStage) (primary : FileState) → PrimaryIsSyncedIn (phase_in 0 at) primary → PrimaryIsSyncedIn (phase_in total at) primary
 rests total stage.AtRest primary r = tt
 rests total (stage.WritingLog chunks) primary r = tt

@@ -5,7 +5,7 @@ use Rattle.reg_tree_parts.specs.Nodes.{subkeys_of}
 use Rattle.tree_printer.specs.KeyPaths.{names_on, subkey_lines}
 use Rattle.tree_printer.proofs.keys.+write_keys.Given as goal
 
--- behind the key's own lines those of the subkeys so far were written
+-- after the key's own lines the lines of the subkeys so far were written
 abbrev pub invariant-loop-index : goal.invariant-loop-index
 invariant-loop-index g l = Appends (g.W.Write.contents l.initial.writer) (g.W.Write.contents l.writer) (flat_map (subkey_lines l.hive (names_on l.key_path)) (take l.index (subkeys_of l.node)))
 

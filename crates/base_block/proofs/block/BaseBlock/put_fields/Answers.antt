@@ -1,4 +1,4 @@
--- The fields are put one behind the other, with zeros left between two of them.
+-- The fields are put one after the other, with zeros left between two of them.
 use Rattle.std.proofs.Common.{ℕ, refl, arith, length-append}
 use Rattle.std.proofs.Math.ListN.{length-replicate}
 use Rattle.base_block.specs.Layout.{body_of, head_of, zeros}

@@ -1,4 +1,4 @@
--- The sum goes behind the fields; the sector so written reads as the block.
+-- The sum goes after the fields; the sector so written reads as the block.
 use Rattle.std.proofs.Common.{◌≡◌, refl, ap, ◌∙◌, subst, ℕ, ◌<◌, ◌^◌}
 use Rattle.base_block.specs.Sums.{sum_of}
 use Rattle.base_block.specs.Layout.{zeros, block_at, body_of}

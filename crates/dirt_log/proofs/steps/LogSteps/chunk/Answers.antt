@@ -1,5 +1,5 @@
--- The first piece begins with the head; a later one begins at the page with as many dirty pages before it as
--- the pieces before it hold.
+-- The first chunk begins with the head; a later one begins at the page with as many dirty pages
+-- before it as the chunks before it have.
 use Rattle.std.proofs.Common.{◌*◌, ◌-◌, ◌/◌, length, drop, ap, ◌∙◌, arith, refl}
 use Rattle.dirt_log.specs.LogEncoding.{pages_at}
 use Rattle.dirt_log.proofs.PageBytes.{chunk_count, first_chunk, skipped_pages, some_chunk, no_chunk}

@@ -2,7 +2,7 @@ use Rattle.std.proofs.Common.{◌≡◌, ℕ, ◌*◌, ◌≤◌, List, length, 
 use Rattle.hive_writer.specs.WriterSteps.{plan_of}
 use Rattle.hive_writer.proofs.writer.HiveWriter.write_log.Goals as goal
 
--- no piece: the log is all there
+-- no chunk: the log is all there
 pub returns-then-count-eq0-clause-leads : goal.returns-then-count-eq0-clause-leads
 returns-then-count-eq0-clause-leads g c = λ faithful decode.
     let encoding = (plan_of c.args.self.now c.args.image.now c.args.pages.now).encoding in
