@@ -17,7 +17,7 @@ use Rattle.std.proofs.lemmas.Cmp.{nat_cmp_total}
 use Rattle.std.proofs.lemmas.Bool.{eqb-true, eq-eqb, cases_eq}
 use Rattle.reg_tree_parts.proofs.Keys.{names_apart}
 use Rattle.conflicts.proofs.Tests.{never}
-use Rattle.conflicts.specs.declared.table.Kept.{Kept}
+use Rattle.conflicts.specs.declared.table.IndexedClaim.{IndexedClaim}
 use Rattle.conflicts.specs.Holders.{without_owner}
 use Rattle.conflicts.specs.ClaimIndexes.{Numbered, claims_of, IsInIndexes, AreInIndexes, TakesOwn, LeavesOthers}
 use Rattle.conflicts.specs.IndexKeys.{IndexKey, index_key_order, pair_order}
@@ -99,14 +99,14 @@ index_key_brought xs s =
 -- The claims by number
 
 -- a number above all goes to the end
-pub put_last : (kept : List Numbered) (n : ℕ) (k : Kept) → ((m : ℕ) (h : Kept) → Contains kept (m, h) → m < n) → insert_entry nat_cmp kept n k ≡ kept ++ (n, k) ∷ []
+pub put_last : (kept : List Numbered) (n : ℕ) (k : IndexedClaim) → ((m : ℕ) (h : IndexedClaim) → Contains kept (m, h) → m < n) → insert_entry nat_cmp kept n k ≡ kept ++ (n, k) ∷ []
 put_last [] n k below = refl
 put_last (e ∷ kept) n k below =
     ap (λ o. match_ordering o ((n, k) ∷ e ∷ kept) ((e.0, k) ∷ kept) (e ∷ insert_entry nat_cmp kept n k)) (sym (nat_cmp_is n e.0 Greater (below e.0 e.1 (here e kept))))
     ∙ ap (λ xs. e ∷ xs) (put_last kept n k (λ m h c. below m h (later e kept (m, h) c)))
 
 -- and is taken out there again
-pub take_last : (kept : List Numbered) (n : ℕ) (k : Kept) → ((m : ℕ) (h : Kept) → Contains kept (m, h) → m < n) → remove_entry (is_at (nat_cmp n)) (kept ++ (n, k) ∷ []) ≡ kept
+pub take_last : (kept : List Numbered) (n : ℕ) (k : IndexedClaim) → ((m : ℕ) (h : IndexedClaim) → Contains kept (m, h) → m < n) → remove_entry (is_at (nat_cmp n)) (kept ++ (n, k) ∷ []) ≡ kept
 take_last [] n k below = ap (λ o. cond (is_eq o) [] ((n, k) ∷ [])) (tied_itself nat_cmp_total n)
 take_last (e ∷ kept) n k below =
     ap (λ o. cond (is_eq o) (kept ++ (n, k) ∷ []) (e ∷ remove_entry (is_at (nat_cmp n)) (kept ++ (n, k) ∷ []))) (sym (nat_cmp_is n e.0 Greater (below e.0 e.1 (here e kept))))
@@ -133,11 +133,11 @@ widened next wider index more owned others kept are le all_listed all_owned = re
   index_keys_known = are.index_keys_known;
 }
   where
-    n_pair : Kept → ℕ → ℕ × ℕ
+    n_pair : IndexedClaim → ℕ → ℕ × ℕ
     n_pair k n = (k.entry.owner, n)
 
 -- one claim more at the end
-pub put_in : (next wider n : ℕ) (index more : Index) (owned others : List (ℕ × ℕ)) (kept all : List Numbered) (k : Kept) → AreInIndexes next index owned kept → next ≤ wider → n < wider → ((m : ℕ) (claim : Claim) → m < next → IsListed index m claim → IsListed more m claim) → ((p : ℕ × ℕ) → Contains owned p → Contains others p)
+pub put_in : (next wider n : ℕ) (index more : Index) (owned others : List (ℕ × ℕ)) (kept all : List Numbered) (k : IndexedClaim) → AreInIndexes next index owned kept → next ≤ wider → n < wider → ((m : ℕ) (claim : Claim) → m < next → IsListed index m claim → IsListed more m claim) → ((p : ℕ × ℕ) → Contains owned p → Contains others p)
     → all ≡ kept ++ (n, k) ∷ [] → IsStrictlySortedBy nat_cmp (map (λ (e : Numbered). e.0) all) → IsListed more n k.entry.claim → Contains others (k.entry.owner, n) → k.index_key.1 ≡ n
     → AreInIndexes wider more others all
 put_in next wider n index more owned others kept all k are le lt all_listed all_owned is rises listed own known = record {
@@ -171,7 +171,7 @@ not_tied Equal p f = f
 not_tied Greater p f = refl
 
 -- if a number was looked up, its claim is there
-lookup_has : (kept : List Numbered) (n : ℕ) (k : Kept) → lookup (is_at (nat_cmp n)) kept ≡ Some k → Contains kept (n, k)
+lookup_has : (kept : List Numbered) (n : ℕ) (k : IndexedClaim) → lookup (is_at (nat_cmp n)) kept ≡ Some k → Contains kept (n, k)
 lookup_has [] n k e = cc
 lookup_has (x ∷ kept) n k e = by_case (lookup_has kept n k) (nat_cmp n x.0) refl e
   where
@@ -186,7 +186,7 @@ lookup_has (x ∷ kept) n k e = by_case (lookup_has kept n k) (nat_cmp n x.0) re
 less_apart : (m n : ℕ) → nat_cmp m n ≡ Less → m ≢ n
 less_apart m n e same = let c : Equal ≡ Less = sym (tied_itself nat_cmp_total n) ∙ ap (λ x. nat_cmp x n) (sym same) ∙ e in cc
 
-apart_from_all : (n : ℕ) (kept : List Numbered) → AllByRecursion (λ x. nat_cmp n x ≡ Less) (map (λ (e : Numbered). e.0) kept) → (m : ℕ) (h : Kept) → Contains kept (m, h) → n ≢ m
+apart_from_all : (n : ℕ) (kept : List Numbered) → AllByRecursion (λ x. nat_cmp n x ≡ Less) (map (λ (e : Numbered). e.0) kept) → (m : ℕ) (h : IndexedClaim) → Contains kept (m, h) → n ≢ m
 apart_from_all n [] a m h c = absurd (none_empty (m, h) c)
 apart_from_all n (x ∷ kept) a m h c = elim (first_or_later x kept (m, h) c) [
   | inl e ↦ subst (λ (z : Numbered). n ≢ z.0) e (less_apart n x.0 a.0)
@@ -194,7 +194,7 @@ apart_from_all n (x ∷ kept) a m h c = elim (first_or_later x kept (m, h) c) [
 ]
 
 -- the claim that is there under a number is looked up
-pub has_lookup : (kept : List Numbered) → IsStrictlySortedBy nat_cmp (map (λ (e : Numbered). e.0) kept) → (n : ℕ) (k : Kept) → Contains kept (n, k) → lookup (is_at (nat_cmp n)) kept ≡ Some k
+pub has_lookup : (kept : List Numbered) → IsStrictlySortedBy nat_cmp (map (λ (e : Numbered). e.0) kept) → (n : ℕ) (k : IndexedClaim) → Contains kept (n, k) → lookup (is_at (nat_cmp n)) kept ≡ Some k
 unfolding IsStrictlySortedBy
 has_lookup [] r n k c = absurd (none_empty (n, k) c)
 has_lookup (x ∷ kept) r n k c = elim (first_or_later x kept (n, k) c) [
@@ -203,7 +203,7 @@ has_lookup (x ∷ kept) r n k c = elim (first_or_later x kept (n, k) c) [
 ]
 
 -- what is left after a number was taken out was there, under another number
-left_over : (kept : List Numbered) → IsStrictlySortedBy nat_cmp (map (λ (e : Numbered). e.0) kept) → (n m : ℕ) (h : Kept) → Contains (remove_entry (is_at (nat_cmp n)) kept) (m, h) → Contains kept (m, h) × (n ≢ m)
+left_over : (kept : List Numbered) → IsStrictlySortedBy nat_cmp (map (λ (e : Numbered). e.0) kept) → (n m : ℕ) (h : IndexedClaim) → Contains (remove_entry (is_at (nat_cmp n)) kept) (m, h) → Contains kept (m, h) × (n ≢ m)
 unfolding IsStrictlySortedBy
 left_over [] r n m h c = absurd (none_empty (m, h) c)
 left_over (x ∷ kept) r n m h c = by_case (left_over kept r.1 n m h) (nat_cmp n x.0) refl c
@@ -220,7 +220,7 @@ left_over (x ∷ kept) r n m h c = by_case (left_over kept r.1 n m h) (nat_cmp n
     ]
 
 -- the others' claims are the same without one of the owner's
-pub others_same : (kept : List Numbered) (n owner : ℕ) (k : Kept) → lookup (is_at (nat_cmp n)) kept ≡ Some k → k.entry.owner ≡ owner → without_owner (claims_of (remove_entry (is_at (nat_cmp n)) kept)) owner ≡ without_owner (claims_of kept) owner
+pub others_same : (kept : List Numbered) (n owner : ℕ) (k : IndexedClaim) → lookup (is_at (nat_cmp n)) kept ≡ Some k → k.entry.owner ≡ owner → without_owner (claims_of (remove_entry (is_at (nat_cmp n)) kept)) owner ≡ without_owner (claims_of kept) owner
 others_same [] n owner k e own = refl
 others_same (x ∷ kept) n owner k e own = by_case (others_same kept n owner k) (is_eq (nat_cmp n x.0)) e
   where
@@ -228,12 +228,12 @@ others_same (x ∷ kept) n owner k e own = by_case (others_same kept n owner k) 
         → without_owner (claims_of (cond b kept (x ∷ remove_entry (is_at (nat_cmp n)) kept))) owner ≡ without_owner (x.1.entry ∷ claims_of kept) owner
     by_case rest true e =
         let same : x.1 ≡ k = cc in
-        let owned : (x.1.entry.owner == owner) ≡ true = ap (λ (z : Kept). z.entry.owner == owner) same ∙ eq-eqb k.entry.owner owner own in
+        let owned : (x.1.entry.owner == owner) ≡ true = ap (λ (z : IndexedClaim). z.entry.owner == owner) same ∙ eq-eqb k.entry.owner owner own in
         sym (ap (λ b. cond (not b) (x.1.entry ∷ without_owner (claims_of kept) owner) (without_owner (claims_of kept) owner)) owned)
     by_case rest false e = ap (λ hs. cond (not (x.1.entry.owner == owner)) (x.1.entry ∷ hs) hs) (rest e own)
 
 -- if the owner has none, dropping them changes nothing
-pub none_left : (kept : List Numbered) (owner : ℕ) → ((n : ℕ) (k : Kept) → Contains kept (n, k) → k.entry.owner ≢ owner) → without_owner (claims_of kept) owner ≡ claims_of kept
+pub none_left : (kept : List Numbered) (owner : ℕ) → ((n : ℕ) (k : IndexedClaim) → Contains kept (n, k) → k.entry.owner ≢ owner) → without_owner (claims_of kept) owner ≡ claims_of kept
 none_left [] owner h = refl
 none_left (x ∷ kept) owner h =
     ap (λ b. cond (not b) (x.1.entry ∷ without_owner (claims_of kept) owner) (without_owner (claims_of kept) owner)) (apart (x.1.entry.owner == owner) refl)
@@ -257,7 +257,7 @@ module _ (next : ℕ) (index : Index) (owned others : List (ℕ × ℕ)) (kept n
       first_apart Greater q f = refl
 
   -- after a claim of the owner was taken out, with its index key
-  pub filed_without : (fewer : Index) (one : Kept) → TakesOwn kept new owner n one → IsStrictlySortedBy nat_cmp (map (λ (e : Numbered). e.0) new) → KeepsOthers index fewer one.index_key.1 → AreInIndexes next fewer others new
+  pub filed_without : (fewer : Index) (one : IndexedClaim) → TakesOwn kept new owner n one → IsStrictlySortedBy nat_cmp (map (λ (e : Numbered). e.0) new) → KeepsOthers index fewer one.index_key.1 → AreInIndexes next fewer others new
   filed_without fewer one takes rises less = record {
     rises = rises;
     in_indexes = λ m h c. let was = left_over kept are.rises n m h (subst (λ xs. Contains xs (m, h)) takes.is c) in

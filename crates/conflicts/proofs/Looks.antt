@@ -17,7 +17,7 @@ use Rattle.std.proofs.lemmas.Cmp.{nat_cmp_total}
 use Rattle.std.proofs.lemmas.List.{take_more}
 use Rattle.std.proofs.lemmas.List.Elements.{filter_map-append}
 use Rattle.conflicts.specs.Skeleton.{Claim}
-use Rattle.conflicts.specs.declared.table.Kept.{Kept}
+use Rattle.conflicts.specs.declared.table.IndexedClaim.{IndexedClaim}
 use Rattle.conflicts.proofs.Tests.{never}
 use Rattle.conflicts.specs.Holders.{HeldClaim, same_held_claim, is_some_that, blocks, asks, with_holder, each_once, holders_of}
 use Rattle.conflicts.specs.Claims.{meets}
@@ -32,7 +32,7 @@ use Rattle.conflicts.proofs.Once.{holders-more}
 
 -- the claim of a number, if there is one
 abbrev pub look : List Numbered → ℕ → Option HeldClaim
-look kept n = option_map (λ (k : Kept). k.entry) (lookup (is_at (nat_cmp n)) kept)
+look kept n = option_map (λ (k : IndexedClaim). k.entry) (lookup (is_at (nat_cmp n)) kept)
 
 abbrev pub looked : List Numbered → List ℕ → List HeldClaim
 looked kept numbers = filter_map (look kept) numbers
@@ -72,7 +72,7 @@ not_found [] n a = refl
 not_found (e ∷ kept) n a = ap (λ o. cond (is_eq o) (Some e.1) (lookup (is_at (nat_cmp n)) kept)) a.0 ∙ not_found kept n a.1
 
 found_behind : (e : Numbered) (kept : List Numbered) (n : ℕ) → e.0 < n → look (e ∷ kept) n ≡ look kept n
-found_behind e kept n lt = ap (λ o. option_map (λ (k : Kept). k.entry) (cond (is_eq o) (Some e.1) (lookup (is_at (nat_cmp n)) kept))) (is_greater n e.0 lt)
+found_behind e kept n lt = ap (λ o. option_map (λ (k : IndexedClaim). k.entry) (cond (is_eq o) (Some e.1) (lookup (is_at (nat_cmp n)) kept))) (is_greater n e.0 lt)
 
 looked_behind : (e : Numbered) (kept : List Numbered) (ks : List ℕ) → Above e.0 ks → looked (e ∷ kept) ks ≡ looked kept ks
 looked_behind e kept [] a = refl
@@ -83,7 +83,7 @@ above_all k n [] lt a = tt
 above_all k n (x ∷ xs) lt a = let further : n < x = less_is n x a.0 in (is_less k x (omega (arith, lt, further)), above_all k n xs lt a.1)
 
 module _ (p : HeldClaim → Bool) where
-  nothing : (kept : List Numbered) → ((n : ℕ) (k : Kept) → Contains kept (n, k) → p k.entry ≡ false) → filter p (claims_of kept) ≡ []
+  nothing : (kept : List Numbered) → ((n : ℕ) (k : IndexedClaim) → Contains kept (n, k) → p k.entry ≡ false) → filter p (claims_of kept) ≡ []
   nothing [] h = refl
   nothing (e ∷ kept) h = ap (λ b. cond b (e.1.entry ∷ filter p (claims_of kept)) (filter p (claims_of kept))) (h e.0 e.1 (here e kept)) ∙ nothing kept (λ n k c. h n k (later e kept (n, k) c))
 
@@ -92,12 +92,12 @@ module _ (p : HeldClaim → Bool) where
   told_false false h = refl
 
   abbrev Covers : List Numbered → List ℕ → Type 0
-  Covers kept ks = (n : ℕ) (k : Kept) → Contains kept (n, k) → p k.entry ≡ true → Contains ks n
+  Covers kept ks = (n : ℕ) (k : IndexedClaim) → Contains kept (n, k) → p k.entry ≡ true → Contains ks n
 
   one_more : (x : HeldClaim) (xs ys : List HeldClaim) → filter p xs ≡ filter p ys → filter p (x ∷ xs) ≡ filter p (x ∷ ys)
   one_more x xs ys e = ap (λ zs. cond (p x) (x ∷ zs) zs) e
 
-  number_in : (kept : List Numbered) (n : ℕ) (k : Kept) → Contains kept (n, k) → Contains (map (λ (e : Numbered). e.0) kept) n
+  number_in : (kept : List Numbered) (n : ℕ) (k : IndexedClaim) → Contains kept (n, k) → Contains (map (λ (e : Numbered). e.0) kept) n
   number_in [] n k c = absurd (none_empty (n, k) c)
   number_in (e ∷ kept) n k c = elim (first_or_later e kept (n, k) c) [
     | inl same ↦ subst (λ (z : Numbered). Contains (e.0 ∷ map (λ (f : Numbered). f.0) kept) z.0) same (here e.0 (map (λ (f : Numbered). f.0) kept))
@@ -113,7 +113,7 @@ module _ (p : HeldClaim → Bool) where
   looked_all zero (e ∷ kept) (k ∷ ks) le rk rs covers = absurd (omega (arith, le))
   looked_all (suc fuel) (e ∷ kept) (k ∷ ks) le rk rs covers = elim (cases_lt k e.0) [
     | inl lt ↦
-        let none : look (e ∷ kept) k ≡ None = ap (option_map (λ (h : Kept). h.entry)) (not_found (e ∷ kept) k (is_less k e.0 lt, above_all k e.0 (map (λ (f : Numbered). f.0) kept) lt rk.0)) in
+        let none : look (e ∷ kept) k ≡ None = ap (option_map (λ (h : IndexedClaim). h.entry)) (not_found (e ∷ kept) k (is_less k e.0 lt, above_all k e.0 (map (λ (f : Numbered). f.0) kept) lt rk.0)) in
         ap (λ o. filter p (cons_option o (looked (e ∷ kept) ks))) none
         ∙ looked_all fuel (e ∷ kept) ks (omega (arith, le)) rk rs.1 (λ n h c t. elim (first_or_later k ks n (covers n h c t)) [
           | inl same ↦ elim (first_or_later e.0 (map (λ (f : Numbered). f.0) kept) n (number_in (e ∷ kept) n h c)) [
@@ -131,7 +131,7 @@ module _ (p : HeldClaim → Bool) where
           ∙ ap (λ b. cond b (e.1.entry ∷ filter p (claims_of kept)) (filter p (claims_of kept))) (sym off)
       | inr le' ↦
           let same : k ≡ e.0 = omega (arith, ge, le') in
-          let found : look (e ∷ kept) k ≡ Some e.1.entry = ap (λ o. option_map (λ (h : Kept). h.entry) (cond (is_eq o) (Some e.1) (lookup (is_at (nat_cmp k)) kept))) (ap (λ n. nat_cmp n e.0) same ∙ tied_itself nat_cmp_total e.0) in
+          let found : look (e ∷ kept) k ≡ Some e.1.entry = ap (λ o. option_map (λ (h : IndexedClaim). h.entry) (cond (is_eq o) (Some e.1) (lookup (is_at (nat_cmp k)) kept))) (ap (λ n. nat_cmp n e.0) same ∙ tied_itself nat_cmp_total e.0) in
           let above : Above e.0 ks = subst (λ n. Above n ks) same rs.0 in
           ap (λ o. filter p (cons_option o (looked (e ∷ kept) ks))) found
           ∙ ap (λ xs. filter p (e.1.entry ∷ xs)) (looked_behind e kept ks above)
@@ -144,7 +144,7 @@ module _ (p : HeldClaim → Bool) where
 
 -- so the holders among the claims looked up are all
 pub all_holders : (kept : List Numbered) (numbers : List ℕ) (asker : Option ℕ) (claim : Claim) → Rises (map (λ (e : Numbered). e.0) kept) → Rises numbers
-    → ((n : ℕ) (k : Kept) → Contains kept (n, k) → blocks asker claim k.entry ≡ true → Contains numbers n) → holders_of (looked kept numbers) asker claim ≡ holders_of (claims_of kept) asker claim
+    → ((n : ℕ) (k : IndexedClaim) → Contains kept (n, k) → blocks asker claim k.entry ≡ true → Contains numbers n) → holders_of (looked kept numbers) asker claim ≡ holders_of (claims_of kept) asker claim
 all_holders kept numbers asker claim rk rn covers =
     ap (λ hs. each_once (map (λ (h : HeldClaim). h.owner) hs)) (looked_all (blocks asker claim) (length kept + length numbers) kept numbers (omega arith) rk rn covers)
 
@@ -166,14 +166,14 @@ all_taken zero (x ∷ xs) le = absurd (omega (arith, le))
 all_taken (suc n) (x ∷ xs) le = ap (λ ys. x ∷ ys) (all_taken n xs (omega (arith, le)))
 
 -- the claim that a look-up lent
-pub lent_entry : (o : Option (Bor Kept)) → option_map (λ k. k.now.entry) o ≡ option_map (λ (k : Kept). k.entry) (option_copied o)
+pub lent_entry : (o : Option (Bor IndexedClaim)) → option_map (λ k. k.now.entry) o ≡ option_map (λ (k : IndexedClaim). k.entry) (option_copied o)
 lent_entry None = refl
 lent_entry (Some k) = refl
 
 -- the numbers near a claim are those of all claims that may block it
 pub covered : (next : ℕ) (index : Index) (owned : List (ℕ × ℕ)) (kept : List Numbered) → AreInIndexes next index owned kept → next < 18446744073709551616 → (asker : Option ℕ) (claim : Claim) (numbers : List ℕ)
     → ((number : ℕ) (held : Claim) → number < 18446744073709551616 → IsListed index number held → meets claim held ≡ true → Contains numbers number)
-    → (n : ℕ) (k : Kept) → Contains kept (n, k) → blocks asker claim k.entry ≡ true → Contains numbers n
+    → (n : ℕ) (k : IndexedClaim) → Contains kept (n, k) → blocks asker claim k.entry ≡ true → Contains numbers n
 covered next index owned kept are small asker claim numbers complete n k has t =
     let in_indexes : IsInIndexes next index owned n k.entry = are.in_indexes n k has in
     let below : n < next = in_indexes.below in
@@ -194,13 +194,13 @@ found_one p (x ∷ kept) n t = by_case (found_one p kept n) (is_eq (nat_cmp n x.
     or_true true b t = refl
     or_true false b t = t
 
-    by_case : (is_some_that p (look kept n) ≡ true → list_any p (claims_of kept) ≡ true) → (b : Bool) → is_some_that p (option_map (λ (k : Kept). k.entry) (cond b (Some x.1) (lookup (is_at (nat_cmp n)) kept))) ≡ true → list_any p (x.1.entry ∷ claims_of kept) ≡ true
+    by_case : (is_some_that p (look kept n) ≡ true → list_any p (claims_of kept) ≡ true) → (b : Bool) → is_some_that p (option_map (λ (k : IndexedClaim). k.entry) (cond b (Some x.1) (lookup (is_at (nat_cmp n)) kept))) ≡ true → list_any p (x.1.entry ∷ claims_of kept) ≡ true
     by_case rest true t = ap (λ b. b || list_any p (claims_of kept)) t
     by_case rest false t = or_true (p x.1.entry) (list_any p (claims_of kept)) (rest t)
 
 -- the claims of no number do
-found_none : (p : HeldClaim → Bool) (kept all : List Numbered) → ((n : ℕ) (k : Kept) → Contains kept (n, k) → Contains all (n, k)) → Rises (map (λ (e : Numbered). e.0) all)
-    → ((n : ℕ) (k : Kept) → Contains all (n, k) → p k.entry ≡ true → is_some_that p (look all n) ≡ false) → list_any p (claims_of kept) ≡ false
+found_none : (p : HeldClaim → Bool) (kept all : List Numbered) → ((n : ℕ) (k : IndexedClaim) → Contains kept (n, k) → Contains all (n, k)) → Rises (map (λ (e : Numbered). e.0) all)
+    → ((n : ℕ) (k : IndexedClaim) → Contains all (n, k) → p k.entry ≡ true → is_some_that p (look all n) ≡ false) → list_any p (claims_of kept) ≡ false
 found_none p [] all within rises none = refl
 found_none p (x ∷ kept) all within rises none =
     ap (λ b. b || list_any p (claims_of kept)) (by_case (p x.1.entry) refl)
@@ -211,7 +211,7 @@ found_none p (x ∷ kept) all within rises none =
 
     by_case : (b : Bool) → p x.1.entry ≡ b → p x.1.entry ≡ false
     by_case false e = e
-    by_case true e = ap (is_some_that p) (sym (ap (option_map (λ (k : Kept). k.entry)) (has_lookup all rises x.0 x.1 there))) ∙ none x.0 x.1 there e
+    by_case true e = ap (is_some_that p) (sym (ap (option_map (λ (k : IndexedClaim). k.entry)) (has_lookup all rises x.0 x.1 there))) ∙ none x.0 x.1 there e
 
 -- nor do the claims of the numbers so far
 pub none_yet : (p : HeldClaim → Bool) (kept : List Numbered) (numbers : List ℕ) (i : ℕ) → i < length numbers → ((n : ℕ) → Contains (take i numbers) n → is_some_that p (look kept n) ≡ false) → is_some_that p (look kept (get_or numbers i 0)) ≡ false

@@ -8,11 +8,11 @@ use Rattle.std.specs.List.Sorted.{IsStrictlySortedBy}
 use Rattle.conflicts.specs.Holders.{HeldClaim, OwnersDontConflict}
 use Rattle.conflicts.specs.Index.{IsListed}
 use Rattle.conflicts.specs.declared.index_keys.Index.{Index}
-use Rattle.conflicts.specs.declared.table.Kept.{Kept}
+use Rattle.conflicts.specs.declared.table.IndexedClaim.{IndexedClaim}
 
 -- a claim with its number
 abbrev pub Numbered : Type 0
-Numbered = ℕ × Kept
+Numbered = ℕ × IndexedClaim
 
 -- the claims in order
 abbrev pub claims_of : List Numbered → List HeldClaim
@@ -26,8 +26,8 @@ pub record IsInIndexes (next : ℕ) (index : Index) (owned : List (ℕ × ℕ)) 
 -- all numbers rise, and each claim is in the indexes and has the number of its index key
 pub record AreInIndexes (next : ℕ) (index : Index) (owned : List (ℕ × ℕ)) (kept : List Numbered) : Type 0 where
   pub rises : IsStrictlySortedBy nat_cmp (map (λ e. e.0) kept)
-  pub in_indexes : (number : ℕ) (one : Kept) → Contains kept (number, one) → IsInIndexes next index owned number one.entry
-  pub index_keys_known : (number : ℕ) (one : Kept) → Contains kept (number, one) → one.index_key.1 ≡ number
+  pub in_indexes : (number : ℕ) (one : IndexedClaim) → Contains kept (number, one) → IsInIndexes next index owned number one.entry
+  pub index_keys_known : (number : ℕ) (one : IndexedClaim) → Contains kept (number, one) → one.index_key.1 ≡ number
 
 -- the claims are in the indexes, and no transaction's conflicts with another's
 pub record TableIsConsistent (next : ℕ) (index : Index) (owned : List (ℕ × ℕ)) (kept : List Numbered) : Type 0 where
@@ -35,7 +35,7 @@ pub record TableIsConsistent (next : ℕ) (index : Index) (owned : List (ℕ × 
   pub apart : OwnersDontConflict (claims_of kept)
 
 -- takes out one claim, which was the owner's and had this number
-pub record TakesOwn (old new : List Numbered) (owner number : ℕ) (one : Kept) : Type 0 where
+pub record TakesOwn (old new : List Numbered) (owner number : ℕ) (one : IndexedClaim) : Type 0 where
   pub was : lookup (is_at (nat_cmp number)) old ≡ Some one
   pub own : one.entry.owner ≡ owner
   pub is : new ≡ remove_entry (is_at (nat_cmp number)) old
@@ -44,4 +44,4 @@ pub record TakesOwn (old new : List Numbered) (owner number : ℕ) (one : Kept) 
 -- all claims stay, and the claim of the number, if there is one, is not the owner's
 pub record LeavesOthers (old new : List Numbered) (owner number : ℕ) : Type 0 where
   pub same : new ≡ old
-  pub others : (one : Kept) → lookup (is_at (nat_cmp number)) old ≡ Some one → one.entry.owner ≢ owner
+  pub others : (one : IndexedClaim) → lookup (is_at (nat_cmp number)) old ≡ Some one → one.entry.owner ≢ owner

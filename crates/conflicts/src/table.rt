@@ -20,14 +20,14 @@ pub struct ClaimOwner(pub u64);
 
 // a claim of a transaction
 #[derive(Drop)]
-struct Entry {
+struct ClaimEntry {
     owner: ClaimOwner,
     hive: u8,
     path: Path,
     kind: ClaimKind,
 }
 
-impl Model for Entry {
+impl Model for ClaimEntry {
     ghost use Rattle.conflicts.specs.Holders.{HeldClaim};
 
     ghost Value = { HeldClaim };
@@ -41,11 +41,11 @@ impl Model for Entry {
     } };
 }
 
-impl Entry {
-    fn new(owner: ClaimOwner, claim: &Claim) -> Result<Entry, AllocError>
+impl ClaimEntry {
+    fn new(owner: ClaimOwner, claim: &Claim) -> Result<ClaimEntry, AllocError>
         ensures { IfOk result (λ entry. entry ≡ record { owner = owner.0; claim = claim.now }) }
     {
-        Ok(Entry {
+        Ok(ClaimEntry {
             owner,
             hive: claim.hive,
             path: claim.path.clone()?,
@@ -90,8 +90,8 @@ impl Entry {
 
 // a claim, and its index key
 #[derive(Drop)]
-struct Kept {
-    entry: Entry,
+struct IndexedClaim {
+    entry: ClaimEntry,
     index_key: IndexKey,
 }
 
@@ -102,7 +102,7 @@ struct Kept {
 /// transaction's claims by the transaction. So no call goes through all claims.
 pub struct ClaimTable {
     // the claims by their numbers
-    kept: BTreeMap<u64, Kept>,
+    kept: BTreeMap<u64, IndexedClaim>,
     // the same by their keys
     index: Index,
     // each owner with the numbers of its claims; after a refused `claim` a number without a claim may stay listed here
@@ -178,13 +178,13 @@ impl ClaimTable {
         ensures err { OnErr result (self.new ≡ self.old) }
     {
         let number = self.added.len() as u64;
-        let entry = Entry::new(owner, claim)?;
+        let entry = ClaimEntry::new(owner, claim)?;
         let alloc = *self.added.allocator();
         let index_key = index_key_of(alloc, claim, number)?;
         let copy = (copy(alloc, &index_key.0)?, number);
         self.added.push(())?;
         self.owned.insert((owner.0, number))?;
-        self.kept.insert(number, Kept { entry, index_key })?;
+        self.kept.insert(number, IndexedClaim { entry, index_key })?;
         match self.index.put(copy) {
             Ok(()) => Ok(()),
             Err(refused) => {
@@ -284,7 +284,11 @@ fn first_of(owned: &BTreeSet<(u64, u64)>, owner: ClaimOwner) -> Option<(u64, u64
 }
 
 // takes out the claim of a number, if it is the owner's
-fn take_own(kept: &mut BTreeMap<u64, Kept>, owner: ClaimOwner, number: u64) -> Option<Kept>
+fn take_own(
+    kept: &mut BTreeMap<u64, IndexedClaim>,
+    owner: ClaimOwner,
+    number: u64,
+) -> Option<IndexedClaim>
     ensures some { IfSome result (λ one. TakesOwn kept.old.entries kept.new.entries owner.0 number
         one) }
     ensures none { IfNone result (LeavesOthers kept.old.entries kept.new.entries owner.0 number) }
@@ -297,7 +301,7 @@ fn take_own(kept: &mut BTreeMap<u64, Kept>, owner: ClaimOwner, number: u64) -> O
 }
 
 // whether it is this claim of this transaction
-fn is_kept(kept: Option<&Kept>, owner: ClaimOwner, claim: &Claim) -> bool
+fn is_kept(kept: Option<&IndexedClaim>, owner: ClaimOwner, claim: &Claim) -> bool
     ensures { result ≡ is_some_that (same_held_claim (record { owner = owner.0; claim = claim.now }))
         (option_map (λ k. k.now.entry) kept.entry) }
 {
@@ -308,7 +312,7 @@ fn is_kept(kept: Option<&Kept>, owner: ClaimOwner, claim: &Claim) -> bool
 }
 
 // whether its owner is not this one, and it conflicts with the claim
-fn meets(kept: Option<&Kept>, owner: ClaimOwner, claim: &Claim) -> bool
+fn meets(kept: Option<&IndexedClaim>, owner: ClaimOwner, claim: &Claim) -> bool
     ensures { result ≡ is_some_that (blocks (Some owner.0) claim.now)
         (option_map (λ k. k.now.entry) kept.entry) }
 {
@@ -321,7 +325,7 @@ fn meets(kept: Option<&Kept>, owner: ClaimOwner, claim: &Claim) -> bool
 // lists the owner of a claim, if there is a claim, it blocks the one asked for, and its owner is not in the list
 fn list_holder(
     found: &mut Vec<ClaimOwner>,
-    kept: Option<&Kept>,
+    kept: Option<&IndexedClaim>,
     asker: Option<ClaimOwner>,
     claim: &Claim,
 ) -> Result<(), AllocError>
@@ -339,7 +343,7 @@ fn list_holder(
 // no more claims are compared
 fn list_once(
     found: &mut Vec<ClaimOwner>,
-    entry: &Entry,
+    entry: &ClaimEntry,
     asker: Option<ClaimOwner>,
     claim: &Claim,
 ) -> Result<(), AllocError>

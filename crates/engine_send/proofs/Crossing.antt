@@ -24,11 +24,11 @@ use Rattle.reg_names.specs.contracts.name.ValueName as ValueName
 use Rattle.reg_tree_parts.specs.contracts.data.Data as Data
 use Rattle.change_codec.specs.contracts.encoded_change.EncodedChange as EncodedChange
 use Rattle.conflicts.specs.contracts.table.ClaimTable as ClaimTable
-use Rattle.conflicts.specs.contracts.table.Kept as Kept
-use Rattle.conflicts.specs.contracts.table.Entry as ClaimEntry
+use Rattle.conflicts.specs.contracts.table.IndexedClaim as IndexedClaim
+use Rattle.conflicts.specs.contracts.table.ClaimEntry as ClaimEntry
 use Rattle.store_model.specs.contracts.event.Reply as Reply
 use Rattle.transactions.specs.contracts.view.View as View
-use Rattle.transactions.specs.contracts.entry.Entry as Entry
+use Rattle.transactions.specs.contracts.entry.TxEntry as TxEntry
 use Rattle.transactions.specs.contracts.history.ChangeHistory as ChangeHistory
 use Rattle.transactions.specs.contracts.table.TxTable as TxTable
 use Rattle.transactions.specs.contracts.store.Store as Store
@@ -139,7 +139,7 @@ op_send = search (path_send, value_name_send, data_send, std.crosses, sendable) 
 pub claim_entry_send : IsSend ClaimEntry.the_row
 claim_entry_send = search (path_send, std.crosses, sendable) depth 40
 
-pub kept_send : IsSend Kept.the_field.row
+pub kept_send : IsSend IndexedClaim.the_field.row
 kept_send = search (claim_entry_send, std.crosses, sendable) depth 40
 
 pub claims_send : IsSend ClaimTable.the_row
@@ -148,7 +148,7 @@ claims_send = search (kept_send, over.crosses, maps.crosses, std.crosses, sendab
 pub view_send : IsSend View.the_field.row
 view_send = search (trees_send, sendable) depth 40
 
-pub entry_send : IsSend Entry.the_field.row
+pub entry_send : IsSend TxEntry.the_field.row
 entry_send = search (view_send, op_send, std.crosses, sendable) depth 40
 
 pub history_send : IsSend ChangeHistory.the_row

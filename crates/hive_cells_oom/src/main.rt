@@ -12,35 +12,35 @@ use std::process::ExitCode;
 
 // how a call ended
 #[derive(Clone, Copy, PartialEq, Eq)]
-enum Outcome {
+enum Answer {
     Done,
     Refused,
     Wrong,
 }
 
-impl Outcome {
+impl Answer {
     // of two calls together
-    fn and(self, other: Outcome) -> Outcome {
+    fn and(self, other: Answer) -> Answer {
         match (self, other) {
-            (Outcome::Wrong, _) | (_, Outcome::Wrong) => Outcome::Wrong,
-            (Outcome::Refused, _) | (_, Outcome::Refused) => Outcome::Refused,
-            _ => Outcome::Done,
+            (Answer::Wrong, _) | (_, Answer::Wrong) => Answer::Wrong,
+            (Answer::Refused, _) | (_, Answer::Refused) => Answer::Refused,
+            _ => Answer::Done,
         }
     }
 
-    fn right_if(is_right: bool) -> Outcome {
+    fn right_if(is_right: bool) -> Answer {
         if is_right {
-            Outcome::Done
+            Answer::Done
         } else {
-            Outcome::Wrong
+            Answer::Wrong
         }
     }
 
     // a refusal that is no want of memory is wrong
-    fn of_refusal(refusal: Refusal) -> Outcome {
+    fn of_refusal(refusal: Refusal) -> Answer {
         match refusal {
-            Refusal::NoMemory => Outcome::Refused,
-            _ => Outcome::Wrong,
+            Refusal::NoMemory => Answer::Refused,
+            _ => Answer::Wrong,
         }
     }
 }
@@ -100,68 +100,68 @@ fn opened(alloc: Global) -> Result<Image, Refusal> {
 }
 
 // opening; if memory is refused, the bytes come back
-fn reopened(alloc: Global) -> Result<Outcome, Refusal> {
+fn reopened(alloc: Global) -> Result<Answer, Refusal> {
     match Image::open(alloc, one_bin(alloc)?) {
-        Ok(image) => Ok(Outcome::right_if(is_one_bin(image))),
-        Err(unopened) => Ok(Outcome::of_refusal(unopened.refusal).and(Outcome::right_if(
+        Ok(image) => Ok(Answer::right_if(is_one_bin(image))),
+        Err(unopened) => Ok(Answer::of_refusal(unopened.refusal).and(Answer::right_if(
             unopened.bytes.len() == BIN,
         ))),
     }
 }
 
 // memory for two bins; if it is refused, no byte changes. What is reserved is there for cells.
-fn reserved(alloc: Global) -> Result<Outcome, Refusal> {
+fn reserved(alloc: Global) -> Result<Answer, Refusal> {
     let mut image = opened(alloc)?;
     match image.reserve(2 * BIN) {
-        Ok(()) => Ok(Outcome::right_if(image.alloc(5000).ok() == Some(4128))),
-        Err(refusal) => Ok(Outcome::of_refusal(refusal).and(Outcome::right_if(is_one_bin(image)))),
+        Ok(()) => Ok(Answer::right_if(image.alloc(5000).ok() == Some(4128))),
+        Err(refusal) => Ok(Answer::of_refusal(refusal).and(Answer::right_if(is_one_bin(image)))),
     }
 }
 
 // a cell in a new bin; if memory is refused, no byte changes
-fn grown(alloc: Global) -> Result<Outcome, Refusal> {
+fn grown(alloc: Global) -> Result<Answer, Refusal> {
     let mut image = opened(alloc)?;
     match image.alloc(5000) {
-        Ok(offset) => Ok(Outcome::right_if(offset == 4128 && image.len() == 3 * BIN)),
-        Err(refusal) => Ok(Outcome::of_refusal(refusal).and(Outcome::right_if(is_one_bin(image)))),
+        Ok(offset) => Ok(Answer::right_if(offset == 4128 && image.len() == 3 * BIN)),
+        Err(refusal) => Ok(Answer::of_refusal(refusal).and(Answer::right_if(is_one_bin(image)))),
     }
 }
 
 // a cell in a new bin; if memory is refused, cells are found, taken and freed as before, without memory
-fn used_on(alloc: Global) -> Result<Outcome, Refusal> {
+fn used_on(alloc: Global) -> Result<Answer, Refusal> {
     let mut image = opened(alloc)?;
     let added = match image.alloc(5000) {
-        Ok(_) => Outcome::Done,
-        Err(refusal) => Outcome::of_refusal(refusal).and(Outcome::right_if(image.len() == BIN)),
+        Ok(_) => Answer::Done,
+        Err(refusal) => Answer::of_refusal(refusal).and(Answer::right_if(image.len() == BIN)),
     };
-    let taken = Outcome::right_if(image.alloc(10).ok() == Some(48));
-    let freed = Outcome::right_if(image.free(48).ok() == Some(48));
+    let taken = Answer::right_if(image.alloc(10).ok() == Some(48));
+    let freed = Answer::right_if(image.free(48).ok() == Some(48));
     let lent = match image.cell(32, &mut Looks::new()) {
-        Ok(data) => Outcome::right_if(data.len() == 12 && data.first().copied() == Some(b'h')),
-        Err(_) => Outcome::Wrong,
+        Ok(data) => Answer::right_if(data.len() == 12 && data.first().copied() == Some(b'h')),
+        Err(_) => Answer::Wrong,
     };
     Ok(added.and(taken).and(freed).and(lent))
 }
 
 // many bins, one after another; a refused one is left out
-fn many(alloc: Global) -> Result<Outcome, Refusal> {
+fn many(alloc: Global) -> Result<Answer, Refusal> {
     let mut image = opened(alloc)?;
-    let mut outcome = Outcome::Done;
+    let mut outcome = Answer::Done;
     for _ in 0..40 {
         let len = image.len();
         let added = match image.alloc(4060) {
-            Ok(_) => Outcome::right_if(image.len() == len.saturating_add(BIN)),
-            Err(refusal) => Outcome::of_refusal(refusal).and(Outcome::right_if(image.len() == len)),
+            Ok(_) => Answer::right_if(image.len() == len.saturating_add(BIN)),
+            Err(refusal) => Answer::of_refusal(refusal).and(Answer::right_if(image.len() == len)),
         };
         outcome = outcome.and(added);
     }
     Ok(outcome)
 }
 
-fn outcome_of(ended: Result<Outcome, Refusal>) -> Outcome {
+fn outcome_of(ended: Result<Answer, Refusal>) -> Answer {
     match ended {
         Ok(outcome) => outcome,
-        Err(refusal) => Outcome::of_refusal(refusal),
+        Err(refusal) => Answer::of_refusal(refusal),
     }
 }
 
@@ -173,8 +173,8 @@ fn main(rt: HostRuntime) -> ExitCode {
         .and(outcome_of(used_on(alloc)))
         .and(outcome_of(many(alloc)));
     match all {
-        Outcome::Done => ExitCode::from(0),
-        Outcome::Refused => ExitCode::from(1),
-        Outcome::Wrong => ExitCode::from(2),
+        Answer::Done => ExitCode::from(0),
+        Answer::Refused => ExitCode::from(1),
+        Answer::Wrong => ExitCode::from(2),
     }
 }

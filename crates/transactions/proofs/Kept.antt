@@ -18,22 +18,22 @@ use Rattle.conflicts.specs.Holders.{HeldClaim, with_claim, without_owner}
 use Rattle.conflicts.proofs.Members.{none_empty}
 use Rattle.store_model.specs.Transactions.{Transaction, SetsSlot, at, is_active, with_op}
 use Rattle.transactions.specs.Entries.{transaction_of, tx_slots_of, IsEntry, IsSameEntry, HasTwoSpare, IsViewed, IsViewNow, EntriesAreSound}
-use Rattle.transactions.specs.declared.entry.Entry.{Entry}
+use Rattle.transactions.specs.declared.entry.TxEntry.{TxEntry}
 use Rattle.transactions.specs.declared.view.View.{View}
 use Rattle.transactions.proofs.Slots.{content, at_of, puts, entries_put, entries_moved, entries_begun}
 use Rattle.transactions.proofs.Claimed.{some_same, claimed_same, claimed_put, claimed_dropped, claimed_added, none_inactive, none_there}
 
 -- a slot that has an entry
-pub at_slot : (slots : List (Option Entry)) (slot : ℕ) (e : Entry) → content slots slot ≡ Some e → at (tx_slots_of slots) slot ≡ Some (transaction_of e)
+pub at_slot : (slots : List (Option TxEntry)) (slot : ℕ) (e : TxEntry) → content slots slot ≡ Some e → at (tx_slots_of slots) slot ≡ Some (transaction_of e)
 at_slot slots slot e h = at_of slots slot ∙ ap (option_map transaction_of) h
 
 module _ (trees : List TreeMap) (number begun : ℕ) (claims : List HeldClaim) where
   -- the next change was accepted
-  pub kept_moved : (others : List TreeMap) (slots : List (Option Entry)) → EntriesAreSound trees number begun slots claims → EntriesAreSound others (number + 1) begun slots claims
+  pub kept_moved : (others : List TreeMap) (slots : List (Option TxEntry)) → EntriesAreSound trees number begun slots claims → EntriesAreSound others (number + 1) begun slots claims
   kept_moved others slots k = record { entries = entries_moved trees others number begun slots k.entries; claimed = k.claimed }
 
   -- a slot was vacated
-  pub kept_vacated : (old new : Slab Entry) (key : ℕ) (after : List HeldClaim) → after ≡ without_owner claims key → EntriesAreSound trees number begun old.slots claims → Updates old new key None →
+  pub kept_vacated : (old new : Slab TxEntry) (key : ℕ) (after : List HeldClaim) → after ≡ without_owner claims key → EntriesAreSound trees number begun old.slots claims → Updates old new key None →
       EntriesAreSound trees number begun new.slots after
   kept_vacated old new key after without k u = subst (EntriesAreSound trees number begun new.slots) (sym without) record {
     entries = entries_put trees number begun old new key None k.entries u (λ e none. absurd (none-some e none));
@@ -42,7 +42,7 @@ module _ (trees : List TreeMap) (number begun : ℕ) (claims : List HeldClaim) w
   }
 
   -- a transaction ended
-  pub kept_ended : (old new : Slab Entry) (key : ℕ) (e : Entry) (after : List HeldClaim) → after ≡ without_owner claims key → EntriesAreSound trees number begun old.slots claims → Updates old new key (Some e) → IsEntry trees number begun e → is_active (transaction_of e) ≡ false →
+  pub kept_ended : (old new : Slab TxEntry) (key : ℕ) (e : TxEntry) (after : List HeldClaim) → after ≡ without_owner claims key → EntriesAreSound trees number begun old.slots claims → Updates old new key (Some e) → IsEntry trees number begun e → is_active (transaction_of e) ≡ false →
       EntriesAreSound trees number begun new.slots after
   kept_ended old new key e after without k u i ended = subst (EntriesAreSound trees number begun new.slots) (sym without) record {
     entries = entries_put trees number begun old new key (Some e) k.entries u (λ f same. subst (IsEntry trees number begun) (some_same e f same) i);
@@ -51,7 +51,7 @@ module _ (trees : List TreeMap) (number begun : ℕ) (claims : List HeldClaim) w
   }
 
   -- a transaction was begun
-  pub kept_begun : (old new : Slab Entry) (key : ℕ) (e : Entry) → EntriesAreSound trees number begun old.slots claims → Updates old new key (Some e) → content old.slots key ≡ None → IsEntry trees number (begun + 1) e → e.ops.items ≡ [] →
+  pub kept_begun : (old new : Slab TxEntry) (key : ℕ) (e : TxEntry) → EntriesAreSound trees number begun old.slots claims → Updates old new key (Some e) → content old.slots key ≡ None → IsEntry trees number (begun + 1) e → e.ops.items ≡ [] →
       EntriesAreSound trees number (begun + 1) new.slots claims
   kept_begun old new key e k u vacant i none = record {
     entries = entries_put trees number (begun + 1) old new key (Some e) (entries_begun trees number begun old.slots k.entries) u (λ f same. subst (IsEntry trees number (begun + 1)) (some_same e f same) i);
@@ -62,7 +62,7 @@ module _ (trees : List TreeMap) (number begun : ℕ) (claims : List HeldClaim) w
   }
 
   -- what a transaction sees was made, and nothing else changed
-  pub kept_seen : (old new : Slab Entry) (key : ℕ) (was e : Entry) → EntriesAreSound trees number begun old.slots claims → Updates old new key (Some e) → content old.slots key ≡ Some was → IsEntry trees number begun e →
+  pub kept_seen : (old new : Slab TxEntry) (key : ℕ) (was e : TxEntry) → EntriesAreSound trees number begun old.slots claims → Updates old new key (Some e) → content old.slots key ≡ Some was → IsEntry trees number begun e →
       transaction_of e ≡ transaction_of was → ((slot : ℕ) → at (tx_slots_of new.slots) slot ≡ at (tx_slots_of old.slots) slot) → EntriesAreSound trees number begun new.slots claims
   kept_seen old new key was e k u there i same all = record {
     entries = entries_put trees number begun old new key (Some e) k.entries u (λ f g. subst (IsEntry trees number begun) (some_same e f g) i);
@@ -70,7 +70,7 @@ module _ (trees : List TreeMap) (number begun : ℕ) (claims : List HeldClaim) w
   }
 
   -- an operation was added
-  pub kept_added : (old new : Slab Entry) (key : ℕ) (was e : Entry) (op : Op) (moment : ℕ) (after : List HeldClaim) → after ≡ with_claim claims (record { owner = key; claim = claim_of op }) → EntriesAreSound trees number begun old.slots claims → Updates old new key (Some e) → content old.slots key ≡ Some was → IsEntry trees number begun e →
+  pub kept_added : (old new : Slab TxEntry) (key : ℕ) (was e : TxEntry) (op : Op) (moment : ℕ) (after : List HeldClaim) → after ≡ with_claim claims (record { owner = key; claim = claim_of op }) → EntriesAreSound trees number begun old.slots claims → Updates old new key (Some e) → content old.slots key ≡ Some was → IsEntry trees number begun e →
       transaction_of e ≡ with_op (transaction_of was) op moment → is_active (transaction_of was) ≡ true → EntriesAreSound trees number begun new.slots after
   kept_added old new key was e op moment after more k u there i kept active = subst (EntriesAreSound trees number begun new.slots) (sym more) record {
     entries = entries_put trees number begun old new key (Some e) k.entries u (λ f g. subst (IsEntry trees number begun) (some_same e f g) i);
@@ -79,19 +79,19 @@ module _ (trees : List TreeMap) (number begun : ℕ) (claims : List HeldClaim) w
   }
 
 -- an entry that has another view
-pub seen_entry : (trees : List TreeMap) (number begun : ℕ) (e after : Entry) → IsEntry trees number begun e → after ≡ record e { view = after.view } → IsViewed trees number after.ops.items after.view → IsEntry trees number begun after
+pub seen_entry : (trees : List TreeMap) (number begun : ℕ) (e after : TxEntry) → IsEntry trees number begun e → after ≡ record e { view = after.view } → IsViewed trees number after.ops.items after.view → IsEntry trees number begun after
 seen_entry trees number begun e after i rest viewed =
-    subst (IsEntry trees number begun) (sym rest) record { known = i.known; counted = i.counted; short = i.short; spare = i.spare; viewed = subst (λ (x : Entry). IsViewed trees number x.ops.items after.view) rest viewed }
+    subst (IsEntry trees number begun) (sym rest) record { known = i.known; counted = i.counted; short = i.short; spare = i.spare; viewed = subst (λ (x : TxEntry). IsViewed trees number x.ops.items after.view) rest viewed }
 
 -- the slots show no view
-pub same_tx_slots : (slots : List (Option Entry)) (slot : ℕ) (e after : Entry) → content slots slot ≡ Some e → transaction_of after ≡ transaction_of e → tx_slots_of (slice_set slots slot (Some after)) ≡ tx_slots_of slots
+pub same_tx_slots : (slots : List (Option TxEntry)) (slot : ℕ) (e after : TxEntry) → content slots slot ≡ Some e → transaction_of after ≡ transaction_of e → tx_slots_of (slice_set slots slot (Some after)) ≡ tx_slots_of slots
 same_tx_slots slots slot e after there same = map-set_same (option_map transaction_of) slots slot (Some after) None (ap Some same ∙ sym (ap (option_map transaction_of) there))
 
 -- an entry with more room is the same
-pub reserved_same : (e after : Entry) → IsSameEntry e after → transaction_of after ≡ transaction_of e
+pub reserved_same : (e after : TxEntry) → IsSameEntry e after → transaction_of after ≡ transaction_of e
 reserved_same e after s = ap transaction_of s.0 ∙ ap (λ items. record (transaction_of e) { ops = items }) s.1
 
-pub reserved_entry : (trees : List TreeMap) (number begun : ℕ) (e after : Entry) → IsEntry trees number begun e → IsSameEntry e after → IsEntry trees number begun after
+pub reserved_entry : (trees : List TreeMap) (number begun : ℕ) (e after : TxEntry) → IsEntry trees number begun e → IsSameEntry e after → IsEntry trees number begun after
 reserved_entry trees number begun e after i s = subst (IsEntry trees number begun) (sym s.0) record {
   known = i.known;
   counted = i.counted ∙ ap (λ (items : List Op). 16 + ops_encoded_len items) (sym s.1);
@@ -101,7 +101,7 @@ reserved_entry trees number begun e after i s = subst (IsEntry trees number begu
 }
 
 -- an entry after one more operation, which is not too long and whose view is the one after it
-pub added_entry : (trees : List TreeMap) (number begun : ℕ) (e after : Entry) (op : Op) (moment : ℕ) (made : View) → IsEntry trees number begun e → transaction_of after ≡ with_op (transaction_of e) op moment → after.length ≡ e.length + op_encoded_len op →
+pub added_entry : (trees : List TreeMap) (number begun : ℕ) (e after : TxEntry) (op : Op) (moment : ℕ) (made : View) → IsEntry trees number begun e → transaction_of after ≡ with_op (transaction_of e) op moment → after.length ≡ e.length + op_encoded_len op →
     after.view ≡ Some made → too_long (transaction_of e) op ≡ false → made.number ≡ number → IsViewNow trees (e.ops.items ++ op ∷ []) made → HasTwoSpare after → IsEntry trees number begun after
 added_entry trees number begun e after op moment made i kept length view short numbered seen spare = record {
   known = omega (arith, i.known, ap (λ (t : Transaction). t.generation) kept);

@@ -7,14 +7,14 @@ use Rattle.slab.specs.Slab.{Slab, Updates}
 use Rattle.reg_tree.specs.Maps.{TreeMap}
 use Rattle.store_model.specs.Transactions.{SetsSlot, at}
 use Rattle.transactions.specs.Entries.{transaction_of, tx_slots_of, IsViewed, IsEntry}
-use Rattle.transactions.specs.declared.entry.Entry.{Entry}
+use Rattle.transactions.specs.declared.entry.TxEntry.{TxEntry}
 use Rattle.transactions.specs.declared.view.View.{View}
 
-abbrev pub content : List (Option Entry) → ℕ → Option Entry
+abbrev pub content : List (Option TxEntry) → ℕ → Option TxEntry
 content slots slot = slice_index_or slots slot None
 
 -- what is in a slot
-pub at_of : (slots : List (Option Entry)) (slot : ℕ) → at (tx_slots_of slots) slot ≡ option_map transaction_of (content slots slot)
+pub at_of : (slots : List (Option TxEntry)) (slot : ℕ) → at (tx_slots_of slots) slot ≡ option_map transaction_of (content slots slot)
 at_of [] slot = refl
 at_of (s ∷ slots) zero = refl
 at_of (s ∷ slots) (suc slot) = at_of slots slot
@@ -28,19 +28,19 @@ same_or_other a b = by_case (a == b) refl
     by_case false e = inr (eqb-false a b e)
 
 -- a changed slot of the slab is a changed slot of the table
-pub puts : (old new : Slab Entry) (key : ℕ) (s : Option Entry) → Updates old new key s → SetsSlot (tx_slots_of old.slots) (tx_slots_of new.slots) key (option_map transaction_of s)
+pub puts : (old new : Slab TxEntry) (key : ℕ) (s : Option TxEntry) → Updates old new key s → SetsSlot (tx_slots_of old.slots) (tx_slots_of new.slots) key (option_map transaction_of s)
 puts old new key s u = record {
   there = at_of new.slots key ∙ ap (option_map transaction_of) u.changed;
   others = λ other ne. at_of new.slots other ∙ ap (option_map transaction_of) (u.others other ne) ∙ sym (at_of old.slots other);
 }
 
 -- what is so of all entries
-abbrev pub AreEntries : List TreeMap → ℕ → ℕ → List (Option Entry) → Type 0
-AreEntries trees number begun slots = (slot : ℕ) (e : Entry) → content slots slot ≡ Some e → IsEntry trees number begun e
+abbrev pub AreEntries : List TreeMap → ℕ → ℕ → List (Option TxEntry) → Type 0
+AreEntries trees number begun slots = (slot : ℕ) (e : TxEntry) → content slots slot ≡ Some e → IsEntry trees number begun e
 
 -- and after one of them changed
-pub entries_put : (trees : List TreeMap) (number begun : ℕ) (old new : Slab Entry) (key : ℕ) (s : Option Entry) → AreEntries trees number begun old.slots → Updates old new key s →
-    ((e : Entry) → s ≡ Some e → IsEntry trees number begun e) → AreEntries trees number begun new.slots
+pub entries_put : (trees : List TreeMap) (number begun : ℕ) (old new : Slab TxEntry) (key : ℕ) (s : Option TxEntry) → AreEntries trees number begun old.slots → Updates old new key s →
+    ((e : TxEntry) → s ≡ Some e → IsEntry trees number begun e) → AreEntries trees number begun new.slots
 entries_put trees number begun old new key s all u one slot e at = elim (same_or_other slot key) [
   | inl same ↦ one e (sym u.changed ∙ ap (content new.slots) (sym same) ∙ at)
   | inr other ↦ all slot e (sym (u.others slot other) ∙ at)
@@ -51,13 +51,13 @@ later_view trees number ops None others v = v
 later_view trees number ops (Some view) others v = record { known = omega (arith, v.known); made = λ e. absurd (omega (arith, v.known, e)) }
 
 -- after a change no view is of now
-pub entries_moved : (trees others : List TreeMap) (number begun : ℕ) (slots : List (Option Entry)) → AreEntries trees number begun slots → AreEntries others (number + 1) begun slots
+pub entries_moved : (trees others : List TreeMap) (number begun : ℕ) (slots : List (Option TxEntry)) → AreEntries trees number begun slots → AreEntries others (number + 1) begun slots
 entries_moved trees others number begun slots all slot e at =
     let i : IsEntry trees number begun e = all slot e at in
     record { known = i.known; counted = i.counted; short = i.short; spare = i.spare; viewed = later_view trees number e.ops.items e.view others i.viewed }
 
 -- one more was begun
-pub entries_begun : (trees : List TreeMap) (number begun : ℕ) (slots : List (Option Entry)) → AreEntries trees number begun slots → AreEntries trees number (begun + 1) slots
+pub entries_begun : (trees : List TreeMap) (number begun : ℕ) (slots : List (Option TxEntry)) → AreEntries trees number begun slots → AreEntries trees number (begun + 1) slots
 entries_begun trees number begun slots all slot e at =
     let i : IsEntry trees number begun e = all slot e at in
     record { known = omega (arith, i.known); counted = i.counted; short = i.short; spare = i.spare; viewed = i.viewed }

@@ -24,21 +24,21 @@ use Rattle.store_model.specs.declared.handle.Outcome.{Outcome}
 use Rattle.store_model.specs.declared.handle.Outcome.TheVariants.{RolledBack}
 use Rattle.transactions.specs.Tables.{Table, EndsWith, Begins, Writes, rolled_back_if}
 use Rattle.transactions.specs.Entries.{transaction_of, tx_slots_of, IsEntry, IsViewed, IsJudged, IsJudgedBy, IsJudgedOf, MayAdd, AddsTo, with_op_if, judge_refusal, illegal}
-use Rattle.transactions.specs.declared.entry.Entry.{Entry}
+use Rattle.transactions.specs.declared.entry.TxEntry.{TxEntry}
 use Rattle.transactions.specs.declared.table.TxWriteOutcome.{TxWriteOutcome}
 use Rattle.transactions.specs.declared.view.Judged.{Judged}
 use Rattle.transactions.proofs.Slots.{content, at_of, puts}
 use Rattle.transactions.proofs.Kept.{at_slot}
 
 -- what a table with these slots shows
-abbrev pub shown : List TreeMap → ℕ → ℕ → List (Option Entry) → Table
+abbrev pub shown : List TreeMap → ℕ → ℕ → List (Option TxEntry) → Table
 shown trees number begun slots = record { trees = trees; number = number; tx_slots = tx_slots_of slots; begun = begun }
 
 -- the transaction of a handle
-pub own_found : (slots : List (Option Entry)) (session : ℕ) (tx : Tx) (e : Entry) → content slots tx.slot ≡ Some e → (e.session == session && e.generation == tx.generation) ≡ true → own (tx_slots_of slots) session tx ≡ Some (transaction_of e)
+pub own_found : (slots : List (Option TxEntry)) (session : ℕ) (tx : Tx) (e : TxEntry) → content slots tx.slot ≡ Some e → (e.session == session && e.generation == tx.generation) ≡ true → own (tx_slots_of slots) session tx ≡ Some (transaction_of e)
 own_found slots session tx e there its = ap (own_if session tx.generation) (at_slot slots tx.slot e there) ∙ ap (λ b. cond b (Some (transaction_of e)) None) its
 
-pub own_none : (slots : List (Option Entry)) (session : ℕ) (tx : Tx) → content slots tx.slot ≡ None → own (tx_slots_of slots) session tx ≡ None
+pub own_none : (slots : List (Option TxEntry)) (session : ℕ) (tx : Tx) → content slots tx.slot ≡ None → own (tx_slots_of slots) session tx ≡ None
 own_none slots session tx none = ap (own_if session tx.generation) (at_of slots tx.slot ∙ ap (option_map transaction_of) none)
 
 -- an active transaction may be ended, and no other
@@ -46,11 +46,11 @@ pub may_end : (one : Transaction) → is_active one ≡ true → inactive_refusa
 may_end one active = ap (λ b. cond b None (Some NotActive)) active
 
 -- a handle that passes its test is that of the active transaction in its slot
-module _ (slots : List (Option Entry)) (session : ℕ) (tx : Tx) (passes : inactive_refusal (own (tx_slots_of slots) session tx) ≡ None) where
+module _ (slots : List (Option TxEntry)) (session : ℕ) (tx : Tx) (passes : inactive_refusal (own (tx_slots_of slots) session tx) ≡ None) where
   pub never_missing : content slots tx.slot ≡ None → ⊥
   never_missing none = none-some NoSuchHandle (sym passes ∙ ap inactive_refusal (own_none slots session tx none))
 
-  module _ (e : Entry) (there : content slots tx.slot ≡ Some e) where
+  module _ (e : TxEntry) (there : content slots tx.slot ≡ Some e) where
     pub its_own : ((e.session == session && e.generation == tx.generation) ≡ true) × (is_active (transaction_of e) ≡ true)
     its_own = by_case (e.session == session && e.generation == tx.generation) refl (sym (ap inactive_refusal (ap (own_if session tx.generation) (at_slot slots tx.slot e there))) ∙ passes)
       where
@@ -71,7 +71,7 @@ none_some : (ops : List Op) → ops ≡ [] → 0 < length ops → ⊥
 none_some ops none some = absurd (omega (arith, some, ap (λ (ops : List Op). length ops) none))
 
 -- an entry after its end
-pub ended_entry : (trees : List TreeMap) (number begun : ℕ) (e after : Entry) (outcome : Outcome) → IsEntry trees number begun e → transaction_of after ≡ ended outcome (transaction_of e) → after.length ≡ 16 → after.view ≡ None →
+pub ended_entry : (trees : List TreeMap) (number begun : ℕ) (e after : TxEntry) (outcome : Outcome) → IsEntry trees number begun e → transaction_of after ≡ ended outcome (transaction_of e) → after.length ≡ 16 → after.view ≡ None →
     IsEntry trees number begun after
 ended_entry trees number begun e after outcome i kept length unseen = record {
   known = omega (arith, i.known, ap (λ (t : Transaction). t.generation) kept);
@@ -82,7 +82,7 @@ ended_entry trees number begun e after outcome i kept length unseen = record {
 }
 
 -- a transaction ends
-pub ends : (trees : List TreeMap) (number begun : ℕ) (old new : Slab Entry) (session : ℕ) (tx : Tx) (outcome : Outcome) (ops : List Op) (e after : Entry) → content old.slots tx.slot ≡ Some e →
+pub ends : (trees : List TreeMap) (number begun : ℕ) (old new : Slab TxEntry) (session : ℕ) (tx : Tx) (outcome : Outcome) (ops : List Op) (e after : TxEntry) → content old.slots tx.slot ≡ Some e →
     (e.session == session && e.generation == tx.generation) ≡ true → is_active (transaction_of e) ≡ true → Updates old new tx.slot (Some after) → transaction_of after ≡ ended outcome (transaction_of e) → ops ≡ e.ops.items →
     EndsWith (shown trees number begun old.slots) session tx outcome ops (shown trees number begun new.slots)
 ends trees number begun old new session tx outcome ops e after there its active u kept given = record {
@@ -97,7 +97,7 @@ ends trees number begun old new session tx outcome ops e after there its active 
 }
 
 -- a transaction is begun
-pub begins : (trees : List TreeMap) (number begun : ℕ) (old new : Slab Entry) (session : ℕ) (id : List ℕ) (slot : ℕ) (e : Entry) → slot_refusal (tx_slots_of old.slots) begun ≡ None → content old.slots slot ≡ None →
+pub begins : (trees : List TreeMap) (number begun : ℕ) (old new : Slab TxEntry) (session : ℕ) (id : List ℕ) (slot : ℕ) (e : TxEntry) → slot_refusal (tx_slots_of old.slots) begun ≡ None → content old.slots slot ≡ None →
     Updates old new slot (Some e) → transaction_of e ≡ fresh_transaction session id (begun + 1) → Begins (shown trees number begun old.slots) session id (record { slot = slot; generation = begun + 1 }) (shown trees number (begun + 1) new.slots)
 begins trees number begun old new session id slot e free vacant u kept = record {
   free = free;
@@ -110,18 +110,18 @@ begins trees number begun old new session id slot e free vacant u kept = record 
 }
 
 -- as many transactions are kept as entries
-as_long : (key : ℕ) (slots : List (Option Entry)) → length (entries_from key (tx_slots_of slots)) ≡ length (entries_from key slots)
+as_long : (key : ℕ) (slots : List (Option TxEntry)) → length (entries_from key (tx_slots_of slots)) ≡ length (entries_from key slots)
 as_long key [] = refl
 as_long key (None ∷ slots) = as_long (key + 1) slots
 as_long key (Some e ∷ slots) = ap suc (as_long (key + 1) slots)
 
-count_shown : (slots : List (Option Entry)) → count_held (tx_slots_of slots) ≡ count_by is_some slots
+count_shown : (slots : List (Option TxEntry)) → count_held (tx_slots_of slots) ≡ count_by is_some slots
 count_shown slots = sym (length-entries_from 0 (tx_slots_of slots)) ∙ as_long 0 slots ∙ length-entries_from 0 slots
 
 seats : (held begun : ℕ) (few left : Bool) → nat_le MOST_TRANSACTIONS held ≡ few → nat_le (2 ^ 64 - 1) begun ≡ left → (nat_le MOST_TRANSACTIONS held || nat_le (2 ^ 64 - 1) begun) ≡ (few || left)
 seats held begun few left e f = ap (λ b. b || nat_le (2 ^ 64 - 1) begun) e ∙ ap (λ b. few || b) f
 
-module _ (begun : ℕ) (slots : List (Option Entry)) (held : ℕ) (counted : held ≡ count_by is_some slots) where
+module _ (begun : ℕ) (slots : List (Option TxEntry)) (held : ℕ) (counted : held ≡ count_by is_some slots) where
   by_count : slot_refusal (tx_slots_of slots) begun ≡ refused_if (nat_le MOST_TRANSACTIONS held || nat_le (2 ^ 64 - 1) begun) NoSeat
   by_count = ap (λ n. refused_if (nat_le MOST_TRANSACTIONS n || nat_le (2 ^ 64 - 1) begun) NoSeat) (count_shown slots ∙ sym counted)
 
@@ -135,14 +135,14 @@ module _ (begun : ℕ) (slots : List (Option Entry)) (held : ℕ) (counted : hel
   none_left few many = by_count ∙ ap (λ b. refused_if b NoSeat) (seats held begun false true (lt-leb MOST_TRANSACTIONS held few) (le-leb (2 ^ 64 - 1) begun (omega (arith, many))))
 
 -- a slab with more room has the same entries
-pub updates_of : (s r new : Slab Entry) (key : ℕ) (entry : Option Entry) → r ≡ record s { capacity = r.capacity } → Updates r new key entry → Updates s new key entry
-updates_of s r new key entry same u = record { changed = u.changed; others = λ other ne. u.others other ne ∙ ap (λ (x : Slab Entry). content x.slots other) same }
+pub updates_of : (s r new : Slab TxEntry) (key : ℕ) (entry : Option TxEntry) → r ≡ record s { capacity = r.capacity } → Updates r new key entry → Updates s new key entry
+updates_of s r new key entry same u = record { changed = u.changed; others = λ other ne. u.others other ne ∙ ap (λ (x : Slab TxEntry). content x.slots other) same }
 
-pub slot_of : (s r : Slab Entry) (key : ℕ) (entry : Option Entry) → r ≡ record s { capacity = r.capacity } → content r.slots key ≡ entry → content s.slots key ≡ entry
-slot_of s r key entry same there = sym (ap (λ (x : Slab Entry). content x.slots key) same) ∙ there
+pub slot_of : (s r : Slab TxEntry) (key : ℕ) (entry : Option TxEntry) → r ≡ record s { capacity = r.capacity } → content r.slots key ≡ entry → content s.slots key ≡ entry
+slot_of s r key entry same there = sym (ap (λ (x : Slab TxEntry). content x.slots key) same) ∙ there
 
 -- a transaction that is begun
-pub begun_entry : (trees : List TreeMap) (number begun : ℕ) (session : ℕ) (id : List ℕ) (e : Entry) → transaction_of e ≡ fresh_transaction session id begun → e.length ≡ 16 → e.view ≡ None → IsEntry trees number begun e
+pub begun_entry : (trees : List TreeMap) (number begun : ℕ) (session : ℕ) (id : List ℕ) (e : TxEntry) → transaction_of e ≡ fresh_transaction session id begun → e.length ≡ 16 → e.view ≡ None → IsEntry trees number begun e
 begun_entry trees number begun session id e kept length unseen = record {
   known = omega (arith, ap (λ (t : Transaction). t.generation) kept);
   counted = length ∙ ap (λ (ops : List Op). 16 + ops_encoded_len ops) (sym (ap (λ (t : Transaction). t.ops) kept));
@@ -152,7 +152,7 @@ begun_entry trees number begun session id e kept length unseen = record {
 }
 
 -- an active transaction is rolled back
-pub rolled_back_put : (old new : Slab Entry) (slot : ℕ) (e after : Entry) → content old.slots slot ≡ Some e → is_active (transaction_of e) ≡ true → Updates old new slot (Some after) → transaction_of after ≡ ended RolledBack (transaction_of e) →
+pub rolled_back_put : (old new : Slab TxEntry) (slot : ℕ) (e after : TxEntry) → content old.slots slot ≡ Some e → is_active (transaction_of e) ≡ true → Updates old new slot (Some after) → transaction_of after ≡ ended RolledBack (transaction_of e) →
     SetsSlot (tx_slots_of old.slots) (tx_slots_of new.slots) slot (rolled_back_if true (at (tx_slots_of old.slots) slot))
 rolled_back_put old new slot e after there active u kept =
     subst (SetsSlot (tx_slots_of old.slots) (tx_slots_of new.slots) slot) (ap Some (kept ∙ sym (ap (λ b. cond b (ended RolledBack (transaction_of e)) (transaction_of e)) active)) ∙ sym (ap (rolled_back_if true) (at_slot old.slots slot e there))) (puts old new slot (Some after) u)

@@ -25,7 +25,7 @@ use Rattle.store_model.specs.declared.handle.Tx.{Tx}
 use Rattle.transactions.specs.Tables.{Table}
 use Rattle.transactions.specs.declared.table.TxWriteOutcome.{TxWriteOutcome}
 use Rattle.transactions.specs.declared.table.TxWriteOutcome.TheVariants.{Added}
-use Rattle.transactions.specs.declared.entry.Entry.{Entry}
+use Rattle.transactions.specs.declared.entry.TxEntry.{TxEntry}
 use Rattle.transactions.specs.declared.entry.Committed.{Committed}
 use Rattle.transactions.specs.declared.view.Judged.{Judged}
 use Rattle.transactions.specs.declared.view.View.{View}
@@ -33,10 +33,10 @@ use Rattle.transactions.specs.declared.view.Known.{Known}
 use Rattle.transactions.specs.declared.view.Known.TheVariants.{Nothing, Carried, Light}
 
 -- the transaction that an entry keeps
-abbrev pub transaction_of : Entry → Transaction
+abbrev pub transaction_of : TxEntry → Transaction
 transaction_of e = record { session = e.session; id = e.id; generation = e.generation; outcome = e.outcome; ops = e.ops.items; moment = e.moment }
 
-abbrev pub tx_slots_of : List (Option Entry) → TxSlots
+abbrev pub tx_slots_of : List (Option TxEntry) → TxSlots
 tx_slots_of slots = map (option_map transaction_of) slots
 
 -- The trees of a view are those of now with the operations applied at its moment; without a moment they are the same
@@ -160,12 +160,12 @@ ViewShowsInfo view now hive path moment (Some info) = ViewShows view now hive pa
 
 -- if there are operations, there is room for two more: two may be added without memory to the operations that a commit
 -- takes
-abbrev pub HasTwoSpare : Entry → Type 0
+abbrev pub HasTwoSpare : TxEntry → Type 0
 HasTwoSpare e = 0 < length e.ops.items → length e.ops.items + 2 ≤ vec_capacity e.ops
 
 -- what is so of an entry: its number was given, and its length is the length of its change and within the limit. There
 -- is room for two operations beside its own, and its view is one
-pub record IsEntry (now : List TreeMap) (number begun : ℕ) (e : Entry) : Type 0 where
+pub record IsEntry (now : List TreeMap) (number begun : ℕ) (e : TxEntry) : Type 0 where
   pub known : e.generation ≤ begun
   pub counted : e.length ≡ 16 + ops_encoded_len e.ops.items
   pub short : e.length ≤ MOST_ELEMENT_BYTES
@@ -180,8 +180,8 @@ pub record Claims (tx_slots : TxSlots) (slot : ℕ) (claim : Claim) : Type 0 whe
   pub made : Contains (map claim_of one.ops) claim
 
 -- what is so of all: each entry is sound, and the claims are those of active transactions
-pub record EntriesAreSound (now : List TreeMap) (number begun : ℕ) (slots : List (Option Entry)) (claims : List HeldClaim) : Type 0 where
-  pub entries : (slot : ℕ) (e : Entry) → slice_index_or slots slot None ≡ Some e → IsEntry now number begun e
+pub record EntriesAreSound (now : List TreeMap) (number begun : ℕ) (slots : List (Option TxEntry)) (claims : List HeldClaim) : Type 0 where
+  pub entries : (slot : ℕ) (e : TxEntry) → slice_index_or slots slot None ≡ Some e → IsEntry now number begun e
   pub claimed : (slot : ℕ) (claim : Claim) → Contains claims (record { owner = slot; claim = claim }) ↔ Claims (tx_slots_of slots) slot claim
 
 -- an operation was judged: it is legal by the view and its change not too long, and this is the view after it, or it
@@ -198,11 +198,11 @@ IsJudged now number one op None = legal (view now one) op ≡ Ok Opened
 IsJudged now number one op (Some judged) = IsLegalIn now number one op judged
 
 -- they differ in the room for operations alone, and there is no less of it
-abbrev pub IsSameEntry : Entry → Entry → Type 0
+abbrev pub IsSameEntry : TxEntry → TxEntry → Type 0
 IsSameEntry old new = (new ≡ record old { ops = new.ops }) × (new.ops.items ≡ old.ops.items) × (vec_capacity old.ops ≤ vec_capacity new.ops)
 
 -- there is room for one operation more, and two besides
-abbrev pub HasRoom : Entry → Type 0
+abbrev pub HasRoom : TxEntry → Type 0
 HasRoom e = length e.ops.items + 2 < vec_capacity e.ops
 
 -- an operation of a handle's transaction was judged

@@ -34,7 +34,7 @@ const MAX_MOMENT: u64 = u64::MAX;
 /// the transaction's. What a write or a read asks of the view depends on no moment, but for the time of a key. So a
 /// write costs one operation, whatever moments the writes have. If a change of others conflicts with no claim of the
 /// transaction, it is applied to its view too.
-pub(crate) struct Entry {
+pub(crate) struct TxEntry {
     pub(crate) session: u32,
     pub(crate) id: Uuid,
     pub(crate) generation: u64,
@@ -45,10 +45,10 @@ pub(crate) struct Entry {
     pub(crate) view: Option<View>,
 }
 
-impl Drop for Entry {
+impl Drop for TxEntry {
     // one drop for all that own a transaction, whose proofs see no more of it than that
     fn drop(self) {
-        let Entry {
+        let TxEntry {
             session: _,
             id: _,
             generation: _,
@@ -88,14 +88,14 @@ fn commit_anew(alloc: Global, now: &Trees, ops: &[Op], moment: u64) -> Result<Co
     })
 }
 
-impl Entry {
+impl TxEntry {
     /// A transaction that is begun: it has no operations.
-    pub(crate) fn begin(alloc: Global, session: u32, id: Uuid, generation: u64) -> Entry
+    pub(crate) fn begin(alloc: Global, session: u32, id: Uuid, generation: u64) -> TxEntry
         ensures kept { transaction_of result ≡ fresh_transaction session id generation }
         ensures counted { result.length ≡ 16 }
         ensures unseen { result.view ≡ None }
     {
-        Entry {
+        TxEntry {
             session,
             id,
             generation,

@@ -15,7 +15,7 @@ ghost use Rattle.store_model.specs.Machine.{first_of, read_refusal, seen, slot_r
 ghost use Rattle.transactions.specs.Tables.{TableRefuses, Begins, ChangesSlots, Writes, EndsWith, EndIsRefused, IsPending, is_of, holds_if, is_listed, MeetNone, rolled_back_if};
 ghost use Rattle.store_model.specs.Transactions.{at, own, is_active_outcome, EachSlotBecomes, SetsSlot, gone_with, inactive_refusal};
 
-use crate::entry::{Committed, Entry};
+use crate::entry::{Committed, TxEntry};
 use crate::view::{Judged, View};
 use conflicts::{ClaimOwner, ClaimTable, claims};
 use refusals::Refusal;
@@ -37,7 +37,7 @@ pub struct TxTable {
     trees: Trees,
     number: u64,
     begun: u64,
-    tx_slots: Slab<Entry>,
+    tx_slots: Slab<TxEntry>,
     claims: ClaimTable,
 }
 
@@ -175,7 +175,7 @@ impl TxTable {
             return Err(Refusal::NoSeat);
         };
         self.tx_slots.reserve(1)?;
-        let entry = Entry::begin(self.alloc, session, id, generation);
+        let entry = TxEntry::begin(self.alloc, session, id, generation);
         self.begun = generation;
         let slot = self.tx_slots.insert_reserved(entry);
         Ok(Tx { slot, generation })
@@ -293,7 +293,7 @@ impl TxTable {
     }
 
     // the transaction of a handle, if it is the session's
-    fn own(&self, session: u32, tx: Tx) -> Option<&Entry>
+    fn own(&self, session: u32, tx: Tx) -> Option<&TxEntry>
         ensures found { option_map transaction_of (option_copied result)
             ≡ own self.now.tx_slots session tx }
         ensures counted { IfSome result (λ entry. entry.now.length
@@ -612,7 +612,12 @@ impl TxTable {
 }
 
 // makes room for an operation of the transaction in a slot, and adds its claim; refused if another's conflicts
-fn add_claim(entry: &mut Entry, held: &mut ClaimTable, slot: usize, op: &Op) -> Result<(), Refusal>
+fn add_claim(
+    entry: &mut TxEntry,
+    held: &mut ClaimTable,
+    slot: usize,
+    op: &Op,
+) -> Result<(), Refusal>
     ensures same { IsSameEntry entry.old entry.new }
     ensures ok { OnOk result (HasRoom entry.new
         × IsClaimResult held.old (record { owner = slot; claim = claim_of op.now }) true held.new) }

@@ -6,7 +6,7 @@ use Rattle.std.specs.Ordering.{nat_cmp}
 use Rattle.std.specs.Map.{remove_entry}
 use Rattle.std.specs.BTreeMap.{is_at}
 use Rattle.std.specs.BTreeSet.{insert_key}
-use Rattle.conflicts.specs.declared.table.Kept.{Kept}
+use Rattle.conflicts.specs.declared.table.IndexedClaim.{IndexedClaim}
 use Rattle.conflicts.specs.Holders.{HeldClaim, blocks, OwnersDontConflict}
 use Rattle.conflicts.specs.IndexKeys.{IndexKey, pair_order, index_key_text}
 use Rattle.conflicts.specs.ClaimIndexes.{Numbered, claims_of, AreInIndexes}
@@ -33,8 +33,8 @@ invariant_of-self-in_err-insert-2 c =
 
 pub invariant_of-self-in-Err : goal.invariant_of-self-in-Err
 invariant_of-self-in-Err c =
-    let k : Kept = record { entry = c.in_ok-entry.entry; index_key = c.in_ok-index_key.index_key } in
-    let below = λ (m : ℕ) (h : Kept) (has : Contains c.self.inside.kept.entries (m, h)). subst (λ n. m < n) (sym c.len.ensures) ((c.self.invariant.in_indexes.in_indexes m h has).below) in
+    let k : IndexedClaim = record { entry = c.in_ok-entry.entry; index_key = c.in_ok-index_key.index_key } in
+    let below = λ (m : ℕ) (h : IndexedClaim) (has : Contains c.self.inside.kept.entries (m, h)). subst (λ n. m < n) (sym c.len.ensures) ((c.self.invariant.in_indexes.in_indexes m h has).below) in
     let back : c.remove.new.self.entries ≡ c.self.inside.kept.entries = c.remove.ensures.entries ∙ ap (remove_entry (is_at (nat_cmp c.len.result))) (c.in_ok-insert-2.ensures.entries ∙ put_last c.self.inside.kept.entries c.len.result k below) ∙ take_last c.self.inside.kept.entries c.len.result k below in
     record {
       in_indexes = subst (λ xs. AreInIndexes (vec_len c.push.new.self) c.put.new.self c.insert.new.self.keys xs) (sym back)
@@ -44,15 +44,15 @@ invariant_of-self-in-Err c =
 
 pub returns-in-Err-clause-err : goal.returns-in-Err-clause-err
 returns-in-Err-clause-err c =
-    let k : Kept = record { entry = c.in_ok-entry.entry; index_key = c.in_ok-index_key.index_key } in
-    let below = λ (m : ℕ) (h : Kept) (has : Contains c.self.inside.kept.entries (m, h)). subst (λ n. m < n) (sym c.len.ensures) ((c.self.invariant.in_indexes.in_indexes m h has).below) in
+    let k : IndexedClaim = record { entry = c.in_ok-entry.entry; index_key = c.in_ok-index_key.index_key } in
+    let below = λ (m : ℕ) (h : IndexedClaim) (has : Contains c.self.inside.kept.entries (m, h)). subst (λ n. m < n) (sym c.len.ensures) ((c.self.invariant.in_indexes.in_indexes m h has).below) in
     let back : c.remove.new.self.entries ≡ c.self.inside.kept.entries = c.remove.ensures.entries ∙ ap (remove_entry (is_at (nat_cmp c.len.result))) (c.in_ok-insert-2.ensures.entries ∙ put_last c.self.inside.kept.entries c.len.result k below) ∙ take_last c.self.inside.kept.entries c.len.result k below in
     ap claims_of back ∙ c.self.view_is
 
 pub invariant_of-self-in-Ok : goal.invariant_of-self-in-Ok
 invariant_of-self-in-Ok c =
-    let k : Kept = record { entry = c.in_ok-entry.entry; index_key = c.in_ok-index_key.index_key } in
-    let below = λ (m : ℕ) (h : Kept) (has : Contains c.self.inside.kept.entries (m, h)). subst (λ n. m < n) (sym c.len.ensures) ((c.self.invariant.in_indexes.in_indexes m h has).below) in
+    let k : IndexedClaim = record { entry = c.in_ok-entry.entry; index_key = c.in_ok-index_key.index_key } in
+    let below = λ (m : ℕ) (h : IndexedClaim) (has : Contains c.self.inside.kept.entries (m, h)). subst (λ n. m < n) (sym c.len.ensures) ((c.self.invariant.in_indexes.in_indexes m h has).below) in
     let index_key : IndexKey = (c.in_ok-copy.field-0, c.len.result) in
     record {
       in_indexes = put_in (vec_len c.self.inside.added) (vec_len c.push.new.self) c.len.result c.self.inside.index c.put.new.self c.self.inside.owned.keys c.insert.new.self.keys c.self.inside.kept.entries c.insert-2.new.self.entries k c.self.invariant.in_indexes
@@ -71,8 +71,8 @@ invariant_of-self-in-Ok c =
 
 pub returns-in-Ok-clause-ok : goal.returns-in-Ok-clause-ok
 returns-in-Ok-clause-ok c =
-    let k : Kept = record { entry = c.in_ok-entry.entry; index_key = c.in_ok-index_key.index_key } in
-    let below = λ (m : ℕ) (h : Kept) (has : Contains c.self.inside.kept.entries (m, h)). subst (λ n. m < n) (sym c.len.ensures) ((c.self.invariant.in_indexes.in_indexes m h has).below) in
+    let k : IndexedClaim = record { entry = c.in_ok-entry.entry; index_key = c.in_ok-index_key.index_key } in
+    let below = λ (m : ℕ) (h : IndexedClaim) (has : Contains c.self.inside.kept.entries (m, h)). subst (λ n. m < n) (sym c.len.ensures) ((c.self.invariant.in_indexes.in_indexes m h has).below) in
     ap claims_of (c.in_ok-insert-2.ensures.entries ∙ put_last c.self.inside.kept.entries c.len.result k below) ∙ map-append (λ (e : Numbered). e.1.entry) c.self.inside.kept.entries ((c.len.result, k) ∷ [])
     ∙ ap (λ xs. xs ++ c.in_ok-entry.entry ∷ []) c.self.view_is ∙ ap (λ h. c.args.self.now ++ h ∷ []) c.in_ok-entry.ensures
 

@@ -8,7 +8,7 @@ use Rattle.store_model.specs.Transactions.{Transaction, SetsSlot, at, is_active,
 use Rattle.store_model.specs.Machine.{too_long}
 use Rattle.transactions.specs.Entries.{transaction_of, tx_slots_of, IsEntry, IsViewNow, EntriesAreSound, with_op_if}
 use Rattle.transactions.specs.Tables.{Table}
-use Rattle.transactions.specs.declared.entry.Entry.{Entry}
+use Rattle.transactions.specs.declared.entry.TxEntry.{TxEntry}
 use Rattle.transactions.proofs.Claimed.{some_same}
 use Rattle.transactions.proofs.Holding.{claimed_free, claimed_met}
 use Rattle.transactions.proofs.Kept.{at_slot, kept_seen, kept_added, reserved_same, reserved_entry, added_entry, same_tx_slots, if_err}
@@ -59,7 +59,7 @@ entry : (c : goal.After-self-2-1) → IsEntry c.self.inside.trees c.self.inside.
 entry c =
     added_entry c.self.inside.trees c.self.inside.number c.self.inside.begun c.in-Some.entry.now c.add.new.self c.args.op c.args.moment c.args.judged.made
     (c.self.invariant.entries c.args.slot c.in-Some.entry.now (was c)) (kept c)
-    (c.add.ensures.length ∙ ap (λ (e : Entry). e.length + op_encoded_len c.args.op) c.in_ok-add_claim.ensures.same.0) c.add.ensures.seen
+    (c.add.ensures.length ∙ ap (λ (e : TxEntry). e.length + op_encoded_len c.args.op) c.in_ok-add_claim.ensures.same.0) c.add.ensures.seen
     (subst (λ one. too_long one c.args.op ≡ false) (one c) c.requires.short) (c.requires.numbered ∙ sym (ap (λ (t : Table). t.number) c.self.view_is))
     (subst (λ (one : Transaction). IsViewNow c.self.inside.trees (one.ops ++ c.args.op ∷ []) c.args.judged.made) (one c)
     (subst (λ (t : Table). IsViewNow t.trees (c.requires.one.ops ++ c.args.op ∷ []) c.args.judged.made) (sym c.self.view_is) c.requires.seen)) c.add.ensures.spare

@@ -5,7 +5,7 @@ use Rattle.slab.proofs.SlabLemmas.{Updates-with_value}
 use Rattle.store_model.specs.Transactions.{at}
 use Rattle.transactions.specs.Entries.{transaction_of, tx_slots_of, IsViewed, IsRebasedTo}
 use Rattle.transactions.specs.Tables.{Table}
-use Rattle.transactions.specs.declared.entry.Entry.{Entry}
+use Rattle.transactions.specs.declared.entry.TxEntry.{TxEntry}
 use Rattle.transactions.proofs.Kept.{at_slot, kept_seen, seen_entry, same_tx_slots}
 use Rattle.transactions.proofs.Slots.{content}
 use Rattle.transactions.proofs.table.TxTable.take_view.Goals as goal
@@ -20,7 +20,7 @@ viewed : (c : goal.After-self-2-1) → IsViewed c.self.inside.trees c.self.insid
 viewed c =
     let its = subst (λ (t : Table). IsRebasedTo t.trees t.number (at t.tx_slots c.args.slot) c.args.view) (sym c.self.view_is) c.requires in
     let own : IsViewed c.self.inside.trees c.self.inside.number c.in-Some.entry.now.ops.items c.args.view = subst (λ one. IsRebasedTo c.self.inside.trees c.self.inside.number one c.args.view) (at_slot c.self.inside.tx_slots.slots c.args.slot c.in-Some.entry.now (there c)) its in
-    subst (λ (e : Entry). IsViewed c.self.inside.trees c.self.inside.number e.ops.items c.take_view.new.self.view) (sym c.take_view.ensures.rest)
+    subst (λ (e : TxEntry). IsViewed c.self.inside.trees c.self.inside.number e.ops.items c.take_view.new.self.view) (sym c.take_view.ensures.rest)
     (subst (IsViewed c.self.inside.trees c.self.inside.number c.in-Some.entry.now.ops.items) (sym c.take_view.ensures.taken) own)
 
 pub invariant_of-self-2 : goal.invariant_of-self-2

@@ -6,7 +6,7 @@ use Rattle.store_model.specs.Machine.{looked_up, read_refusal}
 use Rattle.store_model.specs.Transactions.{view}
 use Rattle.transactions.specs.Entries.{transaction_of, HasView}
 use Rattle.transactions.proofs.Looks.{looked_alike}
-use Rattle.transactions.proofs.entry.Entry.look_up.Goals as goal
+use Rattle.transactions.proofs.entry.TxEntry.look_up.Goals as goal
 
 -- what the view says is what the transaction sees
 as_seen : (c : goal.After-look_up) → looked_up c.in-Some.view.trees c.args.hive c.args.path.now c.args.question ≡ looked_up (view c.args.now.now (transaction_of c.ensure_view.new.self)) c.args.hive c.args.path.now c.args.question

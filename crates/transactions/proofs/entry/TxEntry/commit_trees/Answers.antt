@@ -3,7 +3,7 @@ use Rattle.conflicts.proofs.StaysLegal.{any_moment}
 use Rattle.transactions.specs.Entries.{AreLight, AreKnown, IsMade, IsViewed, IsViewNow}
 use Rattle.transactions.specs.declared.view.Known.TheVariants.{Light}
 use Rattle.transactions.proofs.Views.{at_moment}
-use Rattle.transactions.proofs.entry.Entry.commit_trees.Goals as goal
+use Rattle.transactions.proofs.entry.TxEntry.commit_trees.Goals as goal
 
 pub returns-in_ok-try_clone-in-Some-clause-ok : goal.returns-in_ok-try_clone-in-Some-clause-ok
 returns-in_ok-try_clone-in-Some-clause-ok c =

@@ -2,7 +2,7 @@ use Rattle.std.proofs.Common.{◌≡◌, Some, subst}
 use Rattle.std.specs.Prelude.{IfSome}
 use Rattle.transactions.specs.Entries.{IsViewed}
 use Rattle.transactions.proofs.Views.{moved_any}
-use Rattle.transactions.proofs.entry.Entry.rebased.Goals as goal
+use Rattle.transactions.proofs.entry.TxEntry.rebased.Goals as goal
 
 pub returns-in-Some : goal.returns-in-Some
 returns-in-Some c =

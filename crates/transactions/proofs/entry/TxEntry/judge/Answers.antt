@@ -4,7 +4,7 @@ use Rattle.store_model.specs.Machine.{refusal_by, refused_if, too_long}
 use Rattle.transactions.specs.Entries.{transaction_of, HasView, WritesView}
 use Rattle.transactions.proofs.Kept.{if_err}
 use Rattle.transactions.proofs.Views.{judged_seen, legal_seen}
-use Rattle.transactions.proofs.entry.Entry.judge.Goals as goal
+use Rattle.transactions.proofs.entry.TxEntry.judge.Goals as goal
 
 pub returns-in_err-written-clause-refused : goal.returns-in_err-written-clause-refused
 returns-in_err-written-clause-refused c =
