@@ -46,7 +46,7 @@ from_law trees are (op ∷ ops) m l fits =
     let one = judged_from_legal trees are op l.0 fits.0 in
     (one, from_law (applied_one trees op m) (trees_stay_one trees op m are) ops m (subst (λ s. legal.LegalInOrder (map outline ops) s) (sym (follows trees are m op one)) l.1) fits.1)
 
-apart_one : (a : Op) (others : List Op) → AllByRecursion (λ b. law.Conflict (claim_of a) (claim_of b) → ⊥) others → AllByRecursion (λ b. legal.Apart (outline a) b) (map outline others)
+apart_one : (a : Op) (others : List Op) → AllByRecursion (λ b. law.Conflict (claim_of a) (claim_of b) → ⊥) others → AllByRecursion (λ b. legal.DontConflict (outline a) b) (map outline others)
 apart_one a [] h = tt
 apart_one a (b ∷ others) h = (λ c. h.0 (subst (λ x. law.Conflict x (claim_of b)) (claim_is a) (subst (λ x. law.Conflict (law.claim (outline a)) x) (claim_is b) c)), apart_one a others h.1)
 

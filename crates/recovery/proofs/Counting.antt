@@ -53,7 +53,7 @@ pub fewer_shown : {D : Type 0} (inside it : Shown D) → inside ≡ it → (n : 
 fewer_shown {D = D} inside it is n less = subst (λ (x : Shown D). n < repairs_left x.found.hives.items) is less
 
 -- if the hive of an index is not whole, not all are
-pub some_left : (hives : List HiveFile) (place : ℕ) → place < length hives → ((h : HiveFile) → slice_get hives place ≡ Some h → hive.IsWhole h → ⊥) → AreWhole hives → ⊥
+pub some_left : (hives : List HiveFile) (place : ℕ) → place < length hives → ((h : HiveFile) → slice_get hives place ≡ Some h → hive.HiveIsRepaired h → ⊥) → AreWhole hives → ⊥
 some_left hives place lt not whole =
     let at = at_slot hives place lt in
     not at.0 at.1 (whole place at.0 at.1)

@@ -66,7 +66,7 @@ refused_still rose risen faithful up old mid same why (inr (inl (fault, r))) = i
 refused_still rose risen faithful up old mid same why (inr (inr as_journal_damage)) = inr (inr (subst (λ (s : ℕ → FileState). IsNoStore faithful (seen_in s) why) same as_journal_damage))
 
 -- a refusal of the journal, as one of the store
-pub refused_journal : (fault faithful : Type 0) (files : ℕ → List ℕ) (why : Refusal) → journals.RefusalHasCause fault (faithful → IsNoJournal (files journal_file)) why → RefusalHasCause fault (IsNoStore faithful files) why
+pub refused_journal : (fault faithful : Type 0) (files : ℕ → List ℕ) (why : Refusal) → journals.FailsBy fault (faithful → IsNoJournal (files journal_file)) why → RefusalHasCause fault (IsNoStore faithful files) why
 refused_journal fault faithful files why (inl hungry) = inl hungry
 refused_journal fault faithful files why (inr (inl failed)) = inr (inl failed)
 refused_journal fault faithful files why (inr (inr (damaged, none))) = rw damaged (inr (inr (tt, λ f. inl (none f))))

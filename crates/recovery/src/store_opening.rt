@@ -122,7 +122,7 @@ fn open_journal<D: Disk>(
     ensures read { IfOk result (IsRead (D.faithful disk.new)
         (record { id = owner.now.id; hives = owner.now.hives }) numbers.items
         (D.state_at disk.old (D.clock disk.old)) (D.state_at disk.new (D.clock disk.new))) }
-    ensures fails { IfErr result (journals.RefusalHasCause (D.failures disk.old < D.failures disk.new)
+    ensures fails { IfErr result (journals.FailsBy (D.failures disk.old < D.failures disk.new)
         (D.faithful disk.new →
         IsNoJournal (D.state_at disk.old (D.clock disk.old) journal_file).seen)) }
     ensures synced { D.faithful disk.new → OnlySyncs (D.state_at disk.old) (D.state_at disk.new)
