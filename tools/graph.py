@@ -12,6 +12,12 @@ def crates():
     return {head.split()[0]: tail.split() for head, tail in named}
 
 
+def own_crates():
+    """The crates of the repository, each with those of them on which it stands."""
+    graph = crates()
+    return {crate: [name for name in names if name in graph] for crate, names in graph.items()}
+
+
 def below(crate, graph):
     """The crates of the repository on which one stands, each after those on which it stands."""
     found = []
