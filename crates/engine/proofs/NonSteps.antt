@@ -4,11 +4,10 @@ use Rattle.reg_tree.specs.declared.element.Element.{Element}
 use Rattle.crash_model.specs.Promises.{Choice, Content}
 use Rattle.store_model.specs.Machine.{Machine}
 use Rattle.store_model.specs.Invariant.{InvariantHolds, JournalStateStays, AcceptsOneChange}
-use Rattle.store_model.specs.Steps.{Step, is_not_step}
+use Rattle.store_model.specs.Steps.{Step, is_not_step, may_accept}
 use Rattle.store_model.specs.declared.event.Event.{Event}
 use Rattle.store_model.specs.declared.event.Event.TheVariants as event
 use Rattle.store_model.specs.declared.event.Reply.{Reply}
-use Rattle.transactions.specs.Prepared.{may_accept}
 use Rattle.transactions.specs.Stores.{StoreView}
 use Rattle.change_codec.specs.ModelChanges.{TimedOp}
 use Rattle.commit_journal.specs.Journals.{changes_of, choice_of}

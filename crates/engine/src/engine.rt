@@ -3,6 +3,7 @@ ghost use Rattle.std.specs.Prelude.{◌≡◌, ◌⊎◌, ◌↔◌, ◌+◌, �
 ghost use Rattle.refusals.specs.declared.refusal.Refusal.TheVariants.{NoMemory};
 ghost use Rattle.disk_model.specs.Call.{OneCall};
 ghost use Rattle.disk_model.specs.Crash.{LeavesHonest};
+ghost use Rattle.store_model.specs.Invariant.{IsWithin};
 ghost use Rattle.store_model.specs.Machine.{bounds_of, last_number, opened_machine, trees_now};
 ghost use Rattle.commit_journal.specs.Store.{room_of};
 ghost use Rattle.commit_journal.specs.Journals.{changes_of, choice_of};
@@ -11,7 +12,7 @@ ghost use Rattle.recovery.specs.Shown.{StoreIsRepaired, store_of};
 ghost use Rattle.engine_invariant.specs.Engines.{EngineAnswers, NeedsNoDevice};
 ghost use Rattle.engine_invariant.specs.Idle.{IsTrimmed};
 ghost use Rattle.engine_invariant.specs.Progress.{HasPending};
-ghost use Rattle.store_model.specs.Steps.{Step, Run};
+ghost use Rattle.store_model.specs.Steps.{Step, Run, may_accept};
 ghost use Rattle.store_model.specs.declared.event.Reply.TheVariants as reply;
 ghost use Rattle.engine_invariant.specs.Prefixes.{AnyFile, IsPrefix, IsPrimaryOf, IsSafeAt, Recover, view_of};
 ghost use Rattle.recovery.specs.Recovered.{seen_in};
@@ -20,7 +21,7 @@ ghost use Rattle.std.specs.List.{AllByRecursion};
 ghost use Rattle.commit_journal.specs.LastChangePerHive.{HasCounted};
 ghost use Rattle.engine.specs.Shown.{engine_view};
 ghost use Rattle.engine.specs.Work.{AreFlushed, IsNextAround, IsReadable};
-ghost use Rattle.transactions.specs.Prepared.{Predicts, AcceptsJust, may_accept, change_and_trees};
+ghost use Rattle.transactions.specs.Prepared.{Predicts, AcceptsJust, change_and_trees};
 ghost use Rattle.std.specs.Option.{option_map};
 
 use crate::parts::Parts;
@@ -274,6 +275,15 @@ impl<D: Disk> Engine<D> {
         engine_invariant::laws::crashes_leave_prefixes();
         engine_invariant::laws::quiet_ends_recover();
         hive_flush::laws::reads_are_honest();
+        // what the type keeps is known once a field is read
+        let _ = self.parts.store.durable(); // for the prover
+    }
+
+    /// A law: what was there at the opening is durable, nothing is durable that wasn't accepted, and numbers, changes,
+    /// sessions and transactions stay within their limits.
+    pub fn stays_within(&self)
+        ensures { IsWithin self.now.machine }
+    {
         // what the type keeps is known once a field is read
         let _ = self.parts.store.durable(); // for the prover
     }

@@ -3,9 +3,9 @@ ghost use Rattle.std.specs.Prelude.{◌≡◌, ◌↔◌, ◌-◌, ◌<◌, ◌�
 ghost use Rattle.refusals.specs.declared.refusal.Refusal.TheVariants.{Faulted, NoMemory};
 ghost use Rattle.crash_model.specs.Promises.{top};
 ghost use Rattle.store_model.specs.Machine.{last_number, pending};
-ghost use Rattle.store_model.specs.Steps.{Step, is_not_step};
+ghost use Rattle.store_model.specs.Steps.{Step, is_not_step, may_accept};
 ghost use Rattle.store_model.specs.declared.event.Reply.TheVariants as reply;
-ghost use Rattle.transactions.specs.Prepared.{Predicts, IsPrepared, AcceptsJust, may_accept, change_to_accept};
+ghost use Rattle.transactions.specs.Prepared.{Predicts, IsPrepared, AcceptsJust, change_to_accept};
 ghost use Rattle.commit_journal.specs.Journals.{changes_of, choice_of};
 ghost use Rattle.hive_flush.specs.HiveStates.{file_choice};
 ghost use Rattle.disk_model.specs.declared.progress.Progress.TheVariants as Progress;

@@ -1,3 +1,4 @@
+pub mod Accepting
 pub mod Replies
 pub mod TransactionChanges
 pub mod Handles

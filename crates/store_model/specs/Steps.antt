@@ -152,6 +152,12 @@ is_step _ = false
 abbrev pub is_not_step : Event → Bool
 is_not_step event = not (is_step event)
 
+-- whether an event may accept a change: a write by itself, or a commit
+abbrev pub may_accept : Event → Bool
+may_accept (event.Write session moment op) = true
+may_accept (event.CommitAccept session tx moment) = true
+may_accept _ = false
+
 -- From old, the machine may give this answer to the event and go on to new.
 abbrev pub Step : Machine → Event → Reply → Machine → Type 0
 -- sessions open and end

@@ -6,14 +6,14 @@ ghost use Rattle.std.specs.Prelude.{◌≡◌, ◌≤◌, ◌⊎◌, ℕ, true, 
 ghost use Rattle.std.specs.List.Sorted.{IsStrictlySortedBy};
 ghost use Rattle.std.specs.Ordering.{nat_cmp};
 ghost use Rattle.refusals.specs.declared.limits.TheConstants.{GREATEST_NUMBER, MOST_JOURNAL_BYTES};
-ghost use Rattle.refusals.specs.declared.refusal.Refusal.TheVariants.{DiskFault};
+ghost use Rattle.refusals.specs.declared.refusal.Refusal.TheVariants.{DiskFault, NoMemory};
 ghost use Rattle.reg_tree.specs.Maps.{TreeMap};
 ghost use Rattle.reg_tree.specs.declared.element.Element.{Element};
 ghost use Rattle.reg_tree.specs.Judgement.{any_outweighs};
 ghost use Rattle.reg_tree.specs.Sequences.{AreTrees, AreLegal};
 ghost use Rattle.store_model.specs.Transactions.{Transaction, own};
 ghost use Rattle.store_model.specs.Machine.{Machine, committed, opened_machine, trees_now, found_in};
-ghost use Rattle.store_model.specs.Steps.{Step, Run, is_not_step, is_step};
+ghost use Rattle.store_model.specs.Steps.{Step, Run, is_not_step, is_step, may_accept};
 ghost use Rattle.store_model.specs.Invariant.{InvariantHolds, IsActiveAt, AreLegalButForWeight, AreLegalChanges, IsCounted, IsGone, JournalStateStays, AcceptsOneChange, handle_in, numbers_given};
 ghost use Rattle.store_model.specs.declared.bounds.StoreBounds.{StoreBounds};
 ghost use Rattle.store_model.specs.declared.handle.Tx.{Tx};
@@ -72,6 +72,24 @@ pub fn only_steps_make_durable()
 {
     commits_stay_legal();
 }
+
+/// What was there at the opening stays, and what is durable stays durable.
+pub fn openings_stay()
+    ensures { (old new : Machine) (event : Event) (reply : Reply) → Step old event reply new →
+        (new.opened ≡ old.opened) × (new.before ≡ old.before) × (old.durable ≤ new.durable) }
+{}
+
+/// Only a write by itself and a commit accept a change.
+pub fn others_accept_nothing()
+    ensures { (old new : Machine) (event : Event) (reply : Reply) → may_accept event ≡ false →
+        Step old event reply new → new.accepted ≡ old.accepted }
+{}
+
+/// A refusal for want of memory changes nothing.
+pub fn no_memory_changes_nothing()
+    ensures { (old new : Machine) (event : Event) →
+        Step old event (reply.Refused NoMemory) new → new ≡ old }
+{}
 
 /// At a commit no operation is illegal but for weight: others may have changed the trees since it was written, but
 /// nothing that its claim guards.

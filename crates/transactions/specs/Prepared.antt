@@ -13,7 +13,7 @@ use Rattle.reg_tree.specs.declared.op.Legality.TheVariants.{Legal}
 use Rattle.conflicts.specs.Claims.{claim_of}
 use Rattle.store_model.specs.Transactions.{Transaction, at, own, inactive_refusal}
 use Rattle.store_model.specs.Machine.{Machine, change, committed, commit_change, commit_refusal_if, fault, first_of, found_in, is_open, unnamed_refusal, room_of, room_refusal, trees_now, last_number, write_refusal}
-use Rattle.store_model.specs.Steps.{Step}
+use Rattle.store_model.specs.Steps.{Step, may_accept}
 use Rattle.store_model.specs.declared.event.Event.{Event}
 use Rattle.store_model.specs.declared.event.Event.TheVariants as event
 use Rattle.store_model.specs.declared.event.Reply.TheVariants as reply
@@ -29,12 +29,6 @@ use Rattle.transactions.specs.declared.prepared.Ready.{Ready}
 use Rattle.transactions.specs.declared.prepared.Ready.TheVariants as ready
 use Rattle.transactions.specs.declared.prepared.Next.{Next}
 use Rattle.transactions.specs.declared.prepared.Prepared.{Prepared}
-
--- whether an event may accept a change: a write by itself, or a commit
-abbrev pub may_accept : Event → Bool
-may_accept (event.Write session moment op) = true
-may_accept (event.CommitAccept session tx moment) = true
-may_accept _ = false
 
 -- An operation may be accepted by itself, and leads to this: the trees then, the transactions that are rolled back, the
 -- room.

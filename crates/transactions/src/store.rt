@@ -4,12 +4,12 @@ ghost use Rattle.std.specs.Prelude.{◌≡◌, ◌<◌, ◌≤◌, ◌+◌, ◌-
 ghost use Rattle.std.specs.List.{AllByRecursion, list_any};
 ghost use Rattle.refusals.specs.declared.refusal.Refusal.TheVariants.{NoMemory, NoSuchHandle};
 ghost use Rattle.store_model.specs.declared.event.Reply.TheVariants as reply;
-ghost use Rattle.store_model.specs.Steps.{Step, is_not_step};
+ghost use Rattle.store_model.specs.Steps.{Step, is_not_step, may_accept};
 ghost use Rattle.store_model.specs.Machine.{bounds_of, opened_machine, last_number, fault, trees_now, is_open, room_refusal, unnamed_refusal, tx_call_refusal};
 ghost use Rattle.store_model.specs.Transactions.{own, inactive_refusal};
 ghost use Rattle.transactions.specs.Histories.{IsShort};
 ghost use Rattle.transactions.specs.Stores.{Answers, needs_device};
-ghost use Rattle.transactions.specs.Prepared.{Predicts, IsPrepared, IsReady, IsReadyCommit, IsReadyNothing, IsReadyWrite, JudgesWrite, PreparesEvent, PreparesWrite, AcceptsJust, may_accept, change_of_ready, change_to_accept};
+ghost use Rattle.transactions.specs.Prepared.{Predicts, IsPrepared, IsReady, IsReadyCommit, IsReadyNothing, IsReadyWrite, JudgesWrite, PreparesEvent, PreparesWrite, AcceptsJust, change_of_ready, change_to_accept};
 
 use crate::history::ChangeHistory;
 use crate::prepared::{JudgedWrite, Prepared, Ready, ReadyCommit, ReadyWrite};

@@ -1,0 +1,5 @@
+use Rattle.store_model.proofs.Accepting.{others_accept_nothing}
+use Rattle.store_model.proofs.laws.others_accept_nothing.Goals as goal
+
+pub returns : goal.returns
+returns c old new = others_accept_nothing old new
