@@ -12,28 +12,29 @@ use Rattle.store_model.specs.declared.event.Reply.{Reply}
 use Rattle.store_model.specs.declared.event.Reply.TheVariants as reply
 use Rattle.store_model.proofs.Replies.{done_or, read_or, accepted_or, added_or, begun_or, awaits_or, outcome_or, receipt_or, stepped_or}
 
--- the trees and the number of the opening are as before, and no durable number falls
+-- the trees, the number and the bounds of the opening are as before, and no durable number falls
 abbrev Stays : Machine → Machine → Type 0
-Stays old new = (new.opened ≡ old.opened) × (new.before ≡ old.before) × (old.durable ≤ new.durable)
+Stays old new = (new.opened ≡ old.opened) × (new.before ≡ old.before) × (new.bounds ≡ old.bounds) × (old.durable ≤ new.durable)
 
 abbrev AcceptsNothing : Machine → Machine → Type 0
 AcceptsNothing old new = new.accepted ≡ old.accepted
 
 module _ (old new : Machine) where
   -- a state in between has the opening, and what is durable, of the old one
-  by_mid : (mid : Machine) → mid.opened ≡ old.opened → mid.before ≡ old.before → mid.durable ≡ old.durable → new ≡ mid → Stays old new
-  by_mid mid trees number durable e = (
+  by_mid : (mid : Machine) → mid.opened ≡ old.opened → mid.before ≡ old.before → mid.bounds ≡ old.bounds → mid.durable ≡ old.durable → new ≡ mid → Stays old new
+  by_mid mid trees number bounds durable e = (
     ap (λ (m : Machine). m.opened) e ∙ trees,
     ap (λ (m : Machine). m.before) e ∙ number,
+    ap (λ (m : Machine). m.bounds) e ∙ bounds,
     subst (λ (n : ℕ). old.durable ≤ n) (sym (ap (λ (m : Machine). m.durable) e ∙ durable)) (le_refl old.durable),
   )
 
   same : new ≡ old → Stays old new
-  same e = by_mid old refl refl refl e
+  same e = by_mid old refl refl refl refl e
 
-  either_way : (t : Bool) (mid : Machine) → mid.opened ≡ old.opened → mid.before ≡ old.before → mid.durable ≡ old.durable → new ≡ cond t old mid → Stays old new
-  either_way true mid trees number durable e = same e
-  either_way false mid trees number durable e = by_mid mid trees number durable e
+  either_way : (t : Bool) (mid : Machine) → mid.opened ≡ old.opened → mid.before ≡ old.before → mid.bounds ≡ old.bounds → mid.durable ≡ old.durable → new ≡ cond t old mid → Stays old new
+  either_way true mid trees number bounds durable e = same e
+  either_way false mid trees number bounds durable e = by_mid mid trees number bounds durable e
 
   -- a commit accepts a change or none, and its transaction's slot changes
   opening : (t : Bool) (mid : Machine) → mid.opened ≡ old.opened → (cond t old mid).opened ≡ old.opened
@@ -44,34 +45,38 @@ module _ (old new : Machine) where
   number true mid e = refl
   number false mid e = e
 
+  bounded : (t : Bool) (mid : Machine) → mid.bounds ≡ old.bounds → (cond t old mid).bounds ≡ old.bounds
+  bounded true mid e = refl
+  bounded false mid e = e
+
   lasting : (t : Bool) (mid : Machine) → mid.durable ≡ old.durable → (cond t old mid).durable ≡ old.durable
   lasting true mid e = refl
   lasting false mid e = e
 
   committed : (moment : ℕ) (one : Transaction) → new ≡ record (after_commit old moment one) { tx_slots = new.tx_slots } → Stays old new
-  committed moment one e = by_mid _ (opening (length one.ops == 0) _ refl) (number (length one.ops == 0) _ refl) (lasting (length one.ops == 0) _ refl) e
+  committed moment one e = by_mid _ (opening (length one.ops == 0) _ refl) (number (length one.ops == 0) _ refl) (bounded (length one.ops == 0) _ refl) (lasting (length one.ops == 0) _ refl) e
 
   fails : (wanted : Option Refusal) (why : Refusal) → StepFails old wanted why new → Stays old new
   fails wanted why (inl refused) = same refused.1
-  fails wanted why (inr broke) = by_mid _ refl refl refl broke.1.next
+  fails wanted why (inr broke) = by_mid _ refl refl refl refl broke.1.next
 
-  pub openings_stay : (e : Event) (r : Reply) → Step old e r new → (new.opened ≡ old.opened) × (new.before ≡ old.before) × (old.durable ≤ new.durable)
-  openings_stay (event.StartSession session) r s = done_or (λ r. Stays old new) _ _ r s (λ d. either_way (is_open old session) _ refl refl refl d.1) (λ why f. same f.1)
-  openings_stay (event.EndSession session) r s = done_or (λ r. Stays old new) _ _ r s (λ d. by_mid _ refl refl refl d.next) (λ why f. same f.1)
+  pub openings_stay : (e : Event) (r : Reply) → Step old e r new → (new.opened ≡ old.opened) × (new.before ≡ old.before) × (new.bounds ≡ old.bounds) × (old.durable ≤ new.durable)
+  openings_stay (event.StartSession session) r s = done_or (λ r. Stays old new) _ _ r s (λ d. either_way (is_open old session) _ refl refl refl refl d.1) (λ why f. same f.1)
+  openings_stay (event.EndSession session) r s = done_or (λ r. Stays old new) _ _ r s (λ d. by_mid _ refl refl refl refl d.next) (λ why f. same f.1)
   openings_stay (event.Read session hive path question) r s = read_or (λ r. Stays old new) _ _ r s (λ v d. same d.next) (λ why f. same f.1)
-  openings_stay (event.Write session moment op) r s = accepted_or (λ r. Stays old new) _ _ _ r s (λ l n d. by_mid _ refl refl refl d.next) (λ o. same o.next) (λ why f. same f.1)
-  openings_stay (event.Begin session id) r s = begun_or (λ r. Stays old new) _ _ r s (λ t d. by_mid _ refl refl refl d.next) (λ why f. same f.1)
+  openings_stay (event.Write session moment op) r s = accepted_or (λ r. Stays old new) _ _ _ r s (λ l n d. by_mid _ refl refl refl refl d.next) (λ o. same o.next) (λ why f. same f.1)
+  openings_stay (event.Begin session id) r s = begun_or (λ r. Stays old new) _ _ r s (λ t d. by_mid _ refl refl refl refl d.next) (λ why f. same f.1)
   openings_stay (event.TxRead session tx hive path question) r s = read_or (λ r. Stays old new) _ _ r s (λ v d. same d.next) (λ why f. same f.1)
-  openings_stay (event.TxWrite session tx moment op) r s = added_or (λ r. Stays old new) _ _ _ r s (λ l d. by_mid _ refl refl refl d.1.1) (λ o. same o.2) (λ why f. same f.1)
+  openings_stay (event.TxWrite session tx moment op) r s = added_or (λ r. Stays old new) _ _ _ r s (λ l d. by_mid _ refl refl refl refl d.1.1) (λ o. same o.2) (λ why f. same f.1)
   openings_stay (event.CommitAccept session tx moment) r s = awaits_or (λ r. Stays old new) _ _ r s (λ n d. committed moment d.one d.next) (λ why f. same f.1)
-  openings_stay (event.Rollback session tx) r s = done_or (λ r. Stays old new) _ _ r s (λ d. by_mid _ refl refl refl d.1) (λ why f. same f.1)
-  openings_stay (event.Close session tx) r s = done_or (λ r. Stays old new) _ _ r s (λ d. by_mid _ refl refl refl d.1) (λ why f. same f.1)
+  openings_stay (event.Rollback session tx) r s = done_or (λ r. Stays old new) _ _ r s (λ d. by_mid _ refl refl refl refl d.1) (λ why f. same f.1)
+  openings_stay (event.Close session tx) r s = done_or (λ r. Stays old new) _ _ r s (λ d. by_mid _ refl refl refl refl d.1) (λ why f. same f.1)
   openings_stay (event.Outcome session tx) r s = outcome_or (λ r. Stays old new) _ _ r s (λ o d. same d.next) (λ why f. same f.1)
   openings_stay event.FlushAsk r s = awaits_or (λ r. Stays old new) _ _ r s (λ n d. same d.2) (λ why f. same f.1)
   openings_stay (event.Acked number) r s = receipt_or (λ r. Stays old new) _ _ _ r s (λ n d. same d.2) (λ w. same w.2) (λ why f. same f.1.1)
-  openings_stay event.JournalStep r s = stepped_or (λ r. Stays old new) _ _ r s (λ p d. (ap (λ (m : Machine). m.opened) d.next, ap (λ (m : Machine). m.before) d.next, d.grows)) (λ why f. fails _ why f)
+  openings_stay event.JournalStep r s = stepped_or (λ r. Stays old new) _ _ r s (λ p d. (ap (λ (m : Machine). m.opened) d.next, ap (λ (m : Machine). m.before) d.next, ap (λ (m : Machine). m.bounds) d.next, d.grows)) (λ why f. fails _ why f)
   openings_stay (event.FlusherStep hive) r s = stepped_or (λ r. Stays old new) _ _ r s (λ p d. same d.next) (λ why f. fails _ why f)
-  openings_stay event.TrimStep r s = stepped_or (λ r. Stays old new) _ _ r s (λ p d. by_mid _ refl refl refl d.next) (λ why f. fails _ why f)
+  openings_stay event.TrimStep r s = stepped_or (λ r. Stays old new) _ _ r s (λ p d. by_mid _ refl refl refl refl d.next) (λ why f. fails _ why f)
 
   quiet : new ≡ old → AcceptsNothing old new
   quiet e = ap (λ (m : Machine). m.accepted) e

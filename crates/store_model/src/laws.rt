@@ -73,10 +73,11 @@ pub fn only_steps_make_durable()
     commits_stay_legal();
 }
 
-/// What was there at the opening stays, and what is durable stays durable.
+/// The trees, the number and the bounds of the opening stay, and what is durable stays durable.
 pub fn openings_stay()
     ensures { (old new : Machine) (event : Event) (reply : Reply) → Step old event reply new →
-        (new.opened ≡ old.opened) × (new.before ≡ old.before) × (old.durable ≤ new.durable) }
+        (new.opened ≡ old.opened) × (new.before ≡ old.before) × (new.bounds ≡ old.bounds)
+        × (old.durable ≤ new.durable) }
 {}
 
 /// Only a write by itself and a commit accept a change.
