@@ -2,7 +2,10 @@
 
 A case is a title, the file's bytes, and the texts of which one is printed; the status is 0 where that begins with `hive`.
 """
+import functools
+import operator
 import os
+import struct
 from dataclasses import dataclass
 
 from maker import NONE, SEGMENT, Key, Value, head, hive, mended, u16, u32, u64
@@ -44,6 +47,26 @@ def patched(file, at, some):
     return file[:at] + some + file[at + len(some):]
 
 
+def number(file, at):
+    """The number of four bytes at an offset of the bins data."""
+    return int.from_bytes(file[4_096 + at:4_100 + at], "little")
+
+
+def offsets(file, key):
+    """Where the elements of the list of a key's subkeys begin, less the bytes of the cell's size, in the bins data."""
+    return number(file, key + 4 + 28) + 4
+
+
+def values_of(file, key):
+    """Where the offsets of a key's values begin, in the bins data."""
+    return number(file, key + 4 + 40) + 4
+
+
+def value_of(file, key, index=0):
+    """Where the record of one of a key's values begins, in the bins data."""
+    return number(file, values_of(file, key) + 4 * index) + 4
+
+
 def names_and_order():
     yield case("the root alone", Key("ROOT"), "key 0: 0")
     yield case("the root's own name is no part of a path, whatever it is", Key(""), "key 0: 0")
@@ -55,6 +78,8 @@ def names_and_order():
         yield case(f"keys come in the order of folded names, whatever that of the list {leaf.decode()}", tree, *wanted)
     tree.many = 2
     yield case("and of a list of lists", tree, *wanted)
+    tree.leaf, tree.many = b"lilflh", 1
+    yield case("whose lists are one of each kind", tree, *wanted)
     yield case("a beginning comes first, its subkeys before the next name",
                Key("r", 0, [Key("ab"), Key("a", 0, [Key("z")]), Key("a ")]),
                "key 0: 0", "key 0:a 0", "key 0:a\\z 0", "key 0:a%0020 0", "key 0:ab 0")
@@ -114,20 +139,71 @@ def files():
     yield refused("bins data of the limit that aren't there", head(32, 67_108_864) + bins, damaged("Truncated"))
 
 
-def cells():
+def spelled_block(primary, total):
+    """A block spelled out: primary sequence number and sum are given, the root is at 32, and the bins data are one bin."""
+    fields = bytes.fromhex("72656766" + primary + "01000000 0000000000000000 01000000 05000000 00000000 01000000 20000000 00100000 01000000")
+    return fields + bytes(508 - len(fields)) + bytes.fromhex(total) + bytes(4_096 - 512)
+
+
+def with_xor(file, xor, total):
+    """The file with another word at 112, which nobody reads, so that the XOR of 127 words is this; and with this sum."""
+    words = struct.unpack("<127I", file[:112] + bytes(4) + file[116:508])
+    return file[:112] + u32(xor ^ functools.reduce(operator.xor, words)) + file[116:508] + u32(total) + file[512:]
+
+
+def sums():
+    file, _ = hive(Key("r", 9))
+    text = lines("key 0: 9")
+    # XOR of `regf` 0x66676572, 1, 1, 1, 5, 1, 0x20, 0x1000 and 1; then 2 in place of the first 1
+    yield Case("a block spelled out", spelled_block("01000000", "56756766") + file[4_096:], [text])
+    yield refused("so with two numbers that differ", spelled_block("02000000", "55756766") + file[4_096:], damaged("NotClean"))
+    for xor, total, other in ((0, 1, 0), (1, 1, 0), (NONE, NONE - 1, NONE), (NONE - 1, NONE - 1, NONE), (0x7fff_fffe, 0x7fff_fffe, 1)):
+        yield Case(f"a sum of words whose XOR is {xor:#x}", with_xor(file, xor, total), [text])
+        yield refused(f"and another sum of them, {other:#x}", with_xor(file, xor, other), damaged("NotClean"))
+    yield refused("a byte that nobody reads, without its sum", file[:300] + b"\1" + file[301:], damaged("NotClean"))
+
+
+def tiles():
+    """Bins and cells that do or do not fill the data: of one bin, with allocated cells and behind them a free one; and of two."""
+    tree = Key("r", 9, [], [Value("v", 3, b"five!")])
+    file, places = hive(tree)
+    free = places["r"] + 88
+    left = number(file, free)
+    for title, at, some, cause in [
+            ("a bin's signature", 0, b"hbim", "BadBin"), ("a bin's own offset", 4, u32(4_096), "BadBin"),
+            ("a bin of size 0", 8, u32(0), "BadBin"), ("a bin past the data", 8, u32(8_192), "BadBin"),
+            ("a bin of 4,097 bytes", 8, u32(4_097), "BadBin"), ("a bin of 4,104 bytes", 8, u32(4_104), "BadBin"),
+            ("a cell of size 0", 32, u32(0), "BadCell"), ("a cell of 84 bytes", 32, u32(2 ** 32 - 84), "BadCell"),
+            ("a cell past its bin", 32, u32(2 ** 32 - 8_192), "BadCell"), ("a cell of the least number", 32, u32(1 << 31), "BadCell"),
+            ("a free cell of size 0", free, u32(0), "BadCell"), ("a free cell of 4 bytes", free, u32(4), "BadCell"),
+            ("a free cell of 12 bytes", free, u32(12), "BadCell"), ("a free cell of the least number", free, u32(1 << 31), "BadCell"),
+            ("a free cell past its bin", free, u32(left + 8), "BadCell"), ("zeros behind a free cell", free, u32(left - 8), "BadCell")]:
+        yield refused(title, patched(file, at, some), damaged(cause))
+    for before in (4_096, 8_192):
+        file, _ = hive(tree, before)
+        yield Case(f"a free bin of {before} bytes before the root's", file, [lines("key 0: 9", "val v 3 " + b"five!".hex())])
+        yield refused("the own offset of a second bin", patched(file, before + 4, u32(0)), damaged("BadBin"))
+        yield refused("a cell that reaches into a second bin", patched(file, 32, u32(before)), damaged("BadCell"))
+
+
+def roots():
+    """Offsets of the root at which no allocated cell begins."""
     file, places = hive(Key("r", 0, [Key("a"), Key("b")]))
     root = places["r"]
-    yield refused("a bin's signature", patched(file, 0, b"hbim"), damaged("BadBin"))
-    yield refused("a bin's own offset", patched(file, 4, u32(4_096)), damaged("BadBin"))
-    yield refused("a bin's size past the data", patched(file, 8, u32(8_192)), damaged("BadBin"))
-    yield refused("a bin's size of no page", patched(file, 8, u32(4_097)), damaged("BadBin"))
-    yield refused("a cell's size of no multiple of 8", patched(file, 32, u32(2 ** 32 - 84)), damaged("BadCell"))
-    yield refused("a cell's size of 0", patched(file, 32, u32(0)), damaged("BadCell"))
-    yield refused("a cell past its bin", patched(file, 32, u32(2 ** 32 - 8_192)), damaged("BadCell"))
-    for at in (0, 4, 33, root + 8, 4_096, NONE):
+    for at in (0, 4, 33, root + 4, root + 8, 4_096, NONE):
         yield refused(f"a root at {at}", head(at, 4_096) + file[4_096:], damaged("BadOffset"))
-    size = int.from_bytes(file[4_096 + root:4_100 + root], "little", signed=True)
-    yield refused("a root in a free cell", patched(file, root, u32(-size)), damaged("BadOffset"))
+    yield refused("a root in a free cell", patched(file, root, u32(2 ** 32 - number(file, root))), damaged("BadOffset"))
+    # the first cell's data, from their fifth byte on, are a whole cell of a key
+    inner = u32(2 ** 32 - 88) + b"nk" + u16(0x20) + bytes(40) + u32(NONE) + bytes(36)
+    file, _ = hive(Key("r", 0, [], [Value("v", 3, bytes(4) + inner)]))
+    for at, cause in ((32, "BadRecord"), (36, "BadOffset"), (40, "BadOffset"), (44, "BadOffset")):
+        yield refused(f"a root at {at}, in or before a cell within a cell", head(at, 4_096) + file[4_096:], damaged(cause))
+
+
+def keys():
+    """Keys and lists that name what they may not."""
+    file, places = hive(Key("r", 0, [Key("a"), Key("b")]))
+    root = places["r"]
     yield refused("a root that is no key node", patched(file, root + 4, b"nx"), damaged("BadRecord"))
     yield refused("a key's name past its cell", patched(file, root + 4 + 72, u16(60_000)), damaged("BadRecord"))
     yield refused("a subkey that is the root", patched(file, offsets(file, root) + 4, u32(root)), damaged("Shared"))
@@ -137,28 +213,110 @@ def cells():
     yield refused("a security cell that is none", patched(file, root + 4 + 44, u32(places["a"])), damaged("BadRecord"), damaged("Shared"))
 
 
-def offsets(file, at):
-    """Where the elements of the list of a key's subkeys begin, less the bytes of the cell's size, in the bins data."""
-    return int.from_bytes(file[4_096 + at + 4 + 28:4_096 + at + 4 + 32], "little") + 4
+def key_nodes():
+    """Each rule of a key's record broken once."""
+    file, places = hive(Key("r", 0, [Key("abcdefgh", 7)]))
+    key = places["abcdefgh"] + 4
+    yield Case("a key's name up to the end of its cell", file, [lines("key 0: 0", "key 0:abcdefgh 7")])
+    yield refused("a key's name one past its cell", patched(file, key + 72, u16(9)), damaged("BadRecord"))
+    for letters in (b"nl", b"kn", b"lk"):
+        yield refused(f"a subkey with the letters {letters.decode()}", patched(file, key, letters), damaged("BadRecord"))
+    yield refused("a handle in place of a subkey", patched(file, key + 2, u16(0x6c)), UNSUPPORTED)
+    yield refused("half a unit", patched(patched(file, key + 2, u16(0)), key + 72, u16(7)), damaged("BadName"))
+    yield refused("a backslash of one byte", patched(file, key + 83, b"\\"), damaged("BadName"))
+    yield refused("a backslash of two bytes", hive(Key("r", 0, [Key("\u4e2d\\")]))[0], damaged("BadName"))
+    # the data of the first cell are the root's record, as far as they go
+    record = b"nk" + bytes(42) + u32(NONE) + bytes(28)
+    for size in (12, 60, 68, 76):
+        file, _ = hive(Key("r", 0, [], [Value("v", 3, record[:size])]))
+        file = head(32, 4_096) + file[4_096:]
+        yield (Case("a root without a name in the least cell", file, [lines("key 0: 0")]) if size == 76
+               else refused(f"a root in a cell of {size + 4} bytes", file, damaged("BadRecord")))
+
+
+def securities():
+    """Each rule of a security record broken once, and cells that are reached twice."""
+    tree = Key("r", 0, [Key("a", 1, [], [Value("v", 3, b"five!")])], [], 0, b"sixteen bytes...")
+    file, places = hive(tree)
+    root, its = places["r"] + 4, value_of(file, places["a"])
+    cell = number(file, root + 44)
+    yield refused("the letters of a security record", patched(file, cell + 4, b"sl"), damaged("BadRecord"))
+    for size in (17, 1 << 31, NONE):
+        yield refused(f"a descriptor of {size} bytes in a cell for 16", patched(file, cell + 4 + 16, u32(size)), damaged("BadRecord"))
+    yield refused("a security record that is a subkey's data", patched(file, its + 8, u32(cell)), damaged("Shared"))
+    file, places = hive(Key("r", 0, [], tree.keys[0].values, 0, b"sixteen bytes..."))
+    cell, its = number(file, places["r"] + 4 + 44), value_of(file, places["r"])
+    yield refused("a security record that is its own key's data", patched(file, its + 8, u32(cell)), damaged("Shared"))
+    file, places = hive(Key("r", 0, [], [Value("v", 3, b"five!"), Value("w", 3, b"fives")]))
+    first, second = value_of(file, places["r"]), value_of(file, places["r"], 1)
+    yield refused("two values with one cell of data", patched(file, second + 8, u32(number(file, first + 8))), damaged("Shared"))
+
+
+def value_records():
+    """Each rule of a value's record broken once."""
+    file, places = hive(Key("r", 0, [], [Value("abcdefgh", 4, b"wxyz")]))
+    value = value_of(file, places["r"])
+    yield Case("a value's name up to the end of its cell", file, [lines("key 0: 0", "val abcdefgh 4 7778797a")])
+    yield refused("a value's name one past its cell", patched(file, value + 2, u16(9)), damaged("BadRecord"))
+    yield refused("the letters of a value's record", patched(file, value, b"vl"), damaged("BadRecord"))
+    plain = patched(file, value + 16, u16(0))
+    yield refused("half a unit of a value's name", patched(plain, value + 2, u16(7)), damaged("BadName"))
+    yield refused("5 bytes of data in the record", patched(file, value + 4, u32(1 << 31 | 5)), damaged("BadRecord"))
+    for size in (0, 1, 2, 3):
+        text = lines("key 0: 0", f"val abcdefgh 4 {'7778797a'[:2 * size] or '-'}")
+        yield Case(f"{size} bytes of the four in the record", patched(file, value + 4, u32(1 << 31 | size)), [text])
+    record = b"vk" + u16(0) + u32(1 << 31, 0, 4) + u16(1, 0)
+    for size in (12, 20):
+        file, _ = hive(Key("r", 0, [], [Value("", record=record[:size])]))
+        yield (Case("a value without a name in the least cell", file, [lines("key 0: 0", "val @ 4 -")]) if size == 20
+               else refused(f"a value in a cell of {size + 4} bytes", file, damaged("BadRecord")))
+
+
+def big_data():
+    """Each rule of big data broken once: of one byte more than two segments have, and of one byte more than one."""
+    for size, segments in ((SEGMENT + 1, 2), (2 * SEGMENT, 2), (2 * SEGMENT + 1, 3)):
+        file, places = hive(Key("r", 0, [], [Value("v", 3, bytes(size))]))
+        value = value_of(file, places["r"])
+        record = number(file, value + 8) + 4
+        yield refused(f"the letters of big data of {size} bytes", patched(file, record, b"dc"), damaged("BadRecord"))
+        for count in (0, segments - 1, segments + 1):
+            yield refused(f"{count} segments of {size} bytes", patched(file, record + 2, u16(count)), damaged("BadRecord"))
+        other = segments * SEGMENT + 1
+        yield refused(f"{other} bytes in {segments} segments", patched(file, value + 4, u32(other)), damaged("BadRecord"))
 
 
 def lists():
     tree = Key("r", 0, [Key("a"), Key("b"), Key("c")], many=2)
     file, places = hive(tree)
-    bins = file[4_096:]
     first = offsets(file, places["r"])
     above = first - 4
-    leaf = int.from_bytes(bins[first + 4:first + 8], "little")
+    leaf = number(file, first + 4)
     yield refused("a list of lists in a list of lists", patched(file, leaf + 4, b"ri"), damaged("BadList"))
     yield refused("a list of lists that names itself", patched(file, first + 4, u32(above)), damaged("BadList"), damaged("Shared"))
     yield refused("a list that a list of lists names twice", patched(file, first + 8, u32(leaf)), damaged("Shared"))
     yield refused("a list of no kind", patched(file, leaf + 4, b"lx"), damaged("BadList"))
     yield refused("a list longer than its cell", patched(file, leaf + 6, u16(900)), damaged("BadList"))
+    yield from full_lists()
     for count in (2, 4):
         yield refused(f"three subkeys that are said to be {count}", patched(file, places["r"] + 4 + 20, u32(count)), damaged("BadList"))
     yield Case("no subkeys: the offset beside the 0 is unread", patched(file, places["r"] + 4 + 20, u32(0)), [lines("key 0: 0")])
     file, places = hive(Key("r", 0, [], [Value("v", 1, b"x")]))
     yield refused("a list of values longer than its cell", patched(file, places["r"] + 4 + 36, u32(900)), damaged("BadRecord"))
+
+
+def full_lists():
+    """Lists that fill their cells, and one element more of them, which the key counts too."""
+    for leaf, names in ((b"li", "ab"), (b"lf", "a"), (b"lf", "ab"), (b"lh", "a"), (b"lh", "ab")):
+        file, places = hive(Key("r", 0, [Key(name) for name in names], leaf=leaf))
+        title, count, cell = leaf.decode(), len(names), offsets(file, places["r"]) - 4
+        text = lines("key 0: 0", *(f"key 0:{name} 0" for name in names))
+        yield Case(f"{title} of {count}", file, [text])
+        longer = patched(patched(file, places["r"] + 4 + 20, u32(count + 1)), cell + 6, u16(count + 1))
+        yield refused(f"{title} of {count + 1} in a cell for {count}", longer, damaged("BadList"))
+        other = {b"li": b"lh", b"lf": b"lh", b"lh": b"lf"}[leaf]
+        changed = patched(file, cell + 4, other)
+        # an element of `li` has four bytes, and one of the others eight
+        yield Case(f"{title} as {other.decode()}", changed, [damaged("BadList") if leaf == b"li" else text])
 
 
 def bad_names():
@@ -212,7 +370,8 @@ def utf16(text):
 
 
 def all_cases():
-    for made in (names_and_order, values, files, cells, lists, bad_names, limits, examples):
+    for made in (names_and_order, values, files, sums, tiles, roots, keys, key_nodes, securities, value_records, big_data, lists,
+                 bad_names, limits, examples):
         yield from made()
 
 

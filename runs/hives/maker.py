@@ -48,16 +48,22 @@ class Key:
     flags: int = 0
     descriptor: bytes = b""
     class_bytes: bytes = b""
-    leaf: bytes = b"lh"      # the letters of its list of subkeys
+    leaf: bytes = b"lh"      # the letters of its list of subkeys; several are those of its leaves by turns
     many: int = 0            # so many subkeys a leaf, below an `ri`; 0 for one leaf
     patch: dict = field(default_factory=dict)    # bytes of its record by their offset
 
 
-class Cells:
-    """The cells of one bin, in the order in which they are put."""
+def free_bin(at, size):
+    """A bin at an offset with one free cell; or nothing."""
+    return b"hbin" + u32(at, size) + bytes(20) + u32(size - 32) + bytes(size - 36) if size else b""
 
-    def __init__(self):
-        self.bytes = bytearray(32)
+
+class Cells:
+    """The cells of one bin, in the order in which they are put. It lies behind a free bin of some size."""
+
+    def __init__(self, before=0):
+        self.before = before
+        self.bytes = bytearray(before + 32)
         self.places = {}
 
     def put(self, data, name=None):
@@ -73,12 +79,13 @@ class Cells:
         """Other data for a cell that is there, from their first byte on."""
         self.bytes[at + 4:at + 4 + len(data)] = data
 
-    def bins(self):
-        """The bin, filled up with one free cell to whole pages."""
-        size = (len(self.bytes) + 4_095) // 4_096 * 4_096
-        left = size - len(self.bytes)
+    def bins(self, least=0):
+        """The bins, the last one filled up with one free cell to whole pages, and to a least size of all."""
+        end = max((len(self.bytes) + 4_095) // 4_096 * 4_096, least)
+        left = end - len(self.bytes)
         rest = struct.pack("<i", left) + bytes(left - 4) if left else b""
-        return b"hbin" + u32(0, size) + bytes(20) + bytes(self.bytes[32:]) + rest
+        header = b"hbin" + u32(self.before, end - self.before) + bytes(20)
+        return free_bin(0, self.before) + header + bytes(self.bytes[self.before + 32:]) + rest
 
 
 def value_of(cells, value):
@@ -107,8 +114,9 @@ def list_of(cells, key, offsets):
     """The cell of a key's list of subkeys."""
     if not key.many:
         return leaf_of(cells, key.leaf, offsets)
-    leaves = [leaf_of(cells, key.leaf, offsets[at:at + key.many]) for at in range(0, len(offsets), key.many)]
-    return leaf_of(cells, b"ri", leaves)
+    kinds = [key.leaf[at:at + 2] for at in range(0, len(key.leaf), 2)]
+    parts = [offsets[at:at + key.many] for at in range(0, len(offsets), key.many)]
+    return leaf_of(cells, b"ri", [leaf_of(cells, kinds[number % len(kinds)], part) for number, part in enumerate(parts)])
 
 
 def key_of(cells, key, securities):
@@ -135,11 +143,22 @@ def key_of(cells, key, securities):
 
 def head(root, size, **other):
     """The first 4,096 bytes of a primary file; other fields by their names."""
-    fields = {"signature": b"regf", "primary": 1, "secondary": 1, "major": 1, "minor": 5, "kind": 0, "format": 1}
+    fields = {"signature": b"regf", "primary": 1, "secondary": 1, "written": 0, "major": 1, "minor": 5, "kind": 0, "format": 1,
+              "store": bytes(16), "applied": 0}
     fields.update(other)
-    text = (fields["signature"] + u32(fields["primary"], fields["secondary"]) + bytes(8)
-            + u32(fields["major"], fields["minor"], fields["kind"], fields["format"], root, size, 1))
+    text = (fields["signature"] + u32(fields["primary"], fields["secondary"]) + u64(fields["written"])
+            + u32(fields["major"], fields["minor"], fields["kind"], fields["format"], root, size, 1)
+            + bytes(128) + fields["store"] + u64(fields["applied"]))
     return mended(text + bytes(4_096 - len(text)))
+
+
+def log(root, bins, pages, **other):
+    """The log of bins data of which some pages, by their numbers, are dirty; other fields of its block by their names."""
+    marks = bytearray(len(bins) // 4_096)
+    for page in pages:
+        marks[page // 8] |= 1 << page % 8
+    front = head(root, len(bins), **{"kind": 1, **other})[:512] + b"DIRT" + marks
+    return front + bytes(-len(front) % 512) + b"".join(bins[512 * page:512 * page + 512] for page in sorted(pages))
 
 
 def mended(file):
@@ -150,9 +169,10 @@ def mended(file):
     return file[:508] + u32({0: 1, NONE: NONE - 1}.get(total, total)) + file[512:]
 
 
-def hive(root, **other):
-    """The primary file of a tree, and the offsets of its keys' cells by their names."""
-    cells = Cells()
+def hive(root, before=0, least=0, **other):
+    """The primary file of a tree, and the offsets of its keys' cells by their names. Its bin lies behind a free one of some
+    size, and the bins data have at least some size."""
+    cells = Cells(before)
     at = key_of(cells, root, {})
-    bins = cells.bins()
+    bins = cells.bins(least)
     return head(at, len(bins), **other) + bins, cells.places
