@@ -1,4 +1,4 @@
-//! Tests of bins and cells, with bytes written out by hand from the format's description.
+//! A test of bins and cells, with expected answers worked by hand from the format's description.
 #![tactic(auto)]
 
 #[cfg(test)]
