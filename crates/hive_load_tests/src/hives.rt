@@ -113,18 +113,11 @@ fn put_cells(bytes: &mut Vec<u8>, at: usize, stride: usize, cells: &[usize]) {
     }
 }
 
-/// A list of subkeys.
-pub fn put_list(bytes: &mut Vec<u8>, cell: usize, letters: &[u8], stride: usize, cells: &[usize]) {
+fn put_list(bytes: &mut Vec<u8>, cell: usize, letters: &[u8], stride: usize, cells: &[usize]) {
     let at = place(cell).saturating_add(4);
     put(bytes, at, letters);
     put_u16(bytes, at.saturating_add(2), cells.len());
     put_cells(bytes, at.saturating_add(4), stride, cells);
-}
-
-/// A key without values and security cell.
-pub fn put_plain_key(bytes: &mut Vec<u8>, cell: usize, name: &[u8], count: u32, list: usize) {
-    let at = place(cell).saturating_add(4);
-    put_key(bytes, at, name, (count, list), (0, NIL), NIL);
 }
 
 fn put_value(bytes: &mut Vec<u8>, at: usize, name: &[u8], size: u32) {

@@ -1,14 +1,8 @@
-//! Tests of loading: hives written by hand from the format's description, the trees that they encode, and what is wrong
-//! with those that encode none.
+//! Hives written by hand from the format's description, the texts of their trees, and a test of how many cells are
+//! looked at.
 #![tactic(auto)]
 
-#[cfg(test)]
-mod damaged;
-#[cfg(test)]
-mod deep;
 pub mod hives;
 pub mod listings;
 #[cfg(test)]
-mod spoiled;
-#[cfg(test)]
-mod whole;
+mod looping;

@@ -55,24 +55,11 @@ fn put_node(text: &mut Vec<u8>, node: &Node, levels: usize) -> Result<(), AllocE
     Ok(())
 }
 
-/// The text of the tree that bytes encode from an offset on, or why they encode none.
-pub fn listed_from(alloc: Global, bytes: Vec<u8>, root: u32) -> Result<Vec<u8>, Refusal> {
+/// The text of the tree that bytes encode, from the first cell on, or why they encode none.
+pub fn listed(alloc: Global, bytes: Vec<u8>) -> Result<Vec<u8>, Refusal> {
     let image = Image::open(alloc, bytes)?;
-    let tree = load(alloc, &image, root, 5, &mut Looks::new())?;
+    let tree = load(alloc, &image, 32, 5, &mut Looks::new())?;
     let mut text = Vec::new(alloc);
     put_node(&mut text, tree.root(), 3)?;
     Ok(text)
-}
-
-/// The same from the first cell on.
-pub fn listed(alloc: Global, bytes: Vec<u8>) -> Result<Vec<u8>, Refusal> {
-    listed_from(alloc, bytes, 32)
-}
-
-/// Why bytes encode no tree, if so, and how many cells were looked at.
-pub fn refused(alloc: Global, bytes: Vec<u8>) -> Result<(Option<Refusal>, u64), Refusal> {
-    let image = Image::open(alloc, bytes)?;
-    let mut looks = Looks::new();
-    let refusal = load(alloc, &image, 32, 5, &mut looks).err();
-    Ok((refusal, looks.count()))
 }
