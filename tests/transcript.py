@@ -70,10 +70,11 @@ def script_of(path):
         return file.readlines()
 
 
-def parse(name, text):
-    """The runs of a file, in order."""
+def parse(name, lines):
+    """The runs of a file's lines, in order."""
     command, run, runs = "play", None, []
-    for number, line in enumerate(text.split("\n"), 1):
+    for number, line in enumerate(lines, 1):
+        line = line.decode().removesuffix("\n")
         where = f"{name}:{number}"
         if run is None:
             if line.startswith("command: "):
@@ -104,13 +105,16 @@ def parse(name, text):
 
 
 def read(path):
-    """The runs of the file at a path."""
+    """The runs of the file at a path. Its lines are read one by one: a program may print some hundred megabytes."""
     name = os.path.basename(path)
-    if path.endswith(".py"):
-        made = subprocess.run([sys.executable, path], stdout=subprocess.PIPE, check=True)
-        return parse(name, made.stdout.decode())
-    with open(path, encoding="utf-8") as file:
-        return parse(name, file.read())
+    if not path.endswith(".py"):
+        with open(path, "rb") as file:
+            return parse(name, file)
+    with subprocess.Popen([sys.executable, path], stdout=subprocess.PIPE) as made:
+        runs = parse(name, made.stdout)
+    if made.returncode != 0:
+        raise ValueError(f"{name}: status {made.returncode}")
+    return runs
 
 
 def read_all(paths):
