@@ -126,10 +126,10 @@ def read_all(paths):
     return [run for path in paths for run in read(path)]
 
 
-def write(title, steps, status):
-    """Prints a run over one hive, for a program that prints such text: its title, lines with their replies, and its status."""
+def write(title, steps, status, hives=1):
+    """Prints a run over new hives, for a program that prints such text: its title, lines with their replies, and its status."""
     print(f"== {title}")
-    for line, reply in [("hives 1", "ok"), *steps]:
+    for line, reply in [(f"hives {hives}", "ok"), *steps]:
         print(f"> {line}\n{reply}")
     print(f"status {status}\n")
 
