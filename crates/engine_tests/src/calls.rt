@@ -11,7 +11,7 @@ use refusals::limits::MOST_HIVES;
 use reg_tree::{Op, Trees};
 use std::alloc::{AllocError, Global};
 use std::sync::Arc;
-use store_model::{Event, Reply, Tx};
+use store_model::{Event, Reply};
 use transactions::Next;
 use uuid::Uuid;
 
@@ -72,18 +72,6 @@ pub fn prepare_write(engine: &mut Engine<MemDisk>, op: Op) -> Result<Option<Tree
         session: SESSION,
         moment: MOMENT,
         op,
-    })?;
-    Ok(trees_of(next))
-}
-
-/// Prepares a commit.
-pub fn prepare_commit(engine: &mut Engine<MemDisk>, tx: Tx) -> Result<Option<Trees>, Refusal>
-    ensures { IfOk result (λ _. is_some engine.new.prepared ≡ true) }
-{
-    let next = engine.prepare(Event::CommitAccept {
-        session: SESSION,
-        tx,
-        moment: MOMENT,
     })?;
     Ok(trees_of(next))
 }

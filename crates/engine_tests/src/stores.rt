@@ -1,5 +1,5 @@
 //! Stores on a disk in memory, and changes of them.
-ghost use Rattle.std.specs.Prelude.{◌≤◌, length};
+ghost use Rattle.std.specs.Prelude.{◌≤◌};
 
 use crate::calls::{MOMENT, SESSION, ask, begin, make, open, repair};
 use disk_model::{MemDisk, Plan, Progress, Tear};
@@ -16,8 +16,8 @@ use uuid::Uuid;
 /// Every tear.
 pub const TEARS: [Tear; 3] = [Tear::Old, Tear::New, Tear::Torn];
 
-/// More steps than any of these repairs, flushes and journals takes.
-pub const MANY: u32 = 64;
+// more steps than any of these repairs and trims takes
+const MANY: u32 = 64;
 
 /// A disk with a store of `hives` hives, each with a new tree at number 0.
 pub fn created(alloc: Global, hives: usize) -> Result<MemDisk, Refusal>
@@ -73,8 +73,8 @@ pub fn fresh(alloc: Global, hives: usize) -> Result<Engine<MemDisk>, Refusal>
     }
 }
 
-/// A key below the root, of one letter.
-pub fn path(alloc: Global, letter: u8) -> Result<Path, Refusal> {
+// a key below the root, of one letter
+fn path(alloc: Global, letter: u8) -> Result<Path, Refusal> {
     Path::parse(alloc, &[u16::from(letter)])
 }
 
@@ -82,6 +82,15 @@ pub fn path(alloc: Global, letter: u8) -> Result<Path, Refusal> {
 pub fn creation(alloc: Global, hive: u8, letter: u8) -> Result<Op, Refusal> {
     let path = path(alloc, letter)?;
     Ok(Op::CreateKey { hive, path })
+}
+
+/// The same, as a write alone.
+pub fn write_of(alloc: Global, hive: u8, letter: u8) -> Result<Event, Refusal> {
+    Ok(Event::Write {
+        session: SESSION,
+        moment: MOMENT,
+        op: creation(alloc, hive, letter)?,
+    })
 }
 
 /// Carries out an operation by itself: the change's number, or 0 if none was needed.
@@ -104,16 +113,6 @@ pub fn accepted(reply: Reply) -> Result<u64, Refusal> {
         Reply::Refused { refusal } => Err(refusal),
         _ => Ok(0),
     }
-}
-
-/// Creates a key, by itself: the change's number.
-pub fn create(
-    engine: &mut Engine<MemDisk>,
-    alloc: Global,
-    hive: u8,
-    letter: u8,
-) -> Result<u64, Refusal> {
-    write(engine, creation(alloc, hive, letter)?)
 }
 
 /// Begins a transaction.
@@ -153,30 +152,6 @@ pub fn commit(engine: &mut Engine<MemDisk>, tx: Tx) -> Result<u64, Refusal> {
             moment: MOMENT,
         },
     ))
-}
-
-/// Makes one change of the creation of keys, of a letter in each hive from 0 on: its number.
-pub fn create_all(
-    engine: &mut Engine<MemDisk>,
-    alloc: Global,
-    letters: &[u8],
-) -> Result<u64, Refusal>
-    requires { length letters.now ≤ 16 }
-{
-    let tx = begun(engine)?;
-    for (hive, letter) in letters.iter().enumerate() {
-        write_in(engine, tx, creation(alloc, hive as u8, *letter)?)?;
-    }
-    commit(engine, tx)
-}
-
-/// Makes at most `most` steps of the journal, until one is idle or refused.
-pub fn journal(engine: &mut Engine<MemDisk>, most: u32) {
-    for _step in 0..most {
-        if is_over(ask(engine, Event::JournalStep)) {
-            return;
-        }
-    }
 }
 
 /// Makes at most `most` steps of a hive's flush, until one is idle or refused.
