@@ -1,0 +1,56 @@
+//! An engine's life: a store is made, opened and driven, and what takes no memory is asked for in each of its states.
+//!
+//! An event that is refused memory has changed nothing, and is made again. What takes no memory is asked for with a
+//! batch, a flush or a trim under way: the finishing of a prepared event, each step after a first one, and whatever
+//! ends a transaction or a session.
+use crate::oom::engine_driver::EngineDriver;
+use crate::oom::opening::{made, opened};
+use disk_model::MemDisk;
+use reg_names::Path;
+use reg_tree::Tree;
+use std::alloc::Global;
+use test_support::Fault;
+
+/// Lives that life, and sees what is opened after it: whether a call was refused memory.
+pub(crate) fn run(alloc: Global) -> Result<bool, Fault> {
+    let mut was_refused = false;
+    let engine = made(alloc, &mut was_refused)?;
+    let mut driver = EngineDriver::new(engine, was_refused);
+    let lived = live(alloc, &mut driver);
+    was_refused = driver.was_refused;
+    let disk = driver.into_disk();
+    lived?;
+    expect_both_changes(alloc, disk, &mut was_refused)?;
+    Ok(was_refused)
+}
+
+// two stretches, after each of which comes what takes no memory, however far it came
+fn live(alloc: Global, driver: &mut EngineDriver) -> Result<(), Fault> {
+    let first = driver.begin_batch_and_flush(alloc);
+    driver.end()?;
+    first?;
+    let second = driver.begin_trim(alloc);
+    driver.end()?;
+    second?;
+    driver.end_session()
+}
+
+// opens the store again, which has both changes
+fn expect_both_changes(alloc: Global, disk: MemDisk, was_refused: &mut bool) -> Result<(), Fault> {
+    let store = opened(alloc, disk, was_refused)?;
+    match store.trees().tree(0) {
+        Some(tree) if store.number() == 2 => expect_their_keys(alloc, tree),
+        _ => Err(Fault::Otherwise("another number")),
+    }
+}
+
+// A and B are keys, and C and D aren't, whose transactions were rolled back
+fn expect_their_keys(alloc: Global, tree: &Tree) -> Result<(), Fault> {
+    for (letter, is_key) in [(b'A', true), (b'B', true), (b'C', false), (b'D', false)] {
+        let path = Path::parse(alloc, &[u16::from(letter)])?;
+        if tree.query_info(&path).is_ok() != is_key {
+            return Err(Fault::Otherwise("another tree"));
+        }
+    }
+    Ok(())
+}

@@ -1,0 +1,88 @@
+//! The words of the command line.
+
+/// What is printed at other words.
+pub(crate) const USAGE: &str =
+    "usage: trials oom | bench load FILE | bench emit KEYS | bench flush VALUES BYTES\n       | bench writes N | bench commits N | bench reads N | bench held N | bench opening N BYTES";
+
+/// What the words ask for.
+#[derive(Clone, Copy)]
+pub(crate) enum Task<'a> {
+    /// Calls that may be refused memory.
+    Oom,
+    /// Work that is timed.
+    Bench(Work<'a>),
+}
+
+/// Work that is timed.
+#[derive(Clone, Copy)]
+pub(crate) enum Work<'a> {
+    /// A primary file's bins data are loaded.
+    Load { file: &'a str },
+    /// The image of a tree of keys is made.
+    Emit { keys: u32 },
+    /// A change is flushed, in a hive of so many values and bytes.
+    Flush { values: u32, bytes: u32 },
+    /// A store is opened whose journal has so many changes of so many bytes.
+    Opening { changes: u32, bytes: u32 },
+    /// Something is asked of an engine again and again.
+    Engine { kind: EngineWork, count: u32 },
+}
+
+/// What is asked of an engine again and again.
+#[derive(Clone, Copy)]
+pub(crate) enum EngineWork {
+    /// A write of a value of 16 bytes, by itself.
+    Writes,
+    /// A transaction of two such writes, one in each hive, committed and journaled until its receipt.
+    Commits,
+    /// A read of such a value.
+    Reads,
+    /// Such a write; after each ten thousand they are journaled, all hives are flushed and the journal is trimmed.
+    Held,
+}
+
+/// What the words ask for, the program's name first among them.
+pub(crate) fn task_of<'a>(words: &[&'a str]) -> Option<Task<'a>> {
+    match words {
+        [_, "oom"] => Some(Task::Oom),
+        [_, "bench", rest @ ..] => Some(Task::Bench(work_of(rest)?)),
+        _ => None,
+    }
+}
+
+fn work_of<'a>(words: &[&'a str]) -> Option<Work<'a>> {
+    match words {
+        ["load", file] => Some(Work::Load { file: *file }),
+        ["emit", keys] => Some(Work::Emit {
+            keys: number(keys)?,
+        }),
+        ["flush", values, bytes] => Some(Work::Flush {
+            values: number(values)?,
+            bytes: number(bytes)?,
+        }),
+        ["opening", changes, bytes] => Some(Work::Opening {
+            changes: number(changes)?,
+            bytes: number(bytes)?,
+        }),
+        [kind, count] => Some(Work::Engine {
+            kind: engine_work_of(kind)?,
+            count: number(count)?,
+        }),
+        _ => None,
+    }
+}
+
+fn engine_work_of(word: &str) -> Option<EngineWork> {
+    match word {
+        "writes" => Some(EngineWork::Writes),
+        "commits" => Some(EngineWork::Commits),
+        "reads" => Some(EngineWork::Reads),
+        "held" => Some(EngineWork::Held),
+        _ => None,
+    }
+}
+
+// a decimal number
+fn number(word: &str) -> Option<u32> {
+    word.parse().ok()
+}
