@@ -10,13 +10,13 @@ use reg_names::Path;
 use reg_tree::{Op, Tree, Trees};
 use std::alloc::Global;
 use std::sync::Arc;
-use store_model::{Event, Reply, Tx};
+use store_model::Event;
 use uuid::Uuid;
 
 /// Every tear.
 pub const TEARS: [Tear; 3] = [Tear::Old, Tear::New, Tear::Torn];
 
-// more steps than any of these repairs and trims takes
+// more steps than any of these repairs takes
 const MANY: u32 = 64;
 
 /// A disk with a store of `hives` hives, each with a new tree at number 0.
@@ -91,100 +91,6 @@ pub fn write_of(alloc: Global, hive: u8, letter: u8) -> Result<Event, Refusal> {
         moment: MOMENT,
         op: creation(alloc, hive, letter)?,
     })
-}
-
-/// Carries out an operation by itself: the change's number, or 0 if none was needed.
-pub fn write(engine: &mut Engine<MemDisk>, op: Op) -> Result<u64, Refusal> {
-    accepted(ask(
-        engine,
-        Event::Write {
-            session: SESSION,
-            moment: MOMENT,
-            op,
-        },
-    ))
-}
-
-/// The number in the reply to an event that may accept a change, or why it was refused.
-pub fn accepted(reply: Reply) -> Result<u64, Refusal> {
-    match reply {
-        Reply::Accepted { number, .. } => Ok(number),
-        Reply::Awaits { number } => Ok(number),
-        Reply::Refused { refusal } => Err(refusal),
-        _ => Ok(0),
-    }
-}
-
-/// Begins a transaction.
-pub fn begun(engine: &mut Engine<MemDisk>) -> Result<Tx, Refusal> {
-    let begin = Event::Begin {
-        session: SESSION,
-        id: Uuid::nil(),
-    };
-    match ask(engine, begin) {
-        Reply::Begun { tx } => Ok(tx),
-        Reply::Refused { refusal } => Err(refusal),
-        _ => Err(Refusal::NoSeat),
-    }
-}
-
-/// Adds an operation to a transaction.
-pub fn write_in(engine: &mut Engine<MemDisk>, tx: Tx, op: Op) -> Result<(), Refusal> {
-    let write = Event::TxWrite {
-        session: SESSION,
-        tx,
-        moment: MOMENT,
-        op,
-    };
-    match accepted(ask(engine, write)) {
-        Ok(_) => Ok(()),
-        Err(why) => Err(why),
-    }
-}
-
-/// Commits a transaction: the change's number, or 0 if there is none.
-pub fn commit(engine: &mut Engine<MemDisk>, tx: Tx) -> Result<u64, Refusal> {
-    accepted(ask(
-        engine,
-        Event::CommitAccept {
-            session: SESSION,
-            tx,
-            moment: MOMENT,
-        },
-    ))
-}
-
-/// Makes at most `most` steps of a hive's flush, until one is idle or refused.
-pub fn flush(engine: &mut Engine<MemDisk>, hive: u8, most: u32) {
-    for _step in 0..most {
-        if is_over(ask(engine, Event::FlusherStep { hive })) {
-            return;
-        }
-    }
-}
-
-/// Makes steps of a trim until one is idle or refused.
-pub fn trim(engine: &mut Engine<MemDisk>) {
-    for _step in 0..MANY {
-        if is_over(ask(engine, Event::TrimStep)) {
-            return;
-        }
-    }
-}
-
-// whether a step was idle, or refused
-fn is_over(reply: Reply) -> bool {
-    !matches!(
-        reply,
-        Reply::Stepped {
-            progress: store_model::Progress::More | store_model::Progress::Done
-        }
-    )
-}
-
-/// Whether a change is acknowledged.
-pub fn is_acknowledged(engine: &mut Engine<MemDisk>, number: u64) -> bool {
-    matches!(ask(engine, Event::Acked { number }), Reply::Receipt { .. })
 }
 
 /// Which of the letters A to E are keys below the root of a hive: `-` for each that isn't.
