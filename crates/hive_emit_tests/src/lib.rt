@@ -1,7 +1,6 @@
-//! A law of hives that are written, each is loaded as the same tree, and trees for programs.
+//! A law of hives that are written: each is loaded as the same tree.
 #![tactic(auto)]
 
 mod again;
-pub mod trees;
 
 pub use crate::again::loaded_again;
