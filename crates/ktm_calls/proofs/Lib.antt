@@ -1,0 +1,6 @@
+pub mod Seen
+pub mod Answering
+pub mod Shapes
+pub mod Working
+pub mod Coming
+pub mod Alone

@@ -1,0 +1,30 @@
+use Rattle.std.proofs.Common.{◌∙◌, ap, inl, [], ℕ}
+use Rattle.ktm_calls.specs.Moments.{NumberedList}
+use Rattle.ktm_calls.proofs.Seen.{seen_trans}
+use Rattle.ktm_calls.proofs.Shapes.{refused_unless}
+use Rattle.ktm_calls.proofs.registry.Registry.serve_durably.Goals as goal
+
+pub returns-in_default-clause-denied : goal.returns-in_default-clause-denied
+returns-in_default-clause-denied g c = inl ([], tt)
+
+pub returns-in_default-reply : goal.returns-in_default-reply
+returns-in_default-reply g c = record {
+  seen = rw (← c.session.view_is) c.in-Ok.ensures.seen;
+  number = ap (λ (m : NumberedList). m.number) c.session.view_is;
+  told = tt;
+  denied = inl (
+    c.serve-answer.new.mine.list,
+    (
+      rw (← c.session.view_is) c.in-Ok.ensures.told,
+      refused_unless c.in-Ok.told.reply
+          (c.requires.awaited (g.E.StoreEngine.machine c.deref_mut.result.now.engine) (g.E.StoreEngine.machine c.serve-answer.new.self.engine) c.in-Ok.told.reply c.in-Ok.ensures.step)
+          (λ (n : ℕ) e. c.in_default-reply.not-Awaits n (c.reply.ensures ∙ e)),
+    ),
+  );
+}
+
+pub returns-in_err-receipt-clause-seen : goal.returns-in_err-receipt-clause-seen
+returns-in_err-receipt-clause-seen g c = rw (← c.session.view_is) (seen_trans _ _ _ c.in-Ok.ensures.seen c.in_err-receipt.ensures.seen)
+
+pub returns-clause-seen : goal.returns-clause-seen
+returns-clause-seen g c = rw (← c.session.view_is) (seen_trans _ _ _ c.in-Ok.ensures.seen c.in_ok-receipt.ensures.seen)

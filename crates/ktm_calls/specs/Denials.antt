@@ -1,0 +1,74 @@
+-- What a refused call tells.
+use Rattle.std.specs.Prelude.{◌≡◌, ℕ, ◌⊎◌, true, List, [], Option, Some, None, ⊤}
+use Rattle.refusals.specs.declared.refusal.Refusal.{Refusal}
+use Rattle.refusals.specs.declared.refusal.Refusal.TheVariants.{NoMemory}
+use Rattle.reg_tree.specs.Maps.{TreeMap}
+use Rattle.reg_tree.specs.declared.element.Element.{Element}
+use Rattle.store_model.specs.declared.event.Event.{Event}
+use Rattle.store_model.specs.declared.event.Event.TheVariants as event
+use Rattle.store_model.specs.declared.event.Reply.{Reply}
+use Rattle.store_model.specs.declared.event.Reply.TheVariants as reply
+use Rattle.ktm_calls.specs.Kinds.{Told}
+use Rattle.ktm_calls.specs.Moments.{NumberedList, Tells}
+use Rattle.ktm_calls.specs.Waiting.{WaitFails, IsFailedStep, is_step_kind}
+use Rattle.ktm_calls.specs.declared.locked.OpenResult.{OpenResult}
+use Rattle.ktm_calls.specs.declared.locked.OpenResult.TheVariants as opening
+use Rattle.ktm_calls.specs.declared.registry.Denied.{Denied}
+use Rattle.ktm_calls.specs.declared.registry.Denied.TheVariants as denied
+use Rattle.ktm_calls.specs.declared.registry.Turn.{Turn}
+use Rattle.ktm_calls.specs.declared.registry.Turn.TheVariants as turn
+
+abbrev pub refusal_in : Reply → Option Refusal
+refusal_in (reply.Refused why) = Some why
+refusal_in _ = None
+
+abbrev pub IsRefusal : Reply → Type 0
+IsRefusal (reply.Refused why) = ⊤
+IsRefusal _ = ⊥
+
+-- a refusal that was told is handed on as it is
+abbrev pub Denies : Told → Denied → Type 0
+Denies told denied.NoMemory = ⊥
+Denies told (denied.Told same) = (same ≡ told) × IsRefusal told.reply
+
+-- there was no memory; or this event was refused
+abbrev pub IsDenied : List TreeMap → ℕ → List Element → List Element → Event → Denied → Type 0
+IsDenied trees number was is event denied.NoMemory = ⊤
+IsDenied trees number was is event (denied.Told told) = Tells trees number was is event told × IsRefusal told.reply
+
+-- The session was opened: all that was accepted by then is what it has seen.
+abbrev pub IsOpened : List TreeMap → ℕ → NumberedList → Told → Type 0
+IsOpened trees number session told = Tells trees number [] session.list (event.StartSession session.number) told × ¬ (IsRefusal told.reply)
+
+-- a session was not opened: there was no memory, or its event was refused
+abbrev pub IsNotOpened : List TreeMap → ℕ → Denied → Type 0
+IsNotOpened trees number why = (session : ℕ) × (is : List Element) × IsDenied trees number [] is (event.StartSession session) why
+
+-- what became of a session that was to be opened
+abbrev pub OpensOrNot : {O : Type 0} → List TreeMap → ℕ → OpenResult O → Type 0
+OpensOrNot trees number (opening.Session session told) = IsOpened trees number session told
+OpensOrNot trees number (opening.Refused told) = (session : ℕ) × (is : List Element) × Tells trees number [] is (event.StartSession session) told × IsRefusal told.reply
+OpensOrNot trees number opening.NoMemory = ⊤
+
+-- what was waited for was refused since the device failed
+abbrev pub IsWaitDenied : ℕ → Denied → Type 0
+IsWaitDenied number denied.NoMemory = ⊥
+IsWaitDenied number (denied.Told told) = WaitFails number told
+
+-- The call's own event was refused; or it was answered, and the wait for what it answered was refused.
+abbrev pub IsCommitDenied : List TreeMap → ℕ → List Element → Event → Denied → Type 0
+IsCommitDenied trees number was event why =
+    ((is : List Element) × IsDenied trees number was is event why) ⊎ ((awaited : ℕ) × IsWaitDenied awaited why)
+
+abbrev pub IsStepOrStop : Turn → Type 0
+IsStepOrStop (turn.Step told) = is_step_kind told.kind ≡ true
+IsStepOrStop (turn.Stopped stopped) = ⊤
+
+abbrev pub IsTurnDenied : Denied → Type 0
+IsTurnDenied denied.NoMemory = ⊤
+IsTurnDenied (denied.Told told) = IsFailedStep told
+
+-- the refusal that a call is denied with
+abbrev pub denial_of : Denied → Option Refusal
+denial_of denied.NoMemory = Some NoMemory
+denial_of (denied.Told told) = refusal_in told.reply

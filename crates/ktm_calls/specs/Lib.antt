@@ -1,0 +1,7 @@
+pub mod Kinds
+pub mod Held
+pub mod Moments
+pub mod Answers
+pub mod Waiting
+pub mod Denials
+pub mod Calls

@@ -1,0 +1,23 @@
+//! The registry as many threads call it: each call is one hold of one lock, or a few, and plain reads wait for nobody.
+//!
+//! A [`Registry`] is shared by reference among threads. Each has a [`Session`] of its own, by which it calls.
+#![tactic(auto)]
+
+mod calls;
+mod event_kind;
+mod key;
+mod locked;
+mod receipt;
+mod registry;
+mod session;
+mod store_engine;
+mod tx_calls;
+mod waiting;
+
+pub use event_kind::EventKind;
+pub use key::Key;
+pub use locked::{Locked, Told};
+pub use receipt::{Receipt, Stopped};
+pub use registry::{Denied, Disposition, Ended, Registry, Turn};
+pub use session::Session;
+pub use store_engine::StoreEngine;

@@ -1,0 +1,402 @@
+//! The registry: one lock, and what threads do with it. Each guard is let go by `MutexGuard::unlock`, on each path.
+ghost use Rattle.std.specs.Prelude.{All, ◌≡◌, ◌⊎◌, ◌≤◌, ◌<◌, ◌+◌, [], List, true, length, IfOk, IfErr};
+ghost use Rattle.reg_tree.specs.declared.element.Element.{Element};
+ghost use mathlib.Core.List.{IsPrefix};
+ghost use Rattle.refusals.specs.declared.refusal.Refusal.TheVariants.{NoMemory, NoSeat};
+ghost use Rattle.store_model.specs.declared.event.Event.TheVariants as event;
+ghost use Rattle.store_model.specs.declared.event.Reply.TheVariants as reply;
+ghost use Rattle.ktm_calls.specs.Waiting.{SteppedOrFailed, is_step_kind};
+ghost use Rattle.ktm_calls.specs.Moments.{IsAwaited, IsOf, Tells, TellsDurably};
+ghost use Rattle.ktm_calls.specs.Denials.{Denies, IsCommitDenied, IsDenied, IsNotOpened, IsOpened, IsRefusal, IsStepOrStop, IsTurnDenied, IsWaitDenied, denial_of};
+
+use crate::locked::{Locked, OpenResult, Told};
+use crate::receipt::{Receipt, Stopped};
+use crate::session::Session;
+use crate::store_engine::StoreEngine;
+use crate::waiting::{TurnResult, WaitMode, WaitResult};
+use disk_model::Progress;
+use published_trees::{ChangeCount, Origin, SeenChanges};
+use refusals::Refusal;
+use std::alloc::{AllocError, Global};
+use std::sync::atomic::{AtomicU64, Ordering};
+use std::sync::{Condvar, Mutex, MutexGuard, Wait};
+use std::thread;
+use store_model::{Event, Reply};
+
+// how often one that makes the steps for all lets others in before a step, if fewer wait than the last batch had
+const PATIENCE: usize = 64;
+
+/// Why a call was refused.
+#[derive(Drop)]
+pub enum Denied {
+    /// There was no memory.
+    NoMemory,
+    /// The event of the call was refused, or an event that it waited for.
+    Told(Told),
+}
+
+impl Denied {
+    /// The refusal.
+    pub fn refusal(&self) -> Option<Refusal>
+        ensures { result ≡ denial_of self.now }
+    {
+        match self {
+            Denied::NoMemory => Some(Refusal::NoMemory),
+            Denied::Told(told) => told.refusal(),
+        }
+    }
+}
+
+impl From<AllocError> for Denied {
+    ghost use Rattle.std.specs.Prelude.{◌≡◌};
+    ghost use Rattle.ktm_calls.specs.declared.registry.Denied.TheVariants as denied;
+
+    ghost from_gives = { λ _ why. why ≡ denied.NoMemory };
+
+    fn from(_: AllocError) -> Denied {
+        Denied::NoMemory
+    }
+}
+
+/// Whether a key was created or was there.
+#[derive(Clone, Copy, Debug, PartialEq, Eq)]
+pub enum Disposition {
+    /// It was created.
+    Created,
+    /// It was there, and was opened.
+    Opened,
+}
+
+/// What a turn of the flusher made.
+#[derive(Drop)]
+pub enum Turn {
+    /// A step.
+    Step(Told),
+    /// Nothing: it was told to stop, and nothing is left.
+    Stopped(Stopped),
+}
+
+/// What is left of a registry.
+pub struct Ended<E: StoreEngine, O: Origin> {
+    /// The engine.
+    pub engine: E,
+    /// The number up to which changes are durable.
+    pub durable: u64,
+    /// The receipts of greater numbers. There are none but of another registry.
+    pub strangers: Vec<Receipt<O>>,
+}
+
+/// What threads share.
+pub struct Registry<E: StoreEngine, O: Origin> {
+    lock: Mutex<Locked<E, O>>,
+    // wakes those that wait for a change
+    durable: Condvar,
+    // wakes the flusher
+    work: Condvar,
+    // how many wait for a change, and how many did so at the end of the last batch
+    waiting: AtomicU64,
+    last_batch: AtomicU64,
+}
+
+impl<E: StoreEngine, O: Origin> Registry<E, O> {
+    /// Shares an engine that was just opened, with a list of changes to which nothing was added.
+    ///
+    /// Refused with `NoMemory`, or with `NoSeat` if the library of readers denies one; the engine comes back then.
+    pub fn new<R: Wait>(
+        alloc: Global,
+        rt: &R,
+        engine: E,
+        count: ChangeCount,
+        seen: SeenChanges,
+    ) -> Result<Registry<E, O>, (Refusal, E)>
+        requires book { (count ≡ O.book) × (seen ≡ record { book = O.book; list = [] }) }
+        requires engine { IsOf O.trees O.number (E.machine engine)
+            × ((E.machine engine).accepted ≡ []) × ((E.machine engine).sessions ≡ []) }
+        ensures refused { IfErr result (λ back.
+            ((back.0 ≡ NoMemory) ⊎ (back.0 ≡ NoSeat)) × (back.1 ≡ engine)) }
+    {
+        let locked = Locked::<E, O>::open(alloc, rt, engine, count, seen)?;
+        Ok(Registry {
+            lock: Mutex::new(locked),
+            durable: Condvar::new(),
+            work: Condvar::new(),
+            waiting: AtomicU64::new(0),
+            last_batch: AtomicU64::new(0),
+        })
+    }
+
+    /// Opens a session. Refused as its event: `Faulted`, or `NoSeat` if 32 are open.
+    pub fn session<R: Wait>(&self, rt: &R) -> Result<(Session<O>, Told), Denied>
+        ensures opened { IfOk result (λ made. IsOpened O.trees O.number made.0 made.1) }
+        ensures denied { IfErr result (IsNotOpened O.trees O.number) }
+    {
+        let mut guard = self.lock.lock(rt);
+        let opened = (&mut *guard).start_session(rt);
+        let _ = MutexGuard::unlock(guard);
+        match opened {
+            OpenResult::Session(session, told) => Ok((session, told)),
+            OpenResult::Refused(told) => Err(Denied::Told(told)),
+            OpenResult::NoMemory => Err(Denied::NoMemory),
+        }
+    }
+
+    /// Ends a session, with all of its transactions. It is gone also if that is refused.
+    pub fn end_session<R: Wait>(&self, rt: &R, session: Session<O>) -> Result<Told, Denied>
+        ensures told { IfOk result (λ t. (is : List Element)
+            × Tells O.trees O.number [] is (event.EndSession session.number) t) }
+        ensures granted { IfOk result (λ t. ¬ (IsRefusal t.reply)) }
+        ensures denied { IfErr result (λ why. (is : List Element)
+            × IsDenied O.trees O.number [] is (event.EndSession session.number) why) }
+    {
+        let (number, reader) = session.into_parts();
+        let mut guard = self.lock.lock(rt);
+        let answer = (&mut *guard).end_session(rt, number, reader);
+        let _ = MutexGuard::unlock(guard);
+        match answer {
+            Ok(told) => judged(told),
+            Err(_) => Err(Denied::NoMemory),
+        }
+    }
+
+    /// Ends all sessions and the registry, and hands the engine back. Of the receipts those come back whose change is
+    /// not durable in it.
+    pub fn end<R: Wait>(
+        self,
+        rt: &R,
+        sessions: Vec<Session<O>>,
+        receipts: Vec<Receipt<O>>,
+    ) -> Ended<E, O>
+        ensures owner { IsOf O.trees O.number (E.machine result.engine) }
+        ensures durable { result.durable ≡ (E.machine result.engine).durable }
+        ensures strangers { All (λ r. result.durable < r.number) result.strangers.items }
+    {
+        let Registry {
+            lock,
+            durable: _,
+            work: _,
+            waiting: _,
+            last_batch: _,
+        } = self;
+        let mut locked = lock.into_inner();
+        for session in sessions {
+            let _ = (&mut locked).end_session(rt, session.number(), None);
+        }
+        let engine = locked.close(rt);
+        let durable = engine.durable();
+        let strangers = above(receipts, durable);
+        Ended {
+            engine,
+            durable,
+            strangers,
+        }
+    }
+
+    /// One event of a session, in one hold.
+    pub(crate) fn serve<R: Wait>(
+        &self,
+        rt: &R,
+        session: &mut Session<O>,
+        event: Event,
+    ) -> Result<Told, Denied>
+        ensures seen { IsPrefix session.old.list session.new.list }
+        ensures number { session.new.number ≡ session.old.number }
+        ensures told { IfOk result (λ t.
+            Tells O.trees O.number session.old.list session.new.list event t) }
+        ensures granted { IfOk result (λ t. ¬ (IsRefusal t.reply)) }
+        ensures denied { IfErr result (λ why.
+            IsDenied O.trees O.number session.old.list session.new.list event why) }
+    {
+        let mut guard = self.lock.lock(rt);
+        let answer = (&mut *guard).serve(rt, &mut session.seen, event);
+        let _ = MutexGuard::unlock(guard);
+        match answer {
+            Ok(told) => judged(told),
+            Err(_) => Err(Denied::NoMemory),
+        }
+    }
+
+    /// The flusher has work.
+    pub(crate) fn wake_flusher(&self) {
+        self.work.notify_one();
+    }
+
+    /// One event of a session that answers a number, and then the wait until the change of that number is durable: steps
+    /// of the journal, one a hold, or sleep while another makes them.
+    pub(crate) fn serve_durably<R: Wait>(
+        &self,
+        rt: &R,
+        session: &mut Session<O>,
+        event: Event,
+    ) -> Result<(Receipt<O>, Told), Denied>
+        requires awaited { IsAwaited event }
+        ensures seen { IsPrefix session.old.list session.new.list }
+        ensures number { session.new.number ≡ session.old.number }
+        ensures told { IfOk result (λ r. TellsDurably O.trees O.number
+            session.old.list session.new.list event r.0 r.1) }
+        ensures denied { IfErr result (IsCommitDenied O.trees O.number session.old.list event) }
+    {
+        let mut guard = self.lock.lock(rt);
+        let answer = (&mut *guard).serve(rt, &mut session.seen, event);
+        let Ok(told) = answer else {
+            let _ = MutexGuard::unlock(guard);
+            return Err(Denied::NoMemory);
+        };
+        let Reply::Awaits { number: awaited } = told.reply() else {
+            let _ = MutexGuard::unlock(guard);
+            return Err(Denied::Told(told));
+        };
+        let receipt = self.wait_durable(rt, &mut session.seen, *awaited, guard)?;
+        Ok((receipt, told))
+    }
+
+    // waits until a change is durable. It begins in the hold whose event asked for it: if another makes the steps, it
+    // sleeps there and then
+    #[tactic(auto, using(crate::proofs::Seen::seen_trans, crate::proofs::Seen::seen_self))]
+    fn wait_durable<'a, R: Wait>(
+        &'a self,
+        rt: &R,
+        mine: &mut SeenChanges,
+        number: u64,
+        held: MutexGuard<'a, Locked<E, O>>,
+    ) -> Result<Receipt<O>, Denied>
+        requires book { mine.old.book ≡ O.book }
+        ensures book { mine.new.book ≡ O.book }
+        ensures seen { IsPrefix mine.old.list mine.new.list }
+        ensures receipt { IfOk result (λ r. (r.number ≡ number) × (r.list ≡ mine.new.list)) }
+        ensures denied { IfErr result (IsWaitDenied number) }
+    {
+        let mut guard = held;
+        let mut mode = (&mut *guard).first_mode(number);
+        let mut leads = matches!(mode, WaitMode::Lead);
+        self.waiting.fetch_add(1, Ordering::SeqCst);
+        for _ in rt.forever() {
+            if let WaitMode::Sleep = mode {
+                guard = self.durable.wait(rt, guard);
+            } else {
+                let _ = MutexGuard::unlock(guard);
+                if let WaitMode::Lead = mode {
+                    self.let_others_in();
+                }
+                guard = self.lock.lock(rt);
+            }
+            match (&mut *guard).wait_hold(rt, mine, number, mode, leads) {
+                WaitResult::Again(next) => {
+                    leads = leads || matches!(next, WaitMode::Lead);
+                    mode = next;
+                }
+                WaitResult::Done(receipt) => {
+                    let _ = MutexGuard::unlock(guard);
+                    self.leave(leads);
+                    return Ok(receipt);
+                }
+                WaitResult::Refused(told) => {
+                    let _ = MutexGuard::unlock(guard);
+                    self.leave(true);
+                    return Err(Denied::Told(told));
+                }
+            }
+        }
+        unreachable!()
+    }
+
+    // one waits no more. If it led, the others are woken: each finds its change durable, or leads
+    fn leave(&self, led: bool) {
+        let waited = self.waiting.fetch_sub(1, Ordering::SeqCst);
+        if led {
+            self.last_batch.store(waited, Ordering::SeqCst);
+            self.durable.notify_all();
+            self.work.notify_one();
+        }
+    }
+
+    // lets others in, until as many wait as the last batch had
+    fn let_others_in(&self) {
+        let wanted = self.last_batch.load(Ordering::SeqCst);
+        for _ in 0..PATIENCE {
+            if self.waiting.load(Ordering::SeqCst) >= wanted {
+                return;
+            }
+            thread::yield_now();
+        }
+    }
+
+    /// Tells the flusher to stop once it has nothing to do.
+    pub fn stop_flusher<R: Wait>(&self, rt: &R) {
+        let mut guard = self.lock.lock(rt);
+        (&mut *guard).stop();
+        let _ = MutexGuard::unlock(guard);
+        self.work.notify_one();
+    }
+
+    /// One event of the flusher: a step of the journal if a change is pending, else of the next hive that has work, else
+    /// of a trim. It waits if there is nothing to do, and ends if it was told to stop then.
+    pub fn turn<R: Wait>(&self, rt: &R) -> Result<Turn, Denied>
+        ensures turn { IfOk result IsStepOrStop }
+        ensures denied { IfErr result IsTurnDenied }
+    {
+        let mut guard = self.lock.lock(rt);
+        for _ in rt.forever() {
+            match (&mut *guard).turn(rt) {
+                TurnResult::Wait => {
+                    guard = self.work.wait(rt, guard);
+                }
+                TurnResult::Step(told) => {
+                    let _ = MutexGuard::unlock(guard);
+                    return self.stepped(told);
+                }
+                TurnResult::NoMemory => {
+                    let _ = MutexGuard::unlock(guard);
+                    return Err(Denied::NoMemory);
+                }
+                TurnResult::Stopped(stopped) => {
+                    let _ = MutexGuard::unlock(guard);
+                    return Ok(Turn::Stopped(stopped));
+                }
+            }
+        }
+        unreachable!()
+    }
+}
+
+impl<E: StoreEngine, O: Origin> Registry<E, O> {
+    // those that wait for a change are woken unless a step has more to do
+    fn stepped(&self, told: Told) -> Result<Turn, Denied>
+        requires step { is_step_kind told.kind ≡ true }
+        requires reply { SteppedOrFailed told.reply }
+        ensures turn { IfOk result IsStepOrStop }
+        ensures denied { IfErr result IsTurnDenied }
+    {
+        if let Reply::Stepped {
+            progress: Progress::More,
+        } = told.reply()
+        {
+            return Ok(Turn::Step(told));
+        }
+        self.durable.notify_all();
+        if let Reply::Stepped { progress: _ } = told.reply() {
+            return Ok(Turn::Step(told));
+        }
+        Err(Denied::Told(told))
+    }
+}
+
+// a refusal is a denial
+fn judged(told: Told) -> Result<Told, Denied>
+    ensures ok { IfOk result (λ t. t ≡ told) }
+    ensures granted { IfOk result (λ t. ¬ (IsRefusal t.reply)) }
+    ensures err { IfErr result (Denies told) }
+{
+    if let Reply::Refused { refusal: _ } = told.reply() {
+        return Err(Denied::Told(told));
+    }
+    Ok(told)
+}
+
+// the receipts of numbers above this one
+fn above<O: Origin>(receipts: Vec<Receipt<O>>, durable: u64) -> Vec<Receipt<O>>
+    ensures { All (λ r. durable < r.number) result.items }
+{
+    let mut strangers = receipts;
+    strangers.retain(|r| r.number() > durable);
+    strangers
+}

@@ -1,0 +1,224 @@
+//! Sessions: each reads what is published, and waits for nobody.
+ghost use Rattle.std.specs.Prelude.{◌≡◌, ◌⊎◌, ◌≤◌, Some, None, IfOk, IfErr};
+ghost use mathlib.Core.List.{IsPrefix};
+ghost use Rattle.refusals.specs.declared.refusal.Refusal.TheVariants.{NoMemory, NoSuchHandle};
+ghost use Rattle.reg_tree.specs.Sequences.{after_elements};
+ghost use Rattle.store_model.specs.Machine.{looked_up, read_refusal};
+ghost use Rattle.store_model.specs.declared.event.Question.TheVariants as question;
+ghost use Rattle.store_model.specs.declared.event.ReadResult.TheVariants as found;
+
+use crate::key::Key;
+use crate::receipt::Receipt;
+use published_trees::{Entered, Origin, SeenChanges, TreesReader, TreesSnapshot};
+use refusals::Refusal;
+use reg_names::{Name, ValueName};
+use reg_tree::{Info, Value};
+use std::alloc::Global;
+use std::marker::Model;
+use store_model::{Question, ReadResult, look_up};
+
+/// A session: the reader by which it reads, and the list of the changes that it has seen. Its later reads have all that
+/// it saw, wrote or learnt.
+///
+/// A read looks at the trees that are published. It answers `NoSuchHandle` if the session has seen more than is
+/// published to it, or the registry has ended.
+pub struct Session<O: Origin> {
+    alloc: Global,
+    number: u32,
+    reader: Option<TreesReader<O>>,
+    pub(crate) seen: SeenChanges,
+}
+
+impl<O: Origin> Drop for Session<O> {
+    // one drop for all that own one, whose proofs see no more of it than that
+    fn drop(self) {
+        let Session {
+            alloc: _,
+            number: _,
+            reader: _,
+            seen: _,
+        } = self;
+    }
+}
+
+impl<O: Origin> Model for Session<O> {
+    ghost use Rattle.std.specs.Prelude.{◌≡◌};
+    ghost use Rattle.ktm_calls.specs.Moments.{NumberedList, numbered_code};
+
+    ghost Value = { NumberedList };
+
+    ghost coded = { numbered_code };
+
+    ghost view = { λ s. record { number = s.number; list = s.seen.list } };
+
+    ghost invariant = { λ s. s.seen.book ≡ O.book };
+}
+
+impl<O: Origin> Session<O> {
+    pub(crate) fn new(
+        alloc: Global,
+        number: u32,
+        reader: Option<TreesReader<O>>,
+        seen: SeenChanges,
+    ) -> Session<O>
+        requires book { seen.book ≡ O.book }
+        ensures { result ≡ record { number = number; list = seen.list } }
+    {
+        Session {
+            alloc,
+            number,
+            reader,
+            seen,
+        }
+    }
+
+    /// Its number, which its events have.
+    pub fn number(&self) -> u32
+        ensures { result ≡ self.now.number }
+    {
+        self.number
+    }
+
+    pub(crate) fn into_parts(self) -> (u32, Option<TreesReader<O>>)
+        ensures { result.0 ≡ self.number }
+    {
+        let Session {
+            alloc: _,
+            number,
+            reader,
+            seen: _,
+        } = self;
+        (number, reader)
+    }
+
+    /// Takes in what a receipt carries: later reads have the changes of its list.
+    pub fn learn(&mut self, receipt: &Receipt<O>)
+        ensures own { IsPrefix self.old.list self.new.list }
+        ensures learnt { IsPrefix receipt.now.list self.new.list }
+        ensures number { self.new.number ≡ self.old.number }
+    {
+        self.seen.learn(receipt.seen());
+    }
+
+    /// The answer to a question on a key. Refused with `NotFound` exactly if there is no such hive, key or value; with
+    /// `NoMemory`; and with `NoSuchHandle`, as told above.
+    pub fn look_up(&mut self, key: &Key, question: Question) -> Result<ReadResult, Refusal>
+        ensures later { IsPrefix self.old.list self.new.list }
+        ensures number { self.new.number ≡ self.old.number }
+        ensures found { IfOk result (λ found. looked_up (after_elements O.trees self.new.list)
+            key.now.hive key.now.path question ≡ Some found) }
+        ensures refused { IfErr result (λ why. (why ≡ NoMemory) ⊎ (why ≡ NoSuchHandle)
+            ⊎ (read_refusal (looked_up (after_elements O.trees self.new.list)
+            key.now.hive key.now.path question) ≡ Some why)) }
+    {
+        let Some(reader) = self.reader.take() else {
+            return Err(Refusal::NoSuchHandle);
+        };
+        match reader.enter_as::<Entered<O>>() {
+            Ok(reading) => {
+                let answer = look_up_in::<O>(
+                    self.alloc,
+                    &mut self.seen,
+                    reading.get(),
+                    key,
+                    question,
+                );
+                self.reader.replace(reading.leave());
+                answer
+            }
+            Err(reader) => {
+                self.reader.replace(reader);
+                Err(Refusal::NoSuchHandle)
+            }
+        }
+    }
+
+    /// A value of a key, by its name. Refused as `look_up`.
+    pub fn get_value(&mut self, key: &Key, name: ValueName) -> Result<Value, Refusal>
+        ensures later { IsPrefix self.old.list self.new.list }
+        ensures number { self.new.number ≡ self.old.number }
+        ensures found { IfOk result (λ value. looked_up (after_elements O.trees self.new.list)
+            key.now.hive key.now.path (question.ValueOf name) ≡ Some (found.Value value)) }
+        ensures refused { IfErr result (λ why. (why ≡ NoMemory) ⊎ (why ≡ NoSuchHandle)
+            ⊎ (read_refusal (looked_up (after_elements O.trees self.new.list)
+            key.now.hive key.now.path (question.ValueOf name)) ≡ Some why)) }
+    {
+        match self.look_up(key, Question::ValueOf { name })? {
+            ReadResult::Value { value } => Ok(value),
+            _ => unreachable!(),
+        }
+    }
+
+    /// The value of a key at an index, in the order of names. Refused as `look_up`.
+    pub fn enum_value(&mut self, key: &Key, index: usize) -> Result<Value, Refusal>
+        ensures later { IsPrefix self.old.list self.new.list }
+        ensures number { self.new.number ≡ self.old.number }
+        ensures found { IfOk result (λ value. looked_up (after_elements O.trees self.new.list)
+            key.now.hive key.now.path (question.ValueAt index) ≡ Some (found.Value value)) }
+        ensures refused { IfErr result (λ why. (why ≡ NoMemory) ⊎ (why ≡ NoSuchHandle)
+            ⊎ (read_refusal (looked_up (after_elements O.trees self.new.list)
+            key.now.hive key.now.path (question.ValueAt index)) ≡ Some why)) }
+    {
+        match self.look_up(key, Question::ValueAt { index })? {
+            ReadResult::Value { value } => Ok(value),
+            _ => unreachable!(),
+        }
+    }
+
+    /// The name of the subkey of a key at an index, in the order of names. Refused as `look_up`.
+    pub fn enum_key(&mut self, key: &Key, index: usize) -> Result<Name, Refusal>
+        ensures later { IsPrefix self.old.list self.new.list }
+        ensures number { self.new.number ≡ self.old.number }
+        ensures found { IfOk result (λ name. looked_up (after_elements O.trees self.new.list)
+            key.now.hive key.now.path (question.KeyAt index) ≡ Some (found.Key name)) }
+        ensures refused { IfErr result (λ why. (why ≡ NoMemory) ⊎ (why ≡ NoSuchHandle)
+            ⊎ (read_refusal (looked_up (after_elements O.trees self.new.list)
+            key.now.hive key.now.path (question.KeyAt index)) ≡ Some why)) }
+    {
+        match self.look_up(key, Question::KeyAt { index })? {
+            ReadResult::Key { name } => Ok(name),
+            _ => unreachable!(),
+        }
+    }
+
+    /// How many subkeys and values a key has, and its last written time. Refused as `look_up`.
+    pub fn query_info(&mut self, key: &Key) -> Result<Info, Refusal>
+        ensures later { IsPrefix self.old.list self.new.list }
+        ensures number { self.new.number ≡ self.old.number }
+        ensures found { IfOk result (λ info. looked_up (after_elements O.trees self.new.list)
+            key.now.hive key.now.path question.InfoOf ≡ Some (found.Counts info)) }
+        ensures refused { IfErr result (λ why. (why ≡ NoMemory) ⊎ (why ≡ NoSuchHandle)
+            ⊎ (read_refusal (looked_up (after_elements O.trees self.new.list)
+            key.now.hive key.now.path question.InfoOf) ≡ Some why)) }
+    {
+        match self.look_up(key, Question::InfoOf)? {
+            ReadResult::Counts { info } => Ok(info),
+            _ => unreachable!(),
+        }
+    }
+}
+
+// the answer of what is published, whose list is taken in
+fn look_up_in<O: Origin>(
+    alloc: Global,
+    mine: &mut SeenChanges,
+    snapshot: &TreesSnapshot,
+    key: &Key,
+    question: Question,
+) -> Result<ReadResult, Refusal>
+    requires book { snapshot.now.book ≡ mine.old.book }
+    requires trees { snapshot.now.trees ≡ after_elements O.trees snapshot.now.list }
+    ensures book { mine.new.book ≡ mine.old.book }
+    ensures later { IsPrefix mine.old.list mine.new.list }
+    ensures found { IfOk result (λ found. looked_up (after_elements O.trees mine.new.list)
+        key.now.hive key.now.path question ≡ Some found) }
+    ensures refused { IfErr result (λ why. (why ≡ NoMemory) ⊎ (why ≡ NoSuchHandle)
+        ⊎ (read_refusal (looked_up (after_elements O.trees mine.new.list)
+        key.now.hive key.now.path question) ≡ Some why)) }
+{
+    if snapshot.seen().len() < mine.len() {
+        return Err(Refusal::NoSuchHandle);
+    }
+    mine.learn(snapshot.seen());
+    look_up(alloc, snapshot.trees(), key.hive, &key.path, question)
+}

@@ -1,0 +1,208 @@
+//! Holds of those who wait for a change to be durable, and of the flusher.
+//!
+//! One of those who wait makes the steps of the journal for all, one a hold; the others sleep meanwhile. What is
+//! accepted during a batch is the next batch. Nobody depends on the flusher.
+ghost use Rattle.std.specs.Prelude.{◌≡◌, ◌+◌, ◌≤◌, true, IfNone, IfSome};
+ghost use mathlib.Core.List.{IsPrefix};
+ghost use Rattle.store_model.specs.Machine.{last_number};
+ghost use Rattle.ktm_calls.specs.Waiting.{EndsWait, IsTurn, IsWork};
+
+use crate::event_kind::EventKind;
+use crate::locked::{Locked, Told};
+use crate::receipt::{Receipt, Stopped};
+use crate::store_engine::StoreEngine;
+use disk_model::Progress;
+use published_trees::{Origin, SeenChanges};
+use std::sync::Wait;
+use store_model::{Event, Reply};
+
+/// What one who waits does next.
+#[derive(Clone, Copy)]
+pub enum WaitMode {
+    /// It asks whether its change is durable.
+    Ask,
+    /// It makes the steps of the journal, for all that wait.
+    Lead,
+    /// It sleeps while another makes them, and then asks.
+    Sleep,
+}
+
+/// What became of a hold of one who waits.
+#[derive(Drop)]
+pub enum WaitResult<O: Origin> {
+    /// It goes on with another hold.
+    Again(WaitMode),
+    /// The change is durable.
+    Done(Receipt<O>),
+    /// The event was refused.
+    Refused(Told),
+}
+
+/// What became of a hold of the flusher.
+#[derive(Drop)]
+pub enum TurnResult {
+    /// A step was made, or refused.
+    Step(Told),
+    /// There was no memory.
+    NoMemory,
+    /// There is nothing to do.
+    Wait,
+    /// There is nothing to do any more.
+    Stopped(Stopped),
+}
+
+impl<E: StoreEngine, O: Origin> Locked<E, O> {
+    /// What one does first that waits for the change of this number.
+    pub(crate) fn first_mode(&mut self, number: u64) -> WaitMode
+        ensures same { self.new ≡ self.old }
+    {
+        if number <= self.durable() {
+            return WaitMode::Ask;
+        }
+        if self.take_lead() {
+            WaitMode::Lead
+        } else {
+            WaitMode::Sleep
+        }
+    }
+
+    /// One hold of one who waits for the change of this number: one event. `leads` tells whether it makes the steps for
+    /// all.
+    pub(crate) fn wait_hold<R: Wait>(
+        &mut self,
+        rt: &R,
+        mine: &mut SeenChanges,
+        number: u64,
+        mode: WaitMode,
+        leads: bool,
+    ) -> WaitResult<O>
+        requires book { mine.old.book ≡ O.book }
+        ensures book { mine.new.book ≡ O.book }
+        ensures seen { IsPrefix mine.old.list mine.new.list }
+        ensures ends { EndsWait number mine.new.list result }
+        ensures call { E.clock self.new.engine ≤ E.clock self.old.engine + 1 }
+    {
+        match mode {
+            WaitMode::Ask | WaitMode::Sleep => self.ask(rt, mine, number, leads),
+            WaitMode::Lead => self.lead(rt, mine, number),
+        }
+    }
+
+    // the question whether the change is durable
+    fn ask<R: Wait>(
+        &mut self,
+        rt: &R,
+        mine: &mut SeenChanges,
+        number: u64,
+        leads: bool,
+    ) -> WaitResult<O>
+        requires book { mine.old.book ≡ O.book }
+        ensures book { mine.new.book ≡ O.book }
+        ensures seen { IsPrefix mine.old.list mine.new.list }
+        ensures ends { EndsWait number mine.new.list result }
+        ensures call { E.clock self.new.engine ≤ E.clock self.old.engine + 1 }
+    {
+        let Ok(told) = self.serve(rt, mine, Event::Acked { number }) else {
+            return WaitResult::Again(WaitMode::Ask);
+        };
+        match told.reply() {
+            Reply::Receipt { number: durable } => {
+                let receipt = Receipt::of(self, *durable);
+                if leads {
+                    self.leave_lead();
+                }
+                WaitResult::Done(receipt)
+            }
+            Reply::NotYet => {
+                if leads || self.take_lead() {
+                    return WaitResult::Again(WaitMode::Lead);
+                }
+                WaitResult::Again(WaitMode::Sleep)
+            }
+            _ => {
+                if leads {
+                    self.leave_lead();
+                }
+                WaitResult::Refused(told)
+            }
+        }
+    }
+
+    // a step of the journal, for all that wait. One that there was no memory for is made again
+    fn lead<R: Wait>(&mut self, rt: &R, mine: &mut SeenChanges, number: u64) -> WaitResult<O>
+        requires book { mine.old.book ≡ O.book }
+        ensures book { mine.new.book ≡ O.book }
+        ensures seen { IsPrefix mine.old.list mine.new.list }
+        ensures ends { EndsWait number mine.new.list result }
+        ensures call { E.clock self.new.engine ≤ E.clock self.old.engine + 1 }
+    {
+        let Ok(told) = self.serve(rt, mine, Event::JournalStep) else {
+            return WaitResult::Again(WaitMode::Lead);
+        };
+        match told.reply() {
+            Reply::Stepped {
+                progress: Progress::More,
+            } => WaitResult::Again(WaitMode::Lead),
+            Reply::Stepped { progress: _ } => WaitResult::Again(WaitMode::Ask),
+            _ => {
+                self.leave_lead();
+                WaitResult::Refused(told)
+            }
+        }
+    }
+
+    // what the flusher does next, if anything
+    fn next_work(&self) -> Option<Event>
+        ensures some { IfSome result (IsWork (E.machine self.now.engine)) }
+        ensures none { IfNone result ((E.machine self.now.engine).durable
+            ≡ last_number (E.machine self.now.engine)) }
+    {
+        let engine = self.engine();
+        engine.stays_within();
+        if engine.has_pending() {
+            return Some(Event::JournalStep);
+        }
+        if let Some(hive) = engine.hive_with_work(self.last_flushed()) {
+            return Some(Event::FlusherStep { hive });
+        }
+        if engine.may_trim() {
+            return Some(Event::TrimStep);
+        }
+        None
+    }
+
+    // the hives take turns: the next flush is of a hive after the one whose flush has ended
+    fn note_flush(&mut self, told: &Told)
+        ensures same { self.new ≡ self.old }
+    {
+        if let Reply::Stepped {
+            progress: Progress::More,
+        } = told.reply()
+        {
+            return;
+        }
+        if let EventKind::FlusherStep { hive } = told.kind() {
+            self.set_last_flushed(hive);
+        }
+    }
+
+    /// One hold of the flusher: one event, or none if there is nothing to do.
+    pub(crate) fn turn<R: Wait>(&mut self, rt: &R) -> TurnResult
+        ensures turns { IsTurn result }
+        ensures call { E.clock self.new.engine ≤ E.clock self.old.engine + 1 }
+    {
+        let Some(event) = self.next_work() else {
+            if self.is_stopped() {
+                return TurnResult::Stopped(Stopped::of(self));
+            }
+            return TurnResult::Wait;
+        };
+        match self.hold(rt, event) {
+            Ok(told) => {
+                self.note_flush(&told);
+                TurnResult::Step(told)
+            }
+            Err(_) => TurnResult::NoMemory,
+        }
+    }
+}
