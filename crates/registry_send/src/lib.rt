@@ -1,10 +1,10 @@
-//! The law of crossing for what a registry hands out: which of its values may be used by more than one thread.
+//! The law of crossing for a registry: threads may share one, and may take along what it hands out.
 //!
 //! There is no code here that does anything. Each function hands its value to one that takes only what may cross
 //! threads.
 #![tactic(auto)]
 
-use ktm_calls::Receipt;
+use ktm_calls::{Receipt, Registry, Session, StoreEngine};
 use published_trees::{Origin, SeenChanges, TreesSnapshot};
 
 // takes what may be handed to another thread
@@ -12,6 +12,20 @@ fn sends<T: Send>(_: &T) {}
 
 // takes what several threads may see at once
 fn shares<T: Sync>(_: &T) {}
+
+/// Several threads may see one registry at once, if its engine may be handed to another thread.
+///
+/// So each may call it.
+pub fn registry_is_shared<E: StoreEngine + Send, O: Origin>(registry: &Registry<E, O>) {
+    shares(registry);
+}
+
+/// A session may be handed to another thread.
+///
+/// So a thread may be started with one.
+pub fn session_is_sent<O: Origin>(session: &Session<O>) {
+    sends(session);
+}
 
 /// What was seen of the list of changes may be handed to another thread, and several threads may see it at once.
 pub fn changes_are_shared(seen: &SeenChanges) {
