@@ -44,20 +44,9 @@ pub fn key(alloc: Global, text: &[u8]) -> Result<Key, Refusal> {
     Ok(Key::new(0, Path::parse(alloc, units.as_slice())?))
 }
 
-/// Why a call was denied.
+/// Why a call was denied. There is a refusal in each denial.
 pub fn refusal_of(denied: Denied) -> Refusal {
-    match denied {
-        Denied::NoMemory => Refusal::NoMemory,
-        Denied::Told(told) => refusal_in(&told),
-    }
-}
-
-/// The refusal that is told. There is one in each denial.
-pub fn refusal_in(told: &Told) -> Refusal {
-    match told.reply() {
-        Reply::Refused { refusal } => *refusal,
-        _ => Refusal::NoMemory,
-    }
+    denied.refusal().unwrap_or(Refusal::NoMemory)
 }
 
 // what is told
