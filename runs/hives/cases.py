@@ -164,7 +164,7 @@ def sums():
 
 
 def tiles():
-    """Bins and cells that do or do not fill the data: of one bin, with allocated cells and behind them a free one; and of two."""
+    """Bins and cells that do or do not fill the data: of one bin, with allocated cells and after them a free one; and of two."""
     tree = Key("r", 9, [], [Value("v", 3, b"five!")])
     file, places = hive(tree)
     free = places["r"] + 88
@@ -177,7 +177,7 @@ def tiles():
             ("a cell past its bin", 32, u32(2 ** 32 - 8_192), "BadCell"), ("a cell of the least number", 32, u32(1 << 31), "BadCell"),
             ("a free cell of size 0", free, u32(0), "BadCell"), ("a free cell of 4 bytes", free, u32(4), "BadCell"),
             ("a free cell of 12 bytes", free, u32(12), "BadCell"), ("a free cell of the least number", free, u32(1 << 31), "BadCell"),
-            ("a free cell past its bin", free, u32(left + 8), "BadCell"), ("zeros behind a free cell", free, u32(left - 8), "BadCell")]:
+            ("a free cell past its bin", free, u32(left + 8), "BadCell"), ("zeros after a free cell", free, u32(left - 8), "BadCell")]:
         yield refused(title, patched(file, at, some), damaged(cause))
     for before in (4_096, 8_192):
         file, _ = hive(tree, before)
