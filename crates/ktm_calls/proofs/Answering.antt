@@ -1,4 +1,4 @@
--- What a step of the machine says of the list behind it.
+-- What a step of the machine says of the list after it.
 use Rattle.std.proofs.Common.{◌≡◌, ◌<◌, ◌≤◌, ◌+◌, ◌-◌, ◌==◌, ℕ, Bool, true, false, cond, List, [], ◌∷◌, ◌++◌, length, slice_get, Some, Result, Ok, Err, refl, ap, sym, ◌∙◌, subst, arith, ◌⊎◌, inl, inr}
 use Rattle.std.specs.Prelude.{nat_le}
 use Rattle.std.proofs.lemmas.Bool.{true≢false}
@@ -29,7 +29,7 @@ get_last : (xs : List Element) (y : Element) → slice_get (xs ++ y ∷ []) (len
 get_last [] y = refl
 get_last (x ∷ xs) y = get_last xs y
 
--- the change that was accepted is behind all that were there
+-- the change that was accepted is after all that were there
 stands : (old : Machine) (e : Element) (before number : ℕ) (list : List Element) → number ≡ last_number old + 1 → old.before ≡ before → old.accepted ++ e ∷ [] ≡ list → IsAt before list number e
 stands old e before number list n b l =
     let at : number - before - 1 ≡ length old.accepted = omega arith in
@@ -78,7 +78,7 @@ write_stands trees number was is s m op r h =
     let found : IsIllegal trees (trees_now h.old) op why = refused h.old trees s m op why hh d.0 of_op in
     subst (λ (t : List TreeMap). IsIllegal trees t op why) (ap (λ (t : List TreeMap). after_elements t h.old.accepted) ho ∙ ap (λ (l : List Element). after_elements trees l) hl) found)
 
--- a commit without operations has number 0; another is behind all that were there
+-- a commit without operations has number 0; another is after all that were there
 commit_at : (t : Bool) (old new : Machine) (moment : ℕ) (one : Transaction) (before n : ℕ) (list : List Element) → n ≡ cond t 0 (last_number old + 1)
     → new ≡ record (cond t old (record old { accepted = old.accepted ++ commit_change old moment one ∷ []; room = old.room + room_of (commit_change old moment one) })) { tx_slots = new.tx_slots }
     → new.before ≡ before → new.accepted ≡ list → 0 < n → HasMoment before list n moment

@@ -13,7 +13,7 @@ use Rattle.store_model.specs.Machine.{change}
 use Rattle.store_model.specs.declared.event.Reply.{Reply}
 use Rattle.store_model.specs.declared.event.Reply.TheVariants as reply
 
--- the change of a number is in a list that begins behind a number
+-- the change of a number is in a list that begins after a number
 abbrev pub IsAt : ℕ → List Element → ℕ → Element → Type 0
 IsAt before list number element = (before < number) × (slice_get list (number - before - 1) ≡ Some element)
 

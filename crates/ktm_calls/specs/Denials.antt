@@ -50,9 +50,9 @@ OpensOrNot trees number (opening.Session session told) = IsOpened trees number s
 OpensOrNot trees number (opening.Refused told) = (session : ℕ) × (is : List Element) × Tells trees number [] is (event.StartSession session) told × IsRefusal told.reply
 OpensOrNot trees number opening.NoMemory = ⊤
 
--- what was waited for was refused since the device failed
+-- what was waited for was refused since the device failed, or there was no memory for a step of the journal
 abbrev pub IsWaitDenied : ℕ → Denied → Type 0
-IsWaitDenied number denied.NoMemory = ⊥
+IsWaitDenied number denied.NoMemory = ⊤
 IsWaitDenied number (denied.Told told) = WaitFails number told
 
 -- The call's own event was refused; or it was answered, and the wait for what it answered was refused.
@@ -72,3 +72,7 @@ IsTurnDenied (denied.Told told) = IsFailedStep told
 abbrev pub denial_of : Denied → Option Refusal
 denial_of denied.NoMemory = Some NoMemory
 denial_of (denied.Told told) = refusal_in told.reply
+
+-- the refusal of a denial that has one
+abbrev pub Gives : Denied → Refusal → Type 0
+Gives why refusal = (same : Refusal) → denial_of why ≡ Some same → refusal ≡ same

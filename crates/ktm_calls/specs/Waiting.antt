@@ -1,5 +1,5 @@
 -- What becomes of the holds of those who wait for a change, and of the flusher.
-use Rattle.std.specs.Prelude.{◌≡◌, ℕ, ◌<◌, ◌⊎◌, Bool, true, false, List, length, ⊤}
+use Rattle.std.specs.Prelude.{◌≡◌, ℕ, ◌<◌, ◌+◌, ◌⊎◌, Bool, true, false, List, length, ⊤}
 use Rattle.refusals.specs.declared.refusal.Refusal.TheVariants.{DiskFault, Faulted}
 use Rattle.reg_tree.specs.declared.element.Element.{Element}
 use Rattle.store_model.specs.Machine.{Machine}
@@ -12,6 +12,8 @@ use Rattle.ktm_calls.specs.declared.event_kind.EventKind.TheVariants as kind
 use Rattle.ktm_calls.specs.Kinds.{Told}
 use Rattle.ktm_calls.specs.declared.waiting.WaitResult.{WaitResult}
 use Rattle.ktm_calls.specs.declared.waiting.WaitResult.TheVariants as waited
+use Rattle.ktm_calls.specs.declared.waiting.CheckpointResult.{CheckpointResult}
+use Rattle.ktm_calls.specs.declared.waiting.CheckpointResult.TheVariants as checkpoint
 use Rattle.ktm_calls.specs.declared.waiting.TurnResult.{TurnResult}
 use Rattle.ktm_calls.specs.declared.waiting.TurnResult.TheVariants as turned
 
@@ -29,6 +31,7 @@ abbrev pub EndsWait : {O : Type 0} → ℕ → List Element → WaitResult O →
 EndsWait number list (waited.Again mode) = ⊤
 EndsWait number list (waited.Done receipt) = receipt ≡ record { number = number; list = list }
 EndsWait number list (waited.Refused told) = WaitFails number told
+EndsWait number list waited.NoMemory = ⊤
 
 -- the kinds of the flusher's events
 abbrev pub is_step_kind : EventKind → Bool
@@ -49,6 +52,12 @@ abbrev pub SteppedOrFailed : Reply → Type 0
 SteppedOrFailed (reply.Stepped progress) = ⊤
 SteppedOrFailed (reply.Refused why) = (why ≡ DiskFault) ⊎ (why ≡ Faulted)
 SteppedOrFailed _ = ⊥
+
+-- a step that was made or refused; or a receipt of all that was accepted, whose list begins after a number
+abbrev pub EndsCheckpoint : {O : Type 0} → ℕ → CheckpointResult O → Type 0
+EndsCheckpoint number (checkpoint.Step told) = (is_step_kind told.kind ≡ true) × SteppedOrFailed told.reply
+EndsCheckpoint number checkpoint.NoMemory = ⊤
+EndsCheckpoint number (checkpoint.Done receipt) = receipt.number ≡ number + length receipt.list
 
 abbrev pub IsTurn : TurnResult → Type 0
 IsTurn (turned.Step told) = (is_step_kind told.kind ≡ true) × SteppedOrFailed told.reply

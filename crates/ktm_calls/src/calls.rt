@@ -14,6 +14,7 @@ use crate::receipt::Receipt;
 use crate::registry::{Denied, Disposition, Registry};
 use crate::session::Session;
 use crate::store_engine::StoreEngine;
+use crate::waiting::MemoryPolicy;
 use published_trees::Origin;
 use reg_names::ValueName;
 use reg_tree::{Data, Op};
@@ -243,8 +244,8 @@ impl<E: StoreEngine, O: Origin> Registry<E, O> {
         self.write(rt, session, tx, moment, op)
     }
 
-    // an operation by itself, or in a transaction
-    fn write<R: Wait>(
+    /// An operation by itself, or in a transaction. The calls on keys and values above are such operations.
+    pub fn write<R: Wait>(
         &self,
         rt: &R,
         session: &mut Session<O>,
@@ -312,7 +313,8 @@ impl<E: StoreEngine, O: Origin> Registry<E, O> {
     /// Makes all that was accepted durable. The receipt's number is not below what the session has seen. Nothing is
     /// judged of the key.
     ///
-    /// Refused with `NoMemory`, and with `Faulted` or `DiskFault` of its own question or of a step of the journal.
+    /// Refused with `NoMemory`, also of a step of the journal; and with `Faulted` or `DiskFault` of its own question or
+    /// of such a step.
     pub fn flush_key<R: Wait>(
         &self,
         rt: &R,
@@ -326,7 +328,7 @@ impl<E: StoreEngine, O: Origin> Registry<E, O> {
         ensures all { IfOk result (λ r. O.number + length session.old.list ≤ r.0.number) }
         ensures denied { IfErr result (IsCommitDenied O.trees O.number session.old.list event.FlushAsk) }
     {
-        let answer = self.serve_durably(rt, session, Event::FlushAsk)?;
+        let answer = self.serve_durably(rt, session, Event::FlushAsk, MemoryPolicy::GiveUp)?;
         Ok(answer)
     }
 }

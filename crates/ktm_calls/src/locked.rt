@@ -2,6 +2,7 @@
 ghost use Rattle.std.specs.Prelude.{◌≡◌, ◌⊎◌, ◌+◌, ◌<◌, ◌≤◌, ◌++◌, ◌∷◌, [], length, true, false, IfErr, IfOk, IfSome, OnErr, OnOk};
 ghost use Rattle.reg_tree.specs.Sequences.{after_elements};
 ghost use mathlib.Core.List.{IsPrefix};
+ghost use Rattle.published_trees.specs.declared.rule.TheConstants.{MOST_READERS};
 ghost use Rattle.refusals.specs.declared.refusal.Refusal.TheVariants.{NoMemory, NoSeat};
 ghost use Rattle.store_model.specs.Machine.{last_number};
 ghost use Rattle.store_model.specs.Steps.{Step, may_accept};
@@ -59,6 +60,14 @@ impl Told {
         ensures { result.now ≡ self.now.reply }
     {
         &self.reply
+    }
+
+    /// What was answered, without what was asked.
+    pub fn into_reply(self) -> Reply
+        ensures { result ≡ self.reply }
+    {
+        let Told { kind: _, reply } = self;
+        reply
     }
 
     /// The refusal, if the event was refused.
@@ -409,8 +418,8 @@ impl<E: StoreEngine, O: Origin> Locked<E, O> {
         Ok(told)
     }
 
-    // a law: the engine is the registry's
-    fn is_of_registry(&self)
+    /// A law: the engine is the registry's.
+    pub(crate) fn is_of_registry(&self)
         ensures { IsOf O.trees O.number (E.machine self.now.engine) }
     {
         // what the type keeps is known once a field is read
@@ -433,6 +442,14 @@ impl<E: StoreEngine, O: Origin> Locked<E, O> {
         } = self;
         publication.close(rt);
         engine
+    }
+
+    /// A session that isn't open, whose number none has that is.
+    pub(crate) fn closed_session(&self) -> Session<O>
+        ensures number { result.number ≡ MOST_READERS }
+        ensures list { result.list ≡ (E.machine self.now.engine).accepted }
+    {
+        Session::new(self.alloc, MOST_READERS as u32, None, self.seen())
     }
 
     /// The engine.

@@ -1,7 +1,8 @@
 //! The registry: one lock, and what threads do with it. Each guard is let go by `MutexGuard::unlock`, on each path.
-ghost use Rattle.std.specs.Prelude.{All, ◌≡◌, ◌⊎◌, ◌≤◌, ◌<◌, ◌+◌, [], List, true, length, IfOk, IfErr};
+ghost use Rattle.std.specs.Prelude.{◌≡◌, ◌⊎◌, ◌≤◌, ◌+◌, filter, nat_lt, [], List, true, length, IfOk, IfErr};
 ghost use Rattle.reg_tree.specs.declared.element.Element.{Element};
 ghost use mathlib.Core.List.{IsPrefix};
+ghost use Rattle.published_trees.specs.declared.rule.TheConstants.{MOST_READERS};
 ghost use Rattle.refusals.specs.declared.refusal.Refusal.TheVariants.{NoMemory, NoSeat};
 ghost use Rattle.store_model.specs.declared.event.Event.TheVariants as event;
 ghost use Rattle.store_model.specs.declared.event.Reply.TheVariants as reply;
@@ -9,19 +10,24 @@ ghost use Rattle.ktm_calls.specs.Waiting.{SteppedOrFailed, is_step_kind};
 ghost use Rattle.ktm_calls.specs.Moments.{IsAwaited, IsOf, Tells, TellsDurably};
 ghost use Rattle.ktm_calls.specs.Denials.{Denies, IsCommitDenied, IsDenied, IsNotOpened, IsOpened, IsRefusal, IsStepOrStop, IsTurnDenied, IsWaitDenied, denial_of};
 
+use crate::event_kind::may_accept;
 use crate::locked::{Locked, OpenResult, Told};
 use crate::receipt::{Receipt, Stopped};
 use crate::session::Session;
 use crate::store_engine::StoreEngine;
-use crate::waiting::{TurnResult, WaitMode, WaitResult};
+use crate::waiting::{CheckpointResult, MemoryPolicy, TurnResult, WaitMode, WaitResult};
 use disk_model::Progress;
-use published_trees::{ChangeCount, Origin, SeenChanges};
+use published_trees::{ChangeCount, MOST_READERS, Origin, SeenChanges};
 use refusals::Refusal;
+use refusals::limits::MOST_JOURNAL_BYTES;
 use std::alloc::{AllocError, Global};
 use std::sync::atomic::{AtomicU64, Ordering};
 use std::sync::{Condvar, Mutex, MutexGuard, Wait};
 use std::thread;
 use store_model::{Event, Reply};
+
+// at how many used bytes of the journal's room it is freed before a change is accepted
+const BUSY_ROOM: u64 = MOST_JOURNAL_BYTES / 2;
 
 // how often one that makes the steps for all lets others in before a step, if fewer wait than the last batch had
 const PATIENCE: usize = 64;
@@ -55,6 +61,20 @@ impl From<AllocError> for Denied {
 
     fn from(_: AllocError) -> Denied {
         Denied::NoMemory
+    }
+}
+
+impl From<Denied> for Refusal {
+    ghost use Rattle.ktm_calls.specs.Denials.{Gives};
+
+    ghost from_gives = { Gives };
+
+    // each denial that a call answers has a refusal
+    fn from(denied: Denied) -> Refusal {
+        match denied.refusal() {
+            Some(refusal) => refusal,
+            None => Refusal::NoMemory,
+        }
     }
 }
 
@@ -168,7 +188,8 @@ impl<E: StoreEngine, O: Origin> Registry<E, O> {
     ) -> Ended<E, O>
         ensures owner { IsOf O.trees O.number (E.machine result.engine) }
         ensures durable { result.durable ≡ (E.machine result.engine).durable }
-        ensures strangers { All (λ r. result.durable < r.number) result.strangers.items }
+        ensures strangers { result.strangers.items
+            ≡ filter (λ r. nat_lt result.durable r.number) receipts.items }
     {
         let Registry {
             lock,
@@ -206,13 +227,46 @@ impl<E: StoreEngine, O: Origin> Registry<E, O> {
         ensures denied { IfErr result (λ why.
             IsDenied O.trees O.number session.old.list session.new.list event why) }
     {
-        let mut guard = self.lock.lock(rt);
+        let mut guard = self.lock_for(rt, &event);
         let answer = (&mut *guard).serve(rt, &mut session.seen, event);
         let _ = MutexGuard::unlock(guard);
         match answer {
             Ok(told) => judged(told),
             Err(_) => Err(Denied::NoMemory),
         }
+    }
+
+    // the lock, for an event. Before one that may accept a change, room is made if half of the journal's is used: else
+    // those that write without a pause would never let a trim come, and be refused at last
+    fn lock_for<'a, R: Wait>(&'a self, rt: &R, event: &Event) -> MutexGuard<'a, Locked<E, O>> {
+        let guard = self.lock.lock(rt);
+        if !may_accept(event) || (&*guard).engine().room() < BUSY_ROOM {
+            return guard;
+        }
+        let _ = MutexGuard::unlock(guard);
+        self.make_room(rt);
+        self.lock.lock(rt)
+    }
+
+    // makes the flusher's steps, one a hold, until less than half of the journal's room is used; or until there is
+    // nothing to do, or one is refused, which the event that comes tells
+    fn make_room<R: Wait>(&self, rt: &R) {
+        for _ in rt.forever() {
+            let mut guard = self.lock.lock(rt);
+            if (&*guard).engine().room() < BUSY_ROOM {
+                let _ = MutexGuard::unlock(guard);
+                return;
+            }
+            let answer = (&mut *guard).turn(rt);
+            let _ = MutexGuard::unlock(guard);
+            let TurnResult::Step(told) = answer else {
+                return;
+            };
+            if self.stepped(told).is_err() {
+                return;
+            }
+        }
+        unreachable!()
     }
 
     /// The flusher has work.
@@ -227,6 +281,7 @@ impl<E: StoreEngine, O: Origin> Registry<E, O> {
         rt: &R,
         session: &mut Session<O>,
         event: Event,
+        policy: MemoryPolicy,
     ) -> Result<(Receipt<O>, Told), Denied>
         requires awaited { IsAwaited event }
         ensures seen { IsPrefix session.old.list session.new.list }
@@ -235,7 +290,7 @@ impl<E: StoreEngine, O: Origin> Registry<E, O> {
             session.old.list session.new.list event r.0 r.1) }
         ensures denied { IfErr result (IsCommitDenied O.trees O.number session.old.list event) }
     {
-        let mut guard = self.lock.lock(rt);
+        let mut guard = self.lock_for(rt, &event);
         let answer = (&mut *guard).serve(rt, &mut session.seen, event);
         let Ok(told) = answer else {
             let _ = MutexGuard::unlock(guard);
@@ -245,7 +300,7 @@ impl<E: StoreEngine, O: Origin> Registry<E, O> {
             let _ = MutexGuard::unlock(guard);
             return Err(Denied::Told(told));
         };
-        let receipt = self.wait_durable(rt, &mut session.seen, *awaited, guard)?;
+        let receipt = self.wait_durable(rt, &mut session.seen, *awaited, guard, policy)?;
         Ok((receipt, told))
     }
 
@@ -258,6 +313,7 @@ impl<E: StoreEngine, O: Origin> Registry<E, O> {
         mine: &mut SeenChanges,
         number: u64,
         held: MutexGuard<'a, Locked<E, O>>,
+        policy: MemoryPolicy,
     ) -> Result<Receipt<O>, Denied>
         requires book { mine.old.book ≡ O.book }
         ensures book { mine.new.book ≡ O.book }
@@ -279,7 +335,7 @@ impl<E: StoreEngine, O: Origin> Registry<E, O> {
                 }
                 guard = self.lock.lock(rt);
             }
-            match (&mut *guard).wait_hold(rt, mine, number, mode, leads) {
+            match (&mut *guard).wait_hold(rt, mine, number, mode, leads, policy) {
                 WaitResult::Again(next) => {
                     leads = leads || matches!(next, WaitMode::Lead);
                     mode = next;
@@ -293,6 +349,11 @@ impl<E: StoreEngine, O: Origin> Registry<E, O> {
                     let _ = MutexGuard::unlock(guard);
                     self.leave(true);
                     return Err(Denied::Told(told));
+                }
+                WaitResult::NoMemory => {
+                    let _ = MutexGuard::unlock(guard);
+                    self.leave(true);
+                    return Err(Denied::NoMemory);
                 }
             }
         }
@@ -318,6 +379,60 @@ impl<E: StoreEngine, O: Origin> Registry<E, O> {
             }
             thread::yield_now();
         }
+    }
+
+    /// Makes the flusher's steps, one a hold, until none has anything to do: all that was accepted is durable then, each
+    /// hive has it, and the journal's room is free. It goes on with what others accept meanwhile.
+    ///
+    /// Refused with the first step that is refused, or with `NoMemory`.
+    pub fn checkpoint<R: Wait>(&self, rt: &R) -> Result<Receipt<O>, Denied>
+        ensures all { IfOk result (λ r. r.number ≡ O.number + length r.list) }
+        ensures denied { IfErr result IsTurnDenied }
+    {
+        for _ in rt.forever() {
+            let mut guard = self.lock.lock(rt);
+            let answer = (&mut *guard).checkpoint(rt);
+            let _ = MutexGuard::unlock(guard);
+            match answer {
+                CheckpointResult::Step(told) => {
+                    self.stepped(told)?;
+                }
+                CheckpointResult::NoMemory => return Err(Denied::NoMemory),
+                CheckpointResult::Done(receipt) => return Ok(receipt),
+            }
+        }
+        unreachable!()
+    }
+
+    /// How many bytes of the journal's room are used. [`Registry::checkpoint`] frees them.
+    pub fn room<R: Wait>(&self, rt: &R) -> u64 {
+        let guard = self.lock.lock(rt);
+        let room = (&*guard).engine().room();
+        let _ = MutexGuard::unlock(guard);
+        room
+    }
+
+    /// Waits until at least so many bytes of the journal's room are used, or the flusher was told to stop.
+    pub fn wait_until_used<R: Wait>(&self, rt: &R, room: u64) {
+        let mut guard = self.lock.lock(rt);
+        for _ in rt.forever() {
+            if (&*guard).is_stopped() || (&*guard).engine().room() >= room {
+                let _ = MutexGuard::unlock(guard);
+                return;
+            }
+            guard = self.work.wait(rt, guard);
+        }
+        unreachable!()
+    }
+
+    /// A session that isn't open: each of its calls is refused as one of a session that has ended.
+    pub fn closed_session<R: Wait>(&self, rt: &R) -> Session<O>
+        ensures { result.number ≡ MOST_READERS }
+    {
+        let guard = self.lock.lock(rt);
+        let session = (&*guard).closed_session();
+        let _ = MutexGuard::unlock(guard);
+        session
     }
 
     /// Tells the flusher to stop once it has nothing to do.
@@ -394,7 +509,7 @@ fn judged(told: Told) -> Result<Told, Denied>
 
 // the receipts of numbers above this one
 fn above<O: Origin>(receipts: Vec<Receipt<O>>, durable: u64) -> Vec<Receipt<O>>
-    ensures { All (λ r. durable < r.number) result.items }
+    ensures { result.items ≡ filter (λ r. nat_lt durable r.number) receipts.items }
 {
     let mut strangers = receipts;
     strangers.retain(|r| r.number() > durable);

@@ -1,5 +1,5 @@
 //! An engine as the registry uses it: any type that keeps this contract.
-ghost use Rattle.std.specs.Prelude.{◌≡◌, ◌+◌, ◌≤◌, ◌<◌, ◌↔◌, ◌++◌, ◌∷◌, [], ℕ, None, Some, Option, true, is_some, length, IfErr, IfOk, IfSome};
+ghost use Rattle.std.specs.Prelude.{◌≡◌, ◌+◌, ◌≤◌, ◌<◌, ◌↔◌, ◌++◌, ◌∷◌, [], ℕ, None, Some, Option, true, false, is_some, length, IfErr, IfOk, IfSome};
 ghost use Rattle.std.specs.Option.{option_map};
 ghost use Rattle.refusals.specs.declared.refusal.Refusal.TheVariants.{NoMemory};
 ghost use Rattle.reg_tree.specs.Sequences.{after_elements};
@@ -92,8 +92,13 @@ pub trait StoreEngine {
     fn hive_with_work(&self, after: u8) -> Option<u8>
         ensures there { IfSome result (λ hive. hive < length (machine self.now).opened) };
 
-    /// Whether a step of a trim has something to do.
-    fn may_trim(&self) -> bool;
+    /// Whether a step of a trim has something to do. On a faulted store, whose steps are refused, it is false.
+    fn may_trim(&self) -> bool
+        ensures faulted { (machine self.now).faulted ≡ true → result ≡ false };
+
+    /// How many bytes of the journal's room are used.
+    fn room(&self) -> u64
+        ensures { result ≡ (machine self.now).room };
 }
 
 impl<D: Disk> StoreEngine for Engine<D> {
@@ -148,5 +153,9 @@ impl<D: Disk> StoreEngine for Engine<D> {
 
     fn may_trim(&self) -> bool {
         Engine::may_trim(self)
+    }
+
+    fn room(&self) -> u64 {
+        Engine::room(self)
     }
 }

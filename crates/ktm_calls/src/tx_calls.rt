@@ -14,6 +14,7 @@ use crate::receipt::Receipt;
 use crate::registry::{Denied, Registry};
 use crate::session::Session;
 use crate::store_engine::StoreEngine;
+use crate::waiting::MemoryPolicy;
 use published_trees::Origin;
 use reg_names::ValueName;
 use std::sync::Wait;
@@ -249,7 +250,8 @@ impl<E: StoreEngine, O: Origin> Registry<E, O> {
     /// number, or 0 for a transaction without operations.
     ///
     /// If it is refused with its own event, nothing was accepted. Else a step of the journal was refused, with `DiskFault`
-    /// or `Faulted`: the change is accepted, and whether it is durable is open until the store is opened again.
+    /// or `Faulted`: the change is accepted, and whether it is durable is open until the store is opened again. A step for
+    /// which there is no memory is made again.
     pub fn commit_transaction<R: Wait>(
         &self,
         rt: &R,
@@ -265,12 +267,52 @@ impl<E: StoreEngine, O: Origin> Registry<E, O> {
         ensures denied { IfErr result (IsCommitDenied O.trees O.number session.old.list
             (event.CommitAccept session.old.number tx moment)) }
     {
+        self.commit(rt, session, tx, moment, MemoryPolicy::Retry)
+    }
+
+    /// The same, but it waits for no memory: it may also be refused with `NoMemory` for a step of the journal. The change
+    /// is accepted then, and any later step may make it durable.
+    pub fn try_commit_transaction<R: Wait>(
+        &self,
+        rt: &R,
+        session: &mut Session<O>,
+        tx: Tx,
+        moment: u64,
+    ) -> Result<(Receipt<O>, Told), Denied>
+        ensures seen { IsPrefix session.old.list session.new.list }
+        ensures number { session.new.number ≡ session.old.number }
+        ensures told { IfOk result (λ r. TellsDurably O.trees O.number session.old.list session.new.list
+            (event.CommitAccept session.old.number tx moment) r.0 r.1) }
+        ensures stands { IfOk result (λ r. CommitStands O.number session.new.list moment r.1.reply) }
+        ensures denied { IfErr result (IsCommitDenied O.trees O.number session.old.list
+            (event.CommitAccept session.old.number tx moment)) }
+    {
+        self.commit(rt, session, tx, moment, MemoryPolicy::GiveUp)
+    }
+
+    // a commit by this policy
+    fn commit<R: Wait>(
+        &self,
+        rt: &R,
+        session: &mut Session<O>,
+        tx: Tx,
+        moment: u64,
+        policy: MemoryPolicy,
+    ) -> Result<(Receipt<O>, Told), Denied>
+        ensures seen { IsPrefix session.old.list session.new.list }
+        ensures number { session.new.number ≡ session.old.number }
+        ensures told { IfOk result (λ r. TellsDurably O.trees O.number session.old.list session.new.list
+            (event.CommitAccept session.old.number tx moment) r.0 r.1) }
+        ensures stands { IfOk result (λ r. CommitStands O.number session.new.list moment r.1.reply) }
+        ensures denied { IfErr result (IsCommitDenied O.trees O.number session.old.list
+            (event.CommitAccept session.old.number tx moment)) }
+    {
         let event = Event::CommitAccept {
             session: session.number(),
             tx,
             moment,
         };
-        let answer = self.serve_durably(rt, session, event)?;
+        let answer = self.serve_durably(rt, session, event, policy)?;
         Ok(answer)
     }
 }

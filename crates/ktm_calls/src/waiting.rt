@@ -2,10 +2,11 @@
 //!
 //! One of those who wait makes the steps of the journal for all, one a hold; the others sleep meanwhile. What is
 //! accepted during a batch is the next batch. Nobody depends on the flusher.
-ghost use Rattle.std.specs.Prelude.{◌≡◌, ◌+◌, ◌≤◌, true, IfNone, IfSome};
+ghost use Rattle.std.specs.Prelude.{◌≡◌, ◌+◌, ◌≤◌, ℕ, List, true, length, IfNone, IfOk, IfSome};
 ghost use mathlib.Core.List.{IsPrefix};
+ghost use Rattle.reg_tree.specs.declared.element.Element.{Element};
 ghost use Rattle.store_model.specs.Machine.{last_number};
-ghost use Rattle.ktm_calls.specs.Waiting.{EndsWait, IsTurn, IsWork};
+ghost use Rattle.ktm_calls.specs.Waiting.{EndsCheckpoint, EndsWait, IsTurn, IsWork, SteppedOrFailed, is_step_kind};
 
 use crate::event_kind::EventKind;
 use crate::locked::{Locked, Told};
@@ -13,6 +14,7 @@ use crate::receipt::{Receipt, Stopped};
 use crate::store_engine::StoreEngine;
 use disk_model::Progress;
 use published_trees::{Origin, SeenChanges};
+use refusals::Refusal;
 use std::sync::Wait;
 use store_model::{Event, Reply};
 
@@ -27,6 +29,15 @@ pub enum WaitMode {
     Sleep,
 }
 
+/// What one who waits does if there is no memory for a step of the journal.
+#[derive(Clone, Copy)]
+pub enum MemoryPolicy {
+    /// It makes the step again.
+    Retry,
+    /// It waits no more.
+    GiveUp,
+}
+
 /// What became of a hold of one who waits.
 #[derive(Drop)]
 pub enum WaitResult<O: Origin> {
@@ -36,6 +47,19 @@ pub enum WaitResult<O: Origin> {
     Done(Receipt<O>),
     /// The event was refused.
     Refused(Told),
+    /// There was no memory for a step of the journal.
+    NoMemory,
+}
+
+/// What became of a hold of a checkpoint.
+#[derive(Drop)]
+pub enum CheckpointResult<O: Origin> {
+    /// A step was made, or refused.
+    Step(Told),
+    /// There was no memory.
+    NoMemory,
+    /// There is nothing to do: all that was accepted is durable.
+    Done(Receipt<O>),
 }
 
 /// What became of a hold of the flusher.
@@ -67,7 +91,7 @@ impl<E: StoreEngine, O: Origin> Locked<E, O> {
     }
 
     /// One hold of one who waits for the change of this number: one event. `leads` tells whether it makes the steps for
-    /// all.
+    /// all. One that gives up for want of memory leads no more.
     pub(crate) fn wait_hold<R: Wait>(
         &mut self,
         rt: &R,
@@ -75,6 +99,7 @@ impl<E: StoreEngine, O: Origin> Locked<E, O> {
         number: u64,
         mode: WaitMode,
         leads: bool,
+        policy: MemoryPolicy,
     ) -> WaitResult<O>
         requires book { mine.old.book ≡ O.book }
         ensures book { mine.new.book ≡ O.book }
@@ -84,7 +109,7 @@ impl<E: StoreEngine, O: Origin> Locked<E, O> {
     {
         match mode {
             WaitMode::Ask | WaitMode::Sleep => self.ask(rt, mine, number, leads),
-            WaitMode::Lead => self.lead(rt, mine, number),
+            WaitMode::Lead => self.lead(rt, mine, number, policy),
         }
     }
 
@@ -128,8 +153,14 @@ impl<E: StoreEngine, O: Origin> Locked<E, O> {
         }
     }
 
-    // a step of the journal, for all that wait. One that there was no memory for is made again
-    fn lead<R: Wait>(&mut self, rt: &R, mine: &mut SeenChanges, number: u64) -> WaitResult<O>
+    // a step of the journal, for all that wait
+    fn lead<R: Wait>(
+        &mut self,
+        rt: &R,
+        mine: &mut SeenChanges,
+        number: u64,
+        policy: MemoryPolicy,
+    ) -> WaitResult<O>
         requires book { mine.old.book ≡ O.book }
         ensures book { mine.new.book ≡ O.book }
         ensures seen { IsPrefix mine.old.list mine.new.list }
@@ -137,7 +168,7 @@ impl<E: StoreEngine, O: Origin> Locked<E, O> {
         ensures call { E.clock self.new.engine ≤ E.clock self.old.engine + 1 }
     {
         let Ok(told) = self.serve(rt, mine, Event::JournalStep) else {
-            return WaitResult::Again(WaitMode::Lead);
+            return self.lacks_memory(policy);
         };
         match told.reply() {
             Reply::Stepped {
@@ -147,6 +178,20 @@ impl<E: StoreEngine, O: Origin> Locked<E, O> {
             _ => {
                 self.leave_lead();
                 WaitResult::Refused(told)
+            }
+        }
+    }
+
+    // there was no memory for a step of the journal
+    fn lacks_memory(&mut self, policy: MemoryPolicy) -> WaitResult<O>
+        ensures same { self.new ≡ self.old }
+        ensures ends { (number : ℕ) (list : List Element) → EndsWait number list result }
+    {
+        match policy {
+            MemoryPolicy::Retry => WaitResult::Again(WaitMode::Lead),
+            MemoryPolicy::GiveUp => {
+                self.leave_lead();
+                WaitResult::NoMemory
             }
         }
     }
@@ -197,12 +242,44 @@ impl<E: StoreEngine, O: Origin> Locked<E, O> {
             }
             return TurnResult::Wait;
         };
-        match self.hold(rt, event) {
-            Ok(told) => {
-                self.note_flush(&told);
-                TurnResult::Step(told)
-            }
+        match self.step(rt, event) {
+            Ok(told) => TurnResult::Step(told),
             Err(_) => TurnResult::NoMemory,
         }
+    }
+
+    /// One hold of a checkpoint: one event of the flusher, or a receipt if there is nothing to do.
+    pub(crate) fn checkpoint<R: Wait>(&mut self, rt: &R) -> CheckpointResult<O>
+        ensures ends { EndsCheckpoint O.number result }
+        ensures call { E.clock self.new.engine ≤ E.clock self.old.engine + 1 }
+    {
+        let Some(event) = self.next_work() else {
+            return CheckpointResult::Done(self.receipt_of_all());
+        };
+        match self.step(rt, event) {
+            Ok(told) => CheckpointResult::Step(told),
+            Err(_) => CheckpointResult::NoMemory,
+        }
+    }
+
+    // one event of the flusher, which is noted if it ends a flush
+    fn step<R: Wait>(&mut self, rt: &R, event: Event) -> Result<Told, Refusal>
+        requires work { IsWork (E.machine self.old.engine) event }
+        ensures made { IfOk result (λ t. (is_step_kind t.kind ≡ true) × SteppedOrFailed t.reply) }
+        ensures call { E.clock self.new.engine ≤ E.clock self.old.engine + 1 }
+    {
+        let told = self.hold(rt, event)?;
+        self.note_flush(&told);
+        Ok(told)
+    }
+
+    // the receipt of the last change, if all is durable
+    fn receipt_of_all(&self) -> Receipt<O>
+        requires durable { (E.machine self.now.engine).durable
+            ≡ last_number (E.machine self.now.engine) }
+        ensures all { result.number ≡ O.number + length result.list }
+    {
+        self.is_of_registry();
+        Receipt::of(self, self.durable())
     }
 }

@@ -11,6 +11,6 @@ IsCounted cells log = cells ≡ (length log, true) ∷ (0, true) ∷ []
 abbrev pub count_of : Book → Named
 count_of book = record { tracked = true; key = 0; book = book }
 
--- the change was added behind all that had been seen; or the list was longer, and was seen
+-- the change was added after all that had been seen; or the list was longer, and was seen
 abbrev pub Adds : Step Element → View Element ℕ → ℕ → View Element ℕ → Type 0
 Adds step view found next = MatchBool (found == step.old) (next.0 ≡ view.0 ++ step.ask ∷ []) (length next.0 ≡ found)

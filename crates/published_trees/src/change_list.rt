@@ -167,7 +167,7 @@ impl SeenChanges {
         *self = self.longer(other);
     }
 
-    /// Adds a change behind all that was seen, and says whether it did. It did not if the list is longer.
+    /// Adds a change after all that was seen, and says whether it did. It did not if the list is longer.
     pub(crate) fn add(&mut self, count: &ChangeCount, change: &Snapshot<EncodedChange>) -> bool
         requires book { count.now ≡ self.old.book }
         requires room { length self.old.list < u64.MAX }

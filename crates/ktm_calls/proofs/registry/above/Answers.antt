@@ -1,6 +1,7 @@
-use Rattle.std.proofs.Common.{rules, ◌<◌}
-use Rattle.std.proofs.lemmas.Fn.{All-from_retain}
+use Rattle.std.specs.Prelude.{nat_lt}
+use Rattle.std.proofs.Common.{rules}
+use Rattle.std.proofs.lemmas.Fn.{filter_same}
 use Rattle.ktm_calls.proofs.registry.above.Goals as goal
 
 pub returns : goal.returns
-returns g c = All-from_retain _ (λ r. c.args.durable < r.number) _ (λ x b f r. search rules) _ _ c.retain.ensures.filtered
+returns g c = filter_same _ (λ r. nat_lt c.args.durable r.number) _ (λ x b f r. search rules) _ _ c.retain.ensures.filtered

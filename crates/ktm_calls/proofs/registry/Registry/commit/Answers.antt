@@ -1,5 +1,5 @@
 use Rattle.ktm_calls.proofs.Answering.{commit_stands, commit_stays}
-use Rattle.ktm_calls.proofs.registry.Registry.commit_transaction.Goals as goal
+use Rattle.ktm_calls.proofs.registry.Registry.commit.Goals as goal
 
 pub returns-clause-stands : goal.returns-clause-stands
 returns-clause-stands g c =
