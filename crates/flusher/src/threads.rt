@@ -1,0 +1,126 @@
+//! Threads that share a registry: a flusher beside the caller, and workers.
+ghost use denote.Param.Send.{IsSend, IsSync};
+ghost use Rattle.std.specs.Prelude.{IfErr};
+ghost use Rattle.ktm_calls.specs.Denials.{IsTurnDenied};
+ghost use Rattle.ktm_calls.specs.Waiting.{IsFailedStep};
+
+use crate::gate::{Gate, RoomGate};
+use crate::turns::{run_flusher, try_run_flusher};
+use ktm_calls::{Denied, Registry, Stopped, StoreEngine, Told};
+use published_trees::Origin;
+use std::sync::Wait;
+use std::thread::{self, Threads};
+
+/// Runs a flusher on a thread of its own while `work` runs on the caller's, and tells it to stop after that. Ends when
+/// both have.
+///
+/// If no thread can be made, the flusher runs after the work.
+pub fn run_beside<
+    E: StoreEngine + Send,
+    O: Origin + Send + Sync,
+    G: Gate + Sync,
+    R: Threads + Wait + Sync,
+    T,
+    F: FnOnce() -> T,
+>(rt: &R, registry: &Registry<E, O>, gate: &G, work: F) -> (T, Result<Stopped, Told>)
+    requires work { F.pre work }
+    ensures done { F.post work result.0 }
+    ensures flushed { IfErr result.1 IsFailedStep }
+{
+    let (flushed, done) = thread::join(
+        rt,
+        || run_flusher(rt, registry, gate),
+        || {
+            let done = work();
+            registry.stop_flusher(rt);
+            done
+        },
+    );
+    (done, flushed)
+}
+
+/// The same with a flusher that begins once so many bytes of the journal's room are used, and at the end.
+pub fn run_beside_from<
+    E: StoreEngine + Send,
+    O: Origin + Send + Sync,
+    R: Threads + Wait + Sync,
+    T,
+    F: FnOnce() -> T,
+>(rt: &R, registry: &Registry<E, O>, room: u64, work: F) -> (T, Result<Stopped, Told>)
+    requires work { F.pre work }
+    ensures done { F.post work result.0 }
+    ensures flushed { IfErr result.1 IsFailedStep }
+{
+    let (flushed, done) = thread::join(
+        rt,
+        || run_flusher(rt, registry, &RoomGate::new(rt, registry, room)),
+        || {
+            let done = work();
+            registry.stop_flusher(rt);
+            done
+        },
+    );
+    (done, flushed)
+}
+
+/// The same as [`run_beside`] for work that is lent, so that it is known what it leaves in its captures, and with a flusher that a step
+/// for which there is no memory ends.
+pub fn try_run_beside<
+    E: StoreEngine + Send,
+    O: Origin + Send + Sync,
+    G: Gate + Sync,
+    R: Threads + Wait + Sync,
+    T,
+    F: FnMut() -> T,
+>(rt: &R, registry: &Registry<E, O>, gate: &G, work: &mut F) -> (T, Result<Stopped, Denied>)
+    requires work { F.pre work.old }
+    ensures done { F.step work.old result.0 work.new }
+    ensures flushed { IfErr result.1 IsTurnDenied }
+{
+    let (flushed, done) = thread::join_mut(
+        rt,
+        &mut || try_run_flusher(rt, registry, gate),
+        &mut || -> T
+            requires { F.pre work.now }
+            ensures { F.step work.entry.now result work.exit.now }
+        {
+            let done = work();
+            registry.stop_flusher(rt);
+            done
+        },
+    );
+    (done, flushed)
+}
+
+/// What each of several threads does with a registry.
+pub trait Worker<E: StoreEngine, O: Origin, R: Wait> {
+    /// The work of the thread of this index.
+    fn work(&self, rt: &R, registry: &Registry<E, O>, index: usize);
+}
+
+/// Runs a worker on so many threads, with the indexes from 0 on, and ends when all have.
+///
+/// What no thread can be made for runs on the caller's, and the threads after it begin when it has ended.
+pub fn run_workers<
+    E: StoreEngine + Send,
+    O: Origin + Send + Sync,
+    W: Worker<E, O, R> + Sync,
+    R: Threads + Wait + Sync,
+>(rt: &R, registry: &Registry<E, O>, worker: &W, count: usize) {
+    thread::scope(
+        thread::scope_env(),
+        rt,
+        |scope|
+            requires { IsSend E.row × IsSync W.row × IsSync R.row }
+        {
+            for index in 0..count {
+                if scope
+                    .spawn(move || worker.work(rt, registry, index))
+                    .is_err()
+                {
+                    worker.work(rt, registry, index);
+                }
+            }
+        },
+    );
+}

@@ -1,0 +1,52 @@
+//! The turns of a flusher.
+ghost use Rattle.std.specs.Prelude.{IfErr};
+ghost use Rattle.ktm_calls.specs.Denials.{IsTurnDenied};
+ghost use Rattle.ktm_calls.specs.Waiting.{IsFailedStep};
+
+use crate::gate::Gate;
+use ktm_calls::{Denied, Registry, Stopped, StoreEngine, Told, Turn};
+use published_trees::Origin;
+use std::sync::Wait;
+use store_model::Reply;
+
+/// Takes turns until it was told to stop and has nothing left to do, or a step is refused since the device failed. A
+/// step for which there is no memory is made again.
+pub fn run_flusher<E: StoreEngine, O: Origin, G: Gate, R: Wait>(
+    rt: &R,
+    registry: &Registry<E, O>,
+    gate: &G,
+) -> Result<Stopped, Told>
+    ensures { IfErr result IsFailedStep }
+{
+    for _ in rt.forever() {
+        match try_run_flusher(rt, registry, gate) {
+            Ok(stopped) => return Ok(stopped),
+            Err(Denied::NoMemory) => {}
+            Err(Denied::Told(told)) => return Err(told),
+        }
+    }
+    unreachable!()
+}
+
+/// The same, but a step for which there is no memory ends it, too.
+pub fn try_run_flusher<E: StoreEngine, O: Origin, G: Gate, R: Wait>(
+    rt: &R,
+    registry: &Registry<E, O>,
+    gate: &G,
+) -> Result<Stopped, Denied>
+    ensures { IfErr result IsTurnDenied }
+{
+    for _ in rt.forever() {
+        gate.before_turn();
+        match registry.turn(rt) {
+            Ok(Turn::Step(told)) => {
+                if let Reply::Stepped { progress } = told.reply() {
+                    gate.after_step(*progress);
+                }
+            }
+            Ok(Turn::Stopped(stopped)) => return Ok(stopped),
+            Err(denied) => return Err(denied),
+        }
+    }
+    unreachable!()
+}
