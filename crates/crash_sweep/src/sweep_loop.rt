@@ -12,7 +12,7 @@ use std::io::{BufRead, Write};
 /// what is left. Writes a table of the numbers that open, each row as soon as it is found. Only one line of the script
 /// is in memory at a time.
 ///
-/// The lines are those of [`play`](script_runner::play), and the steps those of [`run`](script_runner::run). The status
+/// The lines are those of [`play`](script_runner::play), and the steps those of a run over a disk. The status
 /// is clean if each opening gives a number from the last acknowledged change to the last accepted one, with its trees,
 /// and no line was refused.
 ///

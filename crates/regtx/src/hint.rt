@@ -1,10 +1,9 @@
 //! Lines at a terminal: why what the words ask for can't be done.
-use file_disk::{Denial, FileDisk, FileName, LockError, Unknown};
+use crate::store_disk::StoreDisk;
+use file_disk::{Denial, FileName, LockError};
 use std::alloc::Global;
 use std::fmt;
-use std::fs::File;
 use std::io::{self, Eprint};
-use std::rt::Files;
 
 /// Why a file or a folder can't be used.
 #[derive(Clone, Copy, Debug)]
@@ -81,14 +80,11 @@ impl<'a> Hint<'a> {
     }
 
     /// What is missing of a store, if anything.
-    pub fn of_absence<R: Files<File = File> + Drop>(
-        folder: &'a str,
-        disk: &FileDisk<R, Unknown>,
-    ) -> Option<Hint<'a>> {
-        if !disk.has_folder() {
+    pub fn of_absence<D: StoreDisk>(folder: &'a str, disk: &D) -> Option<Hint<'a>> {
+        if !disk.is_there() {
             return Some(Hint::of(folder, Why::NoFolder));
         }
-        let file = disk.missing_file()?;
+        let file = disk.first_missing()?;
         Some(Hint::of_store(folder, Some(file), Why::NoFile))
     }
 

@@ -13,6 +13,7 @@ mod files;
 mod hint;
 mod script_commands;
 mod store_commands;
+mod store_disk;
 mod terminal;
 mod words;
 
@@ -21,8 +22,10 @@ use crate::files::{Source, Target, Trouble, last_error, opened};
 use crate::hint::Hint;
 use crate::script_commands::{InMemory, play_script, run_script};
 use crate::store_commands::{import_store, new_store};
+use crate::store_disk::StoreDisk;
 use crate::terminal::TerminalOutput;
 use crate::words::{Task, parse_task};
+use file_disk::{FileDisk, LockError, Unknown};
 use hive_dump::{DumpError, dump};
 use script_syntax::Status;
 use std::alloc::Global;
@@ -30,36 +33,55 @@ use std::fs::File;
 use std::io::{BufWriter, Eprint};
 use std::process::ExitCode;
 use std::rt::{Env, Files};
+use std::sync::Wait;
+use std::thread::Threads;
 use std::time::Clock;
 use std::{env, io};
 
 fn main(rt: HostRuntime) -> ExitCode {
     let output = TerminalOutput::to(&rt.stderr(), &rt.stdout());
-    let status = match words_given(&rt, rt.alloc()) {
-        Ok(words) => answer(&rt, output, &words),
+    let alloc = rt.alloc();
+    let status = match words_given(&rt, alloc) {
+        Ok(words) => answer(
+            &rt,
+            output,
+            |folder| FileDisk::open_locked(&rt, alloc, folder),
+            &words,
+        ),
         Err(command_error) => print_error(&rt, output, None, &command_error),
     };
     ExitCode::from(status.code())
 }
 
 // does what the words ask for, or reports why that can't be begun
-fn answer<R: Files<File = File> + Print + Eprint + Clock + AllocGlobal>(
-    rt: &R,
-    output: TerminalOutput,
-    words: &[String],
-) -> Status {
-    match run(rt, output, words) {
+fn answer<
+    'a,
+    R: Files<File = File> + Print + Eprint + Clock + AllocGlobal + Threads + Wait + Sync,
+    D: StoreDisk + Drop + Send,
+    F: FnOnce(&'a str) -> Result<D, LockError> + Drop,
+>(rt: &'a R, output: TerminalOutput, opener: F, words: &'a [String]) -> Status
+    requires { F.IsAlwaysCallable opener }
+{
+    match run(rt, output, opener, words) {
         Ok(status) => status,
         Err(command_error) => print_error(rt, output, words.get(1), &command_error),
     }
 }
 
 // does what the words ask for; a write that fails ends it with the status of a refusal
-fn run<'a, R: Files<File = File> + Print + Eprint + Clock + AllocGlobal>(
+fn run<
+    'a,
+    R: Files<File = File> + Print + Eprint + Clock + AllocGlobal + Threads + Wait + Sync,
+    D: StoreDisk + Drop + Send,
+    F: FnOnce(&'a str) -> Result<D, LockError> + Drop,
+>(
     rt: &'a R,
     output: TerminalOutput,
+    opener: F,
     words: &'a [String],
-) -> Result<Status, CommandError<'a>> {
+) -> Result<Status, CommandError<'a>>
+    requires { F.IsAlwaysCallable opener }
+{
     match parse_task(rt.alloc(), words)? {
         Task::Play { script } => play_script(rt, output, InMemory::Play, script),
         Task::Lab { script } => play_script(rt, output, InMemory::Lab, script),
@@ -71,7 +93,7 @@ fn run<'a, R: Files<File = File> + Print + Eprint + Clock + AllocGlobal>(
             id,
             sources,
         } => import_store(rt, output, folder, id, &sources),
-        Task::Run { folder, script } => run_script(rt, output, folder, script),
+        Task::Run { folder, script } => run_script(rt, output, opener, folder, script),
     }
 }
 

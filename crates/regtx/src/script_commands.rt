@@ -7,19 +7,23 @@
 use crate::command_error::CommandError;
 use crate::files::{Source, Trouble};
 use crate::hint::Hint;
+use crate::store_disk::StoreDisk;
 use crate::terminal::{TerminalOutput, end, length_of, reading};
 use crash_lab::lab;
 use crash_sweep::sweep;
 use disk_model::Disk;
-use file_disk::{FileDisk, Unknown};
+use file_disk::LockError;
 use progress_line::{Moved, ProgressLine, WatchedDisk, WatchedReader, Work, WorkStage};
 use refusals::Refusal;
-use script_runner::{play, refuse_script, run, run_unread};
+use registry_runner::{run, run_unread};
+use script_runner::{play, refuse_script};
 use script_syntax::Status;
 use std::alloc::Global;
 use std::fs::File;
 use std::io::{self, BufReader, BufWriter, Eprint, LineWriter, Read, Write};
 use std::rt::Files;
+use std::sync::Wait;
+use std::thread::Threads;
 use std::time::Clock;
 
 /// What is done with a script over a store in memory.
@@ -80,14 +84,22 @@ pub fn play_script<'a, R: Files + Print + Eprint + Clock + AllocGlobal>(
 }
 
 /// Runs the script of this path over the store in a folder, which no other program has open until this ends.
-pub fn run_script<'a, R: Files<File = File> + Print + Eprint + Clock + AllocGlobal>(
+pub fn run_script<
+    'a,
+    R: Files<File = File> + Print + Eprint + Clock + AllocGlobal + Threads + Wait + Sync,
+    D: StoreDisk + Drop + Send,
+    F: FnOnce(&'a str) -> Result<D, LockError>,
+>(
     rt: &R,
     output: TerminalOutput,
+    opener: F,
     folder: &'a str,
     script: &'a str,
-) -> Result<Status, CommandError<'a>> {
+) -> Result<Status, CommandError<'a>>
+    requires { F.pre opener folder }
+{
     let alloc = rt.alloc();
-    let disk = store_in(rt, folder)?;
+    let disk = store_in(opener(folder), folder)?;
     let ran = if is_plain_file(rt, script) {
         let mut writer = BufWriter::new(alloc, io::writer(rt))?;
         run_file(rt, output, (folder, disk), script, &mut writer)?
@@ -99,26 +111,23 @@ pub fn run_script<'a, R: Files<File = File> + Print + Eprint + Clock + AllocGlob
 }
 
 // says what the system refused of a store, or else, if a refusal was printed, which part of the store is missing
-fn hint_at<R: Files<File = File> + Eprint + AllocGlobal>(
+fn hint_at<R: Eprint + AllocGlobal, D: StoreDisk>(
     rt: &R,
     output: TerminalOutput,
     folder: &str,
-    disk: &FileDisk<&R, Unknown>,
+    disk: &D,
     ran: &io::Result<Status>,
 ) {
-    if let Some(denial) = disk.denial() {
+    if let Some(denial) = disk.first_denial() {
         output.hint(rt, Hint::of_denial(folder, Some(denial)));
     } else if !matches!(ran, Ok(Status::Clean)) {
         output.hint(rt, Hint::of_absence(folder, disk));
     }
 }
 
-// the files of the store in a folder, as a disk
-fn store_in<'a, 'b, R: Files<File = File> + AllocGlobal>(
-    rt: &'b R,
-    folder: &'a str,
-) -> Result<FileDisk<&'b R, Unknown>, CommandError<'a>> {
-    match FileDisk::open_locked(rt, rt.alloc(), folder) {
+// the files of the store in a folder, as a disk, if it could be opened
+fn store_in<'a, D>(opened: Result<D, LockError>, folder: &'a str) -> Result<D, CommandError<'a>> {
+    match opened {
         Ok(disk) => Ok(disk),
         Err(lock_error) => match Hint::of_lock_error(folder, &lock_error) {
             Some(hint) => Err(CommandError::CannotOpenStore(hint)),
@@ -170,17 +179,22 @@ fn hint_unread<R: Eprint + AllocGlobal>(
 }
 
 // runs the script over the store in a folder; the inner answer reports writes that failed
-fn run_file<'a, 'b, R: Files<File = File> + Eprint + Clock + AllocGlobal, W: Write>(
-    rt: &'b R,
+fn run_file<
+    'a,
+    R: Files<File = File> + Eprint + Clock + AllocGlobal + Threads + Wait + Sync,
+    D: StoreDisk + Drop + Send,
+    W: Write,
+>(
+    rt: &R,
     output: TerminalOutput,
-    store: (&'a str, FileDisk<&'b R, Unknown>),
+    store: (&'a str, D),
     script: &'a str,
     writer: &mut W,
 ) -> Result<io::Result<Status>, CommandError<'a>> {
     let (folder, mut disk) = store;
     let opening = WorkStage {
         work: Work::Opening,
-        whole: Some(disk.store_bytes()),
+        whole: Some(disk.bytes()),
     };
     let trouble = Trouble::new(None);
     let line = output.line(rt, opening);
@@ -193,7 +207,12 @@ fn run_file<'a, 'b, R: Files<File = File> + Eprint + Clock + AllocGlobal, W: Wri
 }
 
 // the same, with a line for it if there is one
-fn run_watched<'a, R: Files + Eprint + Clock + AllocGlobal, D: Disk + Drop, W: Write>(
+fn run_watched<
+    'a,
+    R: Files + Eprint + Clock + AllocGlobal + Threads + Wait + Sync,
+    D: Disk + Drop + Send,
+    W: Write,
+>(
     rt: &R,
     disk: D,
     script: &'a str,
@@ -208,11 +227,11 @@ fn run_watched<'a, R: Files + Eprint + Clock + AllocGlobal, D: Disk + Drop, W: W
             let source = Source::new(file, trouble);
             let source = WatchedReader::new(source, line, Some(reading(rt, Work::Run, script)));
             let mut reader = BufReader::new(alloc, source)?;
-            run(alloc, disk, &mut reader, writer)
+            run(rt, alloc, disk, &mut reader, writer)
         }
         Err(error) => {
             trouble.set(Some(error));
-            run_unread(alloc, disk, writer)
+            run_unread(rt, alloc, disk, writer)
         }
     };
     Ok((disk.into_disk(), ran))

@@ -7,6 +7,4 @@ pub mod Runs
 mod Waited
 mod Worked
 mod Later
-mod Told
-mod Played
 mod Ran

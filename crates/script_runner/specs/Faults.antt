@@ -1,6 +1,5 @@
 -- Replies that report the device, and machines reached from others.
-use Rattle.std.specs.Prelude.{◌≡◌, Bool, true, false, List, Option, IfSome}
-use Rattle.refusals.specs.declared.refusal.Refusal.{Refusal}
+use Rattle.std.specs.Prelude.{◌≡◌, Bool, true, false, List}
 use Rattle.script_syntax.specs.declared.reply.ReplyLine.{ReplyLine}
 use Rattle.script_syntax.specs.declared.reply.ReplyLine.TheVariants as reply
 use Rattle.store_model.specs.Machine.{Machine, is_of_device}
@@ -12,14 +11,6 @@ use Rattle.store_model.specs.declared.event.Reply.{Reply}
 abbrev pub is_device_reply : ReplyLine → Bool
 is_device_reply (reply.Refused refusal) = is_of_device refusal
 is_device_reply _ = false
-
--- a reply reports the device only if it has failed
-abbrev pub IsDeviceReplyOnlyIf : Type 0 → ReplyLine → Type 0
-IsDeviceReplyOnlyIf failed reported = is_device_reply reported ≡ true → failed
-
--- the same of a refusal, if there is one
-abbrev pub IsDeviceRefusalOnlyIf : Type 0 → Option Refusal → Type 0
-IsDeviceRefusalOnlyIf failed ended = IfSome ended (λ refusal. is_of_device refusal ≡ true → failed)
 
 -- a machine was reached from another by some events and their answers
 abbrev pub ReachedByEvents : Machine → Machine → Type 0

@@ -1,17 +1,9 @@
--- The run of a script over the store that is on a disk: what is written, and with which status.
-use Rattle.std.specs.Prelude.{◌≡◌, ◌⊎◌, ℕ, ◌+◌, ◌<◌, Bool, true, false, List, length, [], ◌++◌, ◌∷◌, if◌then◌else◌, Option, Some, None, is_some, codes}
+-- The opening of the store that is on a disk, and what a run leaves of it.
+use Rattle.std.specs.Prelude.{◌≡◌, ◌⊎◌, ℕ, ◌+◌, ◌<◌, true, false, List, length, [], ◌∷◌, ◌++◌, codes}
 use Rattle.std.specs.Fmt.{decimal}
-use Rattle.std.specs.Io.KnownBytes.{Appends}
-use Rattle.refusals.specs.Refusals.{refusal_text}
 use Rattle.refusals.specs.declared.refusal.Refusal.{Refusal}
-use Rattle.refusals.specs.declared.refusal.Refusal.TheVariants.{NoMemory, DiskFault, Faulted}
+use Rattle.refusals.specs.declared.refusal.Refusal.TheVariants.{NoMemory, DiskFault}
 use Rattle.reg_tree.specs.Maps.{TreeMap}
-use Rattle.script_syntax.specs.Replies.{reply_line}
-use Rattle.script_syntax.specs.Statuses.{with_refusal}
-use Rattle.script_syntax.specs.declared.line.Line.TheVariants.{Flush}
-use Rattle.script_syntax.specs.declared.reply.ReplyLine.{ReplyLine}
-use Rattle.script_syntax.specs.declared.status.Status.{Status}
-use Rattle.script_syntax.specs.declared.status.Status.TheVariants.{Refused}
 use Rattle.crash_model.specs.Promises.{Content}
 use Rattle.change_codec.specs.ModelChanges.{TimedOp}
 use Rattle.commit_journal.specs.Store.{Store, room_of}
@@ -19,16 +11,10 @@ use Rattle.store_model.specs.Machine.{Machine, bounds_of, opened_machine}
 use Rattle.commit_journal.specs.Journals.{choice_of}
 use Rattle.recovery.specs.Recovered.{IsNoStore, IsRecovered, seen_in}
 use Rattle.recovery.specs.Shown.{Shown}
-use Rattle.script_runner.specs.Scripts.{Script, Answers, script_at}
-use Rattle.script_runner.specs.Plays.{PlaysOn, is_refusal}
-use Rattle.script_runner.specs.Faults.{IsDeviceRefusalOnlyIf, IsDeviceReplyOnlyIf}
-use Rattle.script_runner.specs.Work.{MakesSteps}
 use Rattle.disk_model.specs.FileState.{FileState}
 use Rattle.disk_model.specs.StoreFiles.{journal_file}
 use Rattle.engine_invariant.specs.Prefixes.{IsPrefix, IsSafeAt, JournalDecodesTo}
 use Rattle.engine.specs.Lives.{ReachedFromOpening, IsLife, IsSafe, Life, ReadsSafely, end_of, faulted_in}
-use Rattle.script_runner.specs.declared.end_of_script.EndOfScript.{EndOfScript}
-use Rattle.script_runner.specs.declared.background_work.FlushPolicy.TheVariants.{WhenHalfFull}
 
 -- the machine of a store that was opened at a number and trees, whose journal takes `room` bytes, with these sessions
 -- open
@@ -64,81 +50,9 @@ MayNotOpen failed faithful files why = (why ≡ NoMemory) ⊎ (((why ≡ DiskFau
 abbrev pub opened_text : ℕ → List ℕ
 opened_text number = codes "opened " ++ decimal number ++ codes "\n"
 
--- a flush that no line asked for is reported if it is refused
-abbrev pub flushed_text : ReplyLine → List ℕ
-flushed_text reported = if is_refusal reported then reply_line reported else []
-
--- A store was opened, and its number reported: the script begins on it.
-pub record HasBegun (faithful : Type 0) (files : ℕ → List ℕ) (store : Store) (before after : Option (List ℕ)) (script : Script) : Type 0 where
-  pub number : ℕ
-  pub machine : Machine
-  pub opened : IsOpenedOn faithful files store number session_0 machine
-  pub script_is : script ≡ script_at machine
-  pub reported : Appends before after (opened_text number)
-
--- No store was opened: the reason is reported.
-pub record IsUnopened (failed faithful : Type 0) (files : ℕ → List ℕ) (before after : Option (List ℕ)) (status : Status) : Type 0 where
-  pub why : Refusal
-  pub may : MayNotOpen failed faithful files why
-  pub reported : Appends before after (refusal_text why ++ 10 ∷ [])
-  pub status_is : status ≡ Refused
-
--- What is left undone when a run ends, of the steps that no line asked for: the device failed in one between two lines;
--- else what ended the steps of the end. `Faulted` says that the device failed earlier, which was reported then.
-abbrev pub undone : Bool → Option Refusal → Option Refusal
-undone true ended = Some DiskFault
-undone false (Some Faulted) = None
-undone false ended = ended
-
--- the last line, if something is left undone
-abbrev pub undone_text : Option Refusal → List ℕ
-undone_text None = []
-undone_text (Some why) = refusal_text why ++ 10 ∷ []
-
 -- From a machine on: it is faulted, or the failures of the device rise.
 abbrev pub HasFailedSince : Machine → ℕ → ℕ → Type 0
 HasFailedSince machine before after = (machine.faulted ≡ true) ⊎ (before < after)
-
--- From a script on: the device failed in a step that no line asked for, or the same of its machine.
-abbrev pub MayHaveFailed : Script → ℕ → ℕ → Type 0
-MayHaveFailed script before after = (script.failed ≡ true) ⊎ HasFailedSince script.machine before after
-
--- A script that reached this status ends: all is flushed, and then the store continues its work. What is left of it
--- holds of its machine then. The flush is reported if it is refused, and then what is left undone. Neither reports the
--- device unless it has failed.
-pub record HasEnded (failed : Type 0) (IsLeft : Machine → Type 0) (script : Script) (came_to : Status) (before after : Option (List ℕ)) (status : Status) : Type 0 where
-  pub reported : ReplyLine
-  pub last : Script
-  pub flushed : Answers script Flush reported last
-  pub may : IsDeviceReplyOnlyIf failed reported
-  pub machine : Machine
-  pub ended : Option Refusal
-  pub worked : MakesSteps ended last.machine machine
-  pub only : IsDeviceRefusalOnlyIf failed (undone last.failed ended)
-  pub left : IsLeft machine
-  pub wrote : Appends before after (flushed_text reported ++ undone_text (undone last.failed ended))
-  pub status_is : status ≡ with_refusal (is_some (undone last.failed ended)) (with_refusal (is_refusal reported) came_to)
-
--- A store was opened; these lines were played over it, up to this end of the script, while it freed its room; and at
--- the end all was flushed. A reply reports the device only if it has failed. What is left holds of the store and of its
--- machine at the end.
-pub record RunsOver (failed faithful : Type 0) (IsLeft : Store → Machine → Type 0) (files : ℕ → List ℕ) (lines : List (List ℕ)) (end_of_script : Option EndOfScript) (before after : Option (List ℕ)) (status : Status) : Type 0 where
-  pub store : Store
-  pub script : Script
-  pub opened : Option (List ℕ)
-  pub begins : HasBegun faithful files store before opened script
-  pub text : List ℕ
-  pub came_to : Status
-  pub end : Script
-  pub plays : PlaysOn (IsDeviceReplyOnlyIf failed) WhenHalfFull script 1 lines end_of_script text came_to end
-  pub played : Option (List ℕ)
-  pub wrote : Appends opened played text
-  pub ends : HasEnded failed (IsLeft store) end came_to played after status
-
--- A run: no store was opened, or the lines were played over one, of which this is left.
-abbrev pub IsRun : Type 0 → Type 0 → (Store → Machine → Type 0) → (ℕ → List ℕ) → List (List ℕ) → Option EndOfScript → Option (List ℕ) → Option (List ℕ) → Status → Type 0
-IsRun failed faithful IsLeft files lines end_of_script before after status =
-    IsUnopened failed faithful files before after status ⊎ RunsOver failed faithful IsLeft files lines end_of_script before after status
 
 -- If a disk that has these states is faithful, whatever a crash leaves of it at its last moment recovers one number and
 -- the trees after the accepted changes up to it. The number is not below the machine's durable one. What a read gives

@@ -31,19 +31,22 @@ impl FlushPolicy {
         matches!(self, FlushPolicy::OnRequest)
     }
 
-    /// Whether a store with this policy waits for the disk at this line: at a `commit` and at a `flush`. A store in
-    /// memory waits for nothing.
+    /// Whether a store with this policy waits for the disk at this line. A store in memory waits for nothing.
     pub(crate) fn waits_at(self, line: &[u8]) -> bool {
         match self {
             FlushPolicy::OnRequest => false,
-            FlushPolicy::WhenHalfFull => line == b"flush".as_slice()
-                || line.starts_with(b"commit "),
+            FlushPolicy::WhenHalfFull => waits_for_disk(line),
         }
     }
 }
 
+/// Whether a line waits for the disk, if the store is on one: a `commit` and a `flush` do.
+pub fn waits_for_disk(line: &[u8]) -> bool {
+    line == b"flush".as_slice() || line.starts_with(b"commit ")
+}
+
 /// The used room in bytes from which on a store frees it between two lines.
-const BUSY_ROOM: u64 = MOST_JOURNAL_BYTES / 2;
+pub const BUSY_ROOM: u64 = MOST_JOURNAL_BYTES / 2;
 
 /// What a store does between two lines, by this policy. Answers the refusal that ended it, if one did.
 ///

@@ -9,7 +9,7 @@ use store_model::Tx;
 
 /// The transaction that each label names. A label has room here before it names one, so that naming takes no memory.
 #[derive(Drop)]
-pub(crate) struct Labels {
+pub struct Labels {
     named: BTreeMap<[u8; LONGEST_LABEL], Option<Tx>>,
 }
 
@@ -17,7 +17,7 @@ impl Labels {
     ghost use Rattle.script_runner.specs.Labels.{named_by, HasRoom, NamesNothing};
 
     /// No label names anything.
-    pub(crate) fn new(alloc: Global) -> Labels
+    pub fn new(alloc: Global) -> Labels
         ensures { NamesNothing result }
     {
         Labels {
@@ -26,7 +26,7 @@ impl Labels {
     }
 
     /// The transaction that the label names.
-    pub(crate) fn tx(&self, label: Label) -> Option<Tx>
+    pub fn tx(&self, label: Label) -> Option<Tx>
         ensures { result ≡ named_by self.now label }
     {
         match self.named.get(&label.bytes()) {
@@ -36,7 +36,7 @@ impl Labels {
     }
 
     /// Makes room for the label. Each label names what it named.
-    pub(crate) fn make_room(&mut self, label: Label) -> Result<(), AllocError>
+    pub fn make_room(&mut self, label: Label) -> Result<(), AllocError>
         ensures room { OnOk result (HasRoom self.new label) }
         ensures same { SameNames (named_by self.old) (named_by self.new) }
         ensures err { OnErr result (named_by self.new ≡ named_by self.old) }
@@ -49,7 +49,7 @@ impl Labels {
     }
 
     /// Lets the label name the transaction.
-    pub(crate) fn name(&mut self, label: Label, tx: Tx)
+    pub fn name(&mut self, label: Label, tx: Tx)
         requires { HasRoom self.old label }
         ensures { Names (named_by self.old) (named_by self.new) label tx }
     {

@@ -1,9 +1,8 @@
-//! The parts of the program: the run of a script over a store.
+//! The parts of the program: a script over a store.
 //!
 //! [`play`] reads a script line by line, and writes the reply to each line, over a store of its own on a disk in
-//! memory. [`run`] does so over the store that is on a disk. What they write is stated by the grammar of
-//! `script_syntax`, the answers by the machine of `store_model`, which knows no bytes. `specs/Scripts` states what a
-//! line asks of the machine, and `specs/Plays` and `specs/Running` state the text.
+//! memory. What it writes is stated by the grammar of `script_syntax`, the answers by the machine of `store_model`,
+//! which knows no bytes. `specs/Scripts` states what a line asks of the machine, and `specs/Plays` states the text.
 //!
 //! The parts of a run are public, for other kinds of runs. [`begin_on`] makes the store that a script's first line asks
 //! for, on a disk in memory that fails as a plan says. [`open_store`] opens the store that is on a disk, and
@@ -21,14 +20,17 @@ mod operation;
 mod replies;
 mod runner;
 mod store_opening;
-mod store_run;
 mod store_setup;
 
-pub use background_work::{FlushPolicy, frees_room, next_step, run_until_idle};
+pub use background_work::{
+    BUSY_ROOM, FlushPolicy, frees_room, next_step, run_until_idle, waits_for_disk,
+};
 pub use end_of_script::EndOfScript;
 pub use interpreter::Interpreter;
+pub use labels::Labels;
+pub use operation::{Operation, operation_of};
+pub use replies::reply_of;
 pub use runner::{end, is_refusal, next_line, play, refuse_script, wrong};
 pub use script_syntax::Status;
 pub use store_opening::{open_engine, open_store};
-pub use store_run::{run, run_unread};
 pub use store_setup::{begin_on, make_journal_room};

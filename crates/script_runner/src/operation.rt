@@ -12,7 +12,7 @@ use store_model::Question;
 
 /// What a request asks for.
 #[derive(Drop)]
-pub(crate) enum Operation {
+pub enum Operation {
     /// An operation is to be carried out.
     Write {
         /// The operation.
@@ -31,7 +31,7 @@ pub(crate) enum Operation {
 
 /// What the request asks for. Its path is tested first, then a value's name: refused as the test refuses them, and with
 /// `NoMemory`.
-pub(crate) fn operation_of(alloc: Global, request: Request) -> Result<Operation, Refusal>
+pub fn operation_of(alloc: Global, request: Request) -> Result<Operation, Refusal>
     ensures ok { IfOk result (λ asked. operation_of request ≡ Ok asked) }
     ensures refused { IfErr result (λ refusal. (operation_of request ≡ Err refusal)
         ⊎ (refusal ≡ NoMemory)) }

@@ -10,7 +10,7 @@ use store_model::{Outcome, Progress, ReadResult, Reply};
 
 /// The reply to the line that asked. A change that is to be waited for is reported as accepted, for the lines that wait
 /// have replies of their own. A receipt is no line's reply, and no line asks for a subkey by its index.
-pub(crate) fn reply_of(answer: Reply) -> ReplyLine
+pub fn reply_of(answer: Reply) -> ReplyLine
     ensures { result ≡ reply_of answer }
 {
     match answer {

@@ -1,0 +1,16 @@
+-- The answer to a line, whichever line it is.
+use Rattle.std.proofs.Common.{◌≡◌, ℕ, List, Some, Result, Ok, sym, ◌∙◌, subst}
+use Rattle.std.specs.Prelude.{IfOk}
+use Rattle.refusals.specs.declared.refusal.Refusal.{Refusal}
+use Rattle.reg_tree.specs.Maps.{TreeMap}
+use Rattle.script_syntax.specs.declared.line.Line.{Line}
+use Rattle.script_syntax.specs.declared.reply.ReplyLine.{ReplyLine}
+use Rattle.script_runner.specs.Scripts.{later_line}
+use Rattle.registry_runner.specs.Scripts.{Script, Answers}
+
+-- what was reported for one of a script's later lines is an answer to the line
+pub carried : (trees : List TreeMap) (number : ℕ) (old new then : Script) (line one : Line) (result reported : Result ReplyLine Refusal) (reply : ReplyLine) → line ≡ one → later_line (Some one) ≡ Some one → reported ≡ result → reported ≡ Ok reply → then ≡ new → IfOk result (λ t. Answers trees number old one t new)
+    → (later_line (Some line) ≡ Some line) × Answers trees number old line reply then
+carried trees number old new then line one result reported reply is later from ok same said =
+    let here = subst (λ r. IfOk r (λ t. Answers trees number old one t new)) (sym from ∙ ok) said in
+    subst (λ l. (later_line (Some l) ≡ Some l) × Answers trees number old l reply then) (sym is) (later, subst (λ s. Answers trees number old one reply s) (sym same) here)

@@ -1,0 +1,4 @@
+mod Hearing
+mod Answered
+mod Playing
+mod Ending

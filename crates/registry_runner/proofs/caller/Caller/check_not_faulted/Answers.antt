@@ -1,0 +1,11 @@
+use Rattle.store_model.specs.declared.event.Event.TheVariants as event
+use Rattle.registry_runner.specs.Scripts.{MayNotEnter}
+use Rattle.registry_runner.proofs.Hearing.{err_so}
+use Rattle.registry_runner.proofs.caller.Caller.check_not_faulted.Goals as goal
+
+pub returns : goal.returns
+returns g c =
+    let O = g.O.Origin in
+    let nobody = c.closed_session-nobody.result in
+    err_so (MayNotEnter O.trees O.number) c.unless_closed.result c.refusal_of.result c.unless_closed.ensures
+    (c.refusal_of.ensures O.trees O.number nobody.list c.create_transaction-begun.new.session.list (event.Begin nobody.number c.nil.result) c.in-Err.ensures.denied)

@@ -1,0 +1,74 @@
+-- What a call of the registry answers, as the reply to the line that made it.
+use Rattle.std.specs.Prelude.{◌≡◌, ℕ, ◌⊎◌, List, Option, Some, Result, Ok, Err}
+use mathlib.Core.List.{IsPrefix}
+use Rattle.refusals.specs.declared.refusal.Refusal.{Refusal}
+use Rattle.refusals.specs.declared.refusal.Refusal.TheVariants.{NoMemory, NoSuchHandle}
+use Rattle.reg_tree.specs.Maps.{TreeMap}
+use Rattle.reg_tree.specs.Sequences.{after_elements}
+use Rattle.script_runner.specs.Scripts.{found_reply, reply_of}
+use Rattle.script_runner.specs.declared.operation.Operation.{Operation}
+use Rattle.script_runner.specs.declared.operation.Operation.TheVariants.{Write, Read}
+use Rattle.script_syntax.specs.declared.reply.ReplyLine.{ReplyLine}
+use Rattle.script_syntax.specs.declared.reply.ReplyLine.TheVariants as reply
+use Rattle.store_model.specs.Machine.{looked_up, read_refusal}
+use Rattle.store_model.specs.declared.event.Event.{Event}
+use Rattle.store_model.specs.declared.event.Event.TheVariants as event
+use Rattle.store_model.specs.declared.event.ReadResult.{ReadResult}
+use Rattle.store_model.specs.declared.handle.Tx.{Tx}
+use Rattle.ktm_calls.specs.Denials.{IsCommitDenied}
+use Rattle.ktm_calls.specs.Kinds.{Told}
+use Rattle.ktm_calls.specs.Moments.{NumberedList, Tells, TellsDurably}
+use Rattle.ktm_calls.specs.declared.registry.Denied.{Denied}
+use Rattle.ktm_calls.specs.declared.registry.Denied.TheVariants as denied
+
+-- the reply to a line whose call was denied, and to one whose call is answered by what was told
+abbrev pub denied_reply : Denied → ReplyLine
+denied_reply denied.NoMemory = reply.Refused NoMemory
+denied_reply (denied.Told told) = reply_of told.reply
+
+abbrev pub told_reply : Result Told Denied → ReplyLine
+told_reply (Ok told) = reply_of told.reply
+told_reply (Err why) = denied_reply why
+
+-- a session goes on: its number stays, and what it has seen is a beginning of what it has seen then
+pub record GoesOn (old new : NumberedList) : Type 0 where
+  pub number : new.number ≡ old.number
+  pub seen : IsPrefix old.list new.list
+
+-- There was no memory. Or a machine of the registry answered the event, with all that the session has seen before and
+-- after it, and the reply tells its answer.
+abbrev pub IsHeard : List TreeMap → ℕ → NumberedList → Event → ReplyLine → NumberedList → Type 0
+IsHeard trees number old event reported new =
+    (reported ≡ reply.Refused NoMemory) ⊎ ((told : Told) × Tells trees number old.list new.list event told × (reported ≡ reply_of told.reply))
+
+abbrev pub Hears : List TreeMap → ℕ → NumberedList → Event → ReplyLine → NumberedList → Type 0
+Hears trees number old event reported new = GoesOn old new × IsHeard trees number old event reported new
+
+-- The event was answered with a number, and that number is durable: the reply tells it. Or the reply tells why not.
+abbrev pub IsHeardDurably : List TreeMap → ℕ → NumberedList → Event → (ℕ → ReplyLine) → ReplyLine → NumberedList → Type 0
+IsHeardDurably trees number old event tell reported new =
+    ((receipt : NumberedList) × (told : Told) × TellsDurably trees number old.list new.list event receipt told × (reported ≡ tell receipt.number))
+    ⊎ ((why : Denied) × IsCommitDenied trees number old.list event why × (reported ≡ denied_reply why))
+
+abbrev pub HearsDurably : List TreeMap → ℕ → NumberedList → Event → (ℕ → ReplyLine) → ReplyLine → NumberedList → Type 0
+HearsDurably trees number old event tell reported new = GoesOn old new × IsHeardDurably trees number old event tell reported new
+
+-- why a read may be refused: there was no memory, the session isn't open, or there is no such hive, key or value
+abbrev pub MayNotRead : Option ReadResult → Refusal → Type 0
+MayNotRead there why = (why ≡ NoMemory) ⊎ (why ≡ NoSuchHandle) ⊎ (read_refusal there ≡ Some why)
+
+-- a read alone answers what is there after the changes that the session has seen then
+abbrev pub ReadsSeen : Option ReadResult → ReplyLine → Type 0
+ReadsSeen there reported =
+    ((found : ReadResult) × (there ≡ Some found) × (reported ≡ found_reply found)) ⊎ ((why : Refusal) × MayNotRead there why × (reported ≡ reply.Refused why))
+
+-- a request alone, at a moment
+abbrev pub HearsAlone : List TreeMap → ℕ → ℕ → NumberedList → Operation → ReplyLine → NumberedList → Type 0
+HearsAlone trees number moment old (Write op) reported new = Hears trees number old (event.Write old.number moment op) reported new
+HearsAlone trees number moment old (Read hive path question) reported new =
+    GoesOn old new × ReadsSeen (looked_up (after_elements trees new.list) hive path question) reported
+
+-- the same in a transaction
+abbrev pub HearsInside : List TreeMap → ℕ → ℕ → Tx → NumberedList → Operation → ReplyLine → NumberedList → Type 0
+HearsInside trees number moment tx old (Write op) reported new = Hears trees number old (event.TxWrite old.number tx moment op) reported new
+HearsInside trees number moment tx old (Read hive path question) reported new = Hears trees number old (event.TxRead old.number tx hive path question) reported new

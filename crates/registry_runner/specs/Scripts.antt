@@ -1,0 +1,119 @@
+-- What the lines of a script ask of a registry, and the replies to them.
+use Rattle.std.specs.Prelude.{◌≡◌, ℕ, ◌⊎◌, List, [], Option, Some, None, Result, Ok, Err}
+use Rattle.refusals.specs.declared.refusal.Refusal.{Refusal}
+use Rattle.refusals.specs.declared.refusal.Refusal.TheVariants.{NoMemory, NoSuchHandle}
+use Rattle.reg_tree.specs.Maps.{TreeMap}
+use Rattle.reg_tree.specs.declared.element.Element.{Element}
+use Rattle.script_runner.specs.Requests.{operation_of}
+use Rattle.script_runner.specs.Scripts.{Names, SameNames}
+use Rattle.script_runner.specs.declared.operation.Operation.{Operation}
+use Rattle.script_syntax.specs.declared.line.Line.{Line}
+use Rattle.script_syntax.specs.declared.line.Line.TheVariants.{Hives, At, Session, End, Plain, Begin, Inside, Commit, Rollback, Close, Outcome, Flush, Lab}
+use Rattle.script_syntax.specs.declared.reply.ReplyLine.{ReplyLine}
+use Rattle.script_syntax.specs.declared.reply.ReplyLine.TheVariants as reply
+use Rattle.store_model.specs.declared.event.Event.{Event}
+use Rattle.store_model.specs.declared.event.Event.TheVariants as event
+use Rattle.store_model.specs.declared.event.Reply.TheVariants as answer
+use Rattle.store_model.specs.declared.handle.Tx.{Tx}
+use Rattle.ktm_calls.specs.Kinds.{Told}
+use Rattle.ktm_calls.specs.Moments.{NumberedList, Tells}
+use Rattle.registry_runner.specs.Heard.{GoesOn, Hears, HearsAlone, HearsDurably, HearsInside, IsHeard}
+
+-- a script between two lines: the moment of what follows, the session in which it is asked, and the transaction that
+-- each label names
+pub record Script : Type 0 where
+  pub moment : ℕ
+  pub session : NumberedList
+  pub labels : List ℕ → Option Tx
+
+-- a refusal that changes nothing
+abbrev pub IsRefused : Script → Refusal → ReplyLine → Script → Type 0
+IsRefused old refusal reported new = (reported ≡ reply.Refused refusal) × (new ≡ old)
+
+-- memory for a name or a label may be refused
+abbrev pub OrNoMemory : Script → ReplyLine → Script → Type 0 → Type 0
+OrNoMemory old reported new heard = heard ⊎ IsRefused old NoMemory reported new
+
+-- a name that isn't allowed is refused, and else what the request asks for is asked
+abbrev pub IsNamed : Result Operation Refusal → (Operation → Type 0) → Script → ReplyLine → Script → Type 0
+IsNamed (Ok asked) asks old reported new = asks asked
+IsNamed (Err refusal) asks old reported new = IsRefused old refusal reported new
+
+-- a label that names nothing is refused, and else its transaction is asked about
+abbrev pub IsLabelled : Option Tx → (Tx → Type 0) → Script → ReplyLine → Script → Type 0
+IsLabelled (Some tx) asks old reported new = asks tx
+IsLabelled None asks old reported new = IsRefused old NoSuchHandle reported new
+
+-- of the script only what its session has seen changes
+abbrev pub InSession : Script → Script → Type 0
+InSession old new = new ≡ record old { session = new.session }
+
+abbrev pub Asks : List TreeMap → ℕ → Script → Event → ReplyLine → Script → Type 0
+Asks trees number old event reported new = Hears trees number old.session event reported new.session × InSession old new
+
+abbrev pub AsksDurably : List TreeMap → ℕ → Script → Event → (ℕ → ReplyLine) → ReplyLine → Script → Type 0
+AsksDurably trees number old event tell reported new = HearsDurably trees number old.session event tell reported new.session × InSession old new
+
+abbrev pub AsksAlone : List TreeMap → ℕ → Script → Operation → ReplyLine → Script → Type 0
+AsksAlone trees number old asked reported new = HearsAlone trees number old.moment old.session asked reported new.session × InSession old new
+
+abbrev pub AsksInside : List TreeMap → ℕ → Script → Tx → Operation → ReplyLine → Script → Type 0
+AsksInside trees number old tx asked reported new = HearsInside trees number old.moment tx old.session asked reported new.session × InSession old new
+
+-- Why no session is opened: there is no memory, or a machine of the registry refused the event so; or the one that is
+-- asked for is open, and a machine refused another event so
+abbrev pub MayNotEnter : List TreeMap → ℕ → Refusal → Type 0
+MayNotEnter trees number why =
+    (why ≡ NoMemory) ⊎ ((event : Event) × (was is : List Element) × (told : Told) × Tells trees number was is event told × (told.reply ≡ answer.Refused why))
+
+-- another session is the current one, or none is opened
+abbrev pub Enters : List TreeMap → ℕ → Script → ReplyLine → Script → Type 0
+Enters trees number old reported new =
+    ((reported ≡ reply.Done) × InSession old new) ⊎ ((why : Refusal) × MayNotEnter trees number why × IsRefused old why reported new)
+
+-- a session that is open ends, or none of this number is open; if it was the current one, another is, which isn't open
+abbrev pub Ends : List TreeMap → ℕ → Script → ReplyLine → Script → Type 0
+Ends trees number old reported new =
+    IsRefused old NoSuchHandle reported new
+    ⊎ ((session : ℕ) × (is : List Element) × IsHeard trees number (record { number = session; list = [] }) (event.EndSession session) reported (record { number = session; list = is }) × InSession old new)
+
+-- a transaction is begun, and the label names it from now on
+pub record Begins (trees : List TreeMap) (number : ℕ) (old : Script) (label id : List ℕ) (reported : ReplyLine) (new : Script) : Type 0 where
+  pub tx : Tx
+  pub told : Told
+  pub tells : Tells trees number old.session.list new.session.list (event.Begin old.session.number id) told
+  pub begun : told.reply ≡ answer.Begun tx
+  pub goes_on : GoesOn old.session new.session
+  pub done : reported ≡ reply.Done
+  pub rest : new ≡ record old { session = new.session; labels = new.labels }
+  pub names : Names old.labels new.labels label tx
+
+-- no transaction is begun, and each label names what it named
+pub record BeginsNothing (trees : List TreeMap) (number : ℕ) (old : Script) (id : List ℕ) (reported : ReplyLine) (new : Script) : Type 0 where
+  pub hears : Hears trees number old.session (event.Begin old.session.number id) reported new.session
+  pub rest : new ≡ record old { session = new.session; labels = new.labels }
+  pub names : SameNames old.labels new.labels
+
+-- From old, the line may be answered this reply over a registry whose list begins with these trees after this number,
+-- and leave new. Its names are tested first: the path, then a value's name; then its label.
+abbrev pub Answers : List TreeMap → ℕ → Script → Line → ReplyLine → Script → Type 0
+Answers trees number old (Hives count) reported new = ⊥
+Answers trees number old (At moment) reported new = (reported ≡ reply.Done) × (new ≡ record old { moment = moment })
+Answers trees number old (Session wanted) reported new = Enters trees number old reported new
+Answers trees number old (End wanted) reported new = Ends trees number old reported new
+Answers trees number old (Plain request) reported new =
+    OrNoMemory old reported new (IsNamed (operation_of request) (λ asked. AsksAlone trees number old asked reported new) old reported new)
+Answers trees number old (Inside label request) reported new =
+    OrNoMemory old reported new (IsNamed (operation_of request) (λ asked. IsLabelled (old.labels label) (λ tx. AsksInside trees number old tx asked reported new) old reported new) old reported new)
+Answers trees number old (Begin label id) reported new =
+    OrNoMemory old reported new (Begins trees number old label id reported new ⊎ BeginsNothing trees number old id reported new)
+Answers trees number old (Commit label) reported new =
+    IsLabelled (old.labels label) (λ tx. AsksDurably trees number old (event.CommitAccept old.session.number tx old.moment) reply.Committed reported new) old reported new
+Answers trees number old (Rollback label) reported new =
+    IsLabelled (old.labels label) (λ tx. Asks trees number old (event.Rollback old.session.number tx) reported new) old reported new
+Answers trees number old (Close label) reported new =
+    IsLabelled (old.labels label) (λ tx. Asks trees number old (event.Close old.session.number tx) reported new) old reported new
+Answers trees number old (Outcome label) reported new =
+    IsLabelled (old.labels label) (λ tx. Asks trees number old (event.Outcome old.session.number tx) reported new) old reported new
+Answers trees number old Flush reported new = AsksDurably trees number old event.FlushAsk reply.Flushed reported new
+Answers trees number old (Lab line) reported new = ⊥

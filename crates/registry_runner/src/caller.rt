@@ -1,0 +1,155 @@
+//! The registry as a script calls it, and the replies to lines.
+ghost use Rattle.std.specs.Prelude.{◌≡◌, ℕ, List, IfErr, IfOk};
+ghost use Rattle.reg_tree.specs.Maps.{TreeMap};
+ghost use Rattle.reg_tree.specs.declared.element.Element.{Element};
+ghost use Rattle.store_model.specs.declared.event.Event.{Event};
+ghost use Rattle.ktm_calls.specs.Denials.{IsDenied, IsOpened};
+ghost use Rattle.ktm_calls.specs.Kinds.{Told as AnyTold};
+ghost use Rattle.registry_runner.specs.Heard.{HearsAlone, HearsInside, denied_reply, told_reply};
+ghost use Rattle.registry_runner.specs.Scripts.{MayNotEnter};
+
+use ktm_calls::{Denied, Key, Registry, Session, StoreEngine, Told};
+use published_trees::Origin;
+use refusals::Refusal;
+use script_runner::{Operation, reply_of};
+use script_syntax::ReplyLine;
+use std::alloc::Global;
+use std::sync::Wait;
+use store_model::{Reply, Tx};
+use uuid::Uuid;
+
+/// A registry, and with what it is called.
+#[derive(Drop)]
+pub struct Caller<'a, E: StoreEngine, O: Origin, R> {
+    /// By what it is waited.
+    pub rt: &'a R,
+    /// From where memory is taken.
+    pub alloc: Global,
+    /// The registry.
+    pub registry: &'a Registry<E, O>,
+}
+
+impl<'a, E: StoreEngine, O: Origin, R: Wait> Caller<'a, E, O, R> {
+    /// The reply to a request alone, at a moment.
+    pub fn reply_alone(&self, session: &mut Session<O>, moment: u64, asked: Operation) -> ReplyLine
+        ensures { HearsAlone O.trees O.number moment session.old asked result session.new }
+    {
+        match asked {
+            Operation::Write { op } => {
+                let answer = self.registry.write(self.rt, session, None, moment, op);
+                reply_to(answer)
+            }
+            Operation::Read {
+                hive,
+                path,
+                question,
+            } => match session.look_up(&Key::new(hive, path), question) {
+                Ok(found) => reply_of(Reply::Read { found }),
+                Err(refusal) => ReplyLine::Refused { refusal },
+            },
+        }
+    }
+
+    /// The reply to a request in a transaction, at a moment.
+    pub fn reply_inside(
+        &self,
+        session: &mut Session<O>,
+        moment: u64,
+        tx: Tx,
+        asked: Operation,
+    ) -> ReplyLine
+        ensures { HearsInside O.trees O.number moment tx session.old asked result session.new }
+    {
+        match asked {
+            Operation::Write { op } => {
+                let answer = self.registry.write(self.rt, session, Some(tx), moment, op);
+                reply_to(answer)
+            }
+            Operation::Read {
+                hive,
+                path,
+                question,
+            } => {
+                let key = Key {
+                    hive,
+                    path,
+                    tx: None,
+                };
+                let answer = self
+                    .registry
+                    .look_up_transacted(self.rt, session, tx, &key, question);
+                reply_to(answer)
+            }
+        }
+    }
+
+    /// Opens a session. Refused as it is.
+    pub fn open_session(&self) -> Result<Session<O>, Refusal>
+        ensures opened { IfOk result (λ session. (told : AnyTold) × IsOpened O.trees O.number session told) }
+        ensures refused { IfErr result (MayNotEnter O.trees O.number) }
+    {
+        match self.registry.session(self.rt) {
+            Ok((session, _told)) => Ok(session),
+            Err(denied) => Err(refusal_of(denied)),
+        }
+    }
+
+    /// Whether a session could be opened but for a seat. Refused with `Faulted` if the device has failed, and with
+    /// `NoMemory`.
+    pub fn check_not_faulted(&self) -> Result<(), Refusal>
+        ensures { IfErr result (MayNotEnter O.trees O.number) }
+    {
+        // a session that isn't open begins no transaction, but is refused for the device first
+        let mut nobody = self.registry.closed_session(self.rt);
+        let begun = self
+            .registry
+            .create_transaction(self.rt, &mut nobody, Uuid::nil());
+        match begun {
+            Ok((_tx, _told)) => Ok(()),
+            Err(denied) => unless_closed(refusal_of(denied)),
+        }
+    }
+}
+
+// a refusal, unless it is that a session isn't open
+fn unless_closed(refusal: Refusal) -> Result<(), Refusal>
+    ensures { IfErr result (λ why. why ≡ refusal) }
+{
+    match refusal {
+        Refusal::NoSuchHandle => Ok(()),
+        other => Err(other),
+    }
+}
+
+/// The reply to the line that made a call.
+pub fn reply_to(answer: Result<Told, Denied>) -> ReplyLine
+    ensures { result ≡ told_reply answer }
+{
+    match answer {
+        Ok(told) => reply_of(told.into_reply()),
+        Err(denied) => denied_reply(denied),
+    }
+}
+
+/// The reply to the line whose call was denied.
+pub fn denied_reply(denied: Denied) -> ReplyLine
+    ensures { result ≡ denied_reply denied }
+{
+    match denied {
+        Denied::NoMemory => ReplyLine::Refused {
+            refusal: Refusal::NoMemory,
+        },
+        Denied::Told(told) => reply_of(told.into_reply()),
+    }
+}
+
+// the refusal that a call was denied with. There is one in each denial
+fn refusal_of(denied: Denied) -> Refusal
+    ensures { (trees : List TreeMap) (number : ℕ) (was is : List Element) (event : Event) →
+        IsDenied trees number was is event denied → MayNotEnter trees number result }
+{
+    match denied.refusal() {
+        Some(refusal) => refusal,
+        None => Refusal::NoMemory,
+    }
+}

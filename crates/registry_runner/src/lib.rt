@@ -1,0 +1,16 @@
+//! The run of a script over the store that is on a disk, through a registry.
+//!
+//! [`run`] opens the store, reads a script line by line and writes the reply to each. Each line is a call of the
+//! registry, or several. The script's thread is its one caller, and a flusher has a thread of its own beside it. What
+//! is written is what `script_runner` plays over an engine, byte for byte.
+#![tactic(auto)]
+
+mod caller;
+mod disk_run;
+mod gate;
+mod lines;
+mod script;
+mod session_lines;
+mod transaction_lines;
+
+pub use disk_run::{run, run_unread};

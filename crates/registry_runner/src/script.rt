@@ -1,0 +1,197 @@
+//! A script between two lines, and its lines.
+ghost use Rattle.std.specs.Prelude.{◌≡◌, Some, None, IfErr, IfNone, IfOk, IfSome, MatchOption, OnErr};
+ghost use Rattle.refusals.specs.declared.refusal.Refusal.TheVariants.{NoSuchHandle};
+ghost use Rattle.script_syntax.specs.declared.line.Line.{Line as AnyLine};
+ghost use Rattle.script_syntax.specs.declared.line.Line.TheVariants.{Inside, Plain};
+ghost use Rattle.script_syntax.specs.declared.reply.ReplyLine.TheVariants.{Refused};
+ghost use Rattle.script_runner.specs.Scripts.{later_line, line_asked};
+ghost use Rattle.registry_runner.specs.Interpreters.{script_of};
+ghost use Rattle.registry_runner.specs.Running.{IsBegun};
+ghost use Rattle.registry_runner.specs.Scripts.{Answers, MayNotEnter};
+
+use crate::caller::Caller;
+use ktm_calls::{Key, Session, StoreEngine};
+use published_trees::Origin;
+use refusals::Refusal;
+use reg_names::Path;
+use script_runner::{Labels, operation_of};
+use script_syntax::{Label, Line, ParseError, ReplyLine, Request, read_line};
+use std::alloc::AllocError;
+use std::sync::Wait;
+use store_model::Tx;
+
+/// A session that is open and isn't the current one.
+pub struct OpenSession<O: Origin> {
+    /// The number that the script gave it.
+    pub number: u32,
+    /// The session.
+    pub session: Session<O>,
+}
+
+impl<O: Origin> Drop for OpenSession<O> {
+    // one drop for all that own one, whose proofs see no more of it than that
+    fn drop(self) {
+        let OpenSession {
+            number: _,
+            session: _,
+        } = self;
+    }
+}
+
+impl<O: Origin> OpenSession<O> {
+    /// The session alone.
+    pub fn into_session(self) -> Session<O>
+        ensures { result ≡ self.session }
+    {
+        let OpenSession { number: _, session } = self;
+        session
+    }
+}
+
+/// A script between two lines: the current moment and session, the other sessions that it opened, and the transaction
+/// that each label names.
+pub struct Script<O: Origin> {
+    pub(crate) moment: u64,
+    pub(crate) labels: Labels,
+    // the number of the current session, which may have ended
+    pub(crate) number: u32,
+    pub(crate) is_open: bool,
+    pub(crate) session: Session<O>,
+    pub(crate) others: Vec<OpenSession<O>>,
+    // a flush names a key, and nothing is judged of it
+    pub(crate) root: Key,
+}
+
+impl<O: Origin> Drop for Script<O> {
+    // one drop for all that own one, whose proofs see no more of it than that
+    fn drop(self) {
+        let Script {
+            moment: _,
+            labels: _,
+            number: _,
+            is_open: _,
+            session: _,
+            others: _,
+            root: _,
+        } = self;
+    }
+}
+
+impl<O: Origin> Script<O> {
+    /// A script before its first line: no label names anything, and session 0 is open and the current one. Refused as
+    /// that session is, and with `NoMemory`.
+    pub fn begin<E: StoreEngine, R: Wait>(
+        caller: &Caller<'_, E, O, R>,
+    ) -> Result<Script<O>, Refusal>
+        ensures begun { IfOk result (λ script. IsBegun O.trees O.number (script_of script)) }
+        ensures refused { IfErr result (MayNotEnter O.trees O.number) }
+    {
+        let root = Key::new(0, Path::root(caller.alloc)?);
+        let session = caller.open_session()?;
+        Ok(Script {
+            moment: 0,
+            labels: Labels::new(caller.alloc),
+            number: 0,
+            is_open: true,
+            session,
+            others: Vec::new(caller.alloc),
+            root,
+        })
+    }
+
+    /// Answers a line, or `None` if the bytes are no such line. Memory is refused only for reading the line, before
+    /// anything is asked.
+    pub fn reply_to<E: StoreEngine, R: Wait>(
+        &mut self,
+        caller: &Caller<'_, E, O, R>,
+        bytes: &[u8],
+    ) -> Result<Option<ReplyLine>, AllocError>
+        ensures none { IfOk result (λ made. IfNone made
+            ((line_asked bytes.now ≡ None) × (self.new ≡ self.old))) }
+        ensures err { OnErr result (self.new ≡ self.old) }
+        ensures some { IfOk result (λ made. IfSome made
+            (λ reported. (asked : AnyLine) × (line_asked bytes.now ≡ Some asked)
+            × Answers O.trees O.number (script_of self.old) asked reported (script_of self.new))) }
+    {
+        match read_line(caller.alloc, bytes) {
+            Ok(line) => Ok(self.answer(caller, line)),
+            Err(ParseError::NotUnderstood) => Ok(None),
+            Err(ParseError::NoMemory) => Err(AllocError),
+        }
+    }
+
+    // answers a line, or `None` if it is a script's first line or one that only a laboratory takes
+    fn answer<E: StoreEngine, R: Wait>(
+        &mut self,
+        caller: &Caller<'_, E, O, R>,
+        line: Line,
+    ) -> Option<ReplyLine>
+        ensures reported { MatchOption result ((later_line (Some line) ≡ None) × (self.new ≡ self.old))
+            (λ reported. (later_line (Some line) ≡ Some line)
+            × Answers O.trees O.number (script_of self.old) line reported (script_of self.new)) }
+    {
+        let answered = match line {
+            Line::Hives { .. } | Line::Lab { .. } => return None,
+            Line::At { moment } => {
+                self.moment = moment;
+                Ok(ReplyLine::Done)
+            }
+            Line::Session { number } => self.enter(caller, number),
+            Line::End { number } => self.end(caller, number),
+            Line::Plain { request } => self.alone(caller, request),
+            Line::Inside { label, request } => self.inside(caller, label, request),
+            Line::Begin { label, id } => self.begin_as(caller, label, id),
+            Line::Commit { label } => self.commit(caller, label),
+            Line::Rollback { label } => self.rollback(caller, label),
+            Line::Close { label } => self.close(caller, label),
+            Line::Outcome { label } => self.outcome(caller, label),
+            Line::Flush => Ok(self.flush(caller)),
+        };
+        match answered {
+            Ok(reply) => Some(reply),
+            Err(refusal) => Some(ReplyLine::Refused { refusal }),
+        }
+    }
+
+    fn alone<E: StoreEngine, R: Wait>(
+        &mut self,
+        caller: &Caller<'_, E, O, R>,
+        request: Request,
+    ) -> Result<ReplyLine, Refusal>
+        ensures ok { IfOk result (λ reported. Answers O.trees O.number (script_of self.old) (Plain request)
+            reported (script_of self.new)) }
+        ensures refused { IfErr result (λ refusal. Answers O.trees O.number (script_of self.old)
+            (Plain request) (Refused refusal) (script_of self.new)) }
+    {
+        let asked = operation_of(caller.alloc, request)?;
+        Ok(caller.reply_alone(&mut self.session, self.moment, asked))
+    }
+
+    fn inside<E: StoreEngine, R: Wait>(
+        &mut self,
+        caller: &Caller<'_, E, O, R>,
+        label: Label,
+        request: Request,
+    ) -> Result<ReplyLine, Refusal>
+        ensures ok { IfOk result (λ reported. Answers O.trees O.number (script_of self.old) (Inside label request)
+            reported (script_of self.new)) }
+        ensures refused { IfErr result (λ refusal. Answers O.trees O.number (script_of self.old)
+            (Inside label request) (Refused refusal) (script_of self.new)) }
+    {
+        let asked = operation_of(caller.alloc, request)?;
+        let tx = self.tx(label)?;
+        Ok(caller.reply_inside(&mut self.session, self.moment, tx, asked))
+    }
+
+    // the transaction that the label names
+    pub(crate) fn tx(&self, label: Label) -> Result<Tx, Refusal>
+        ensures ok { IfOk result (λ tx. (script_of self.now).labels label ≡ Some tx) }
+        ensures refused { IfErr result (λ refusal. ((script_of self.now).labels label ≡ None)
+            × (refusal ≡ NoSuchHandle)) }
+    {
+        match self.labels.tx(label) {
+            Some(tx) => Ok(tx),
+            None => Err(Refusal::NoSuchHandle),
+        }
+    }
+}

@@ -1,0 +1,109 @@
+//! The lines that open and end sessions.
+ghost use Rattle.std.specs.Prelude.{◌≡◌, ◌<◌, IfErr, IfNone, IfOk, IfSome};
+ghost use Rattle.std.specs.Vec.{vec_capacity, vec_len};
+ghost use Rattle.script_syntax.specs.declared.line.Line.TheVariants as line;
+ghost use Rattle.script_syntax.specs.declared.reply.ReplyLine.TheVariants.{Refused};
+ghost use Rattle.registry_runner.specs.Interpreters.{script_of};
+ghost use Rattle.registry_runner.specs.Scripts.{Answers, InSession};
+
+use crate::caller::{Caller, reply_to};
+use crate::script::{OpenSession, Script};
+use ktm_calls::{Session, StoreEngine};
+use published_trees::Origin;
+use refusals::Refusal;
+use script_syntax::ReplyLine;
+use std::mem;
+use std::sync::Wait;
+
+impl<O: Origin> Script<O> {
+    // opens the session of this number unless it is open, and makes it the current one
+    pub(crate) fn enter<E: StoreEngine, R: Wait>(
+        &mut self,
+        caller: &Caller<'_, E, O, R>,
+        number: u32,
+    ) -> Result<ReplyLine, Refusal>
+        ensures ok { IfOk result (λ reported. Answers O.trees O.number (script_of self.old) (line.Session number)
+            reported (script_of self.new)) }
+        ensures refused { IfErr result (λ refusal. Answers O.trees O.number (script_of self.old)
+            (line.Session number) (Refused refusal) (script_of self.new)) }
+    {
+        if self.is_open && number == self.number {
+            caller.check_not_faulted()?;
+            return Ok(ReplyLine::Done);
+        }
+        self.others.reserve(1)?;
+        let session = match self.place_of(number) {
+            Some(place) => {
+                caller.check_not_faulted()?;
+                self.others.swap_remove(place).into_session()
+            }
+            None => caller.open_session()?,
+        };
+        self.make_current(number, session);
+        Ok(ReplyLine::Done)
+    }
+
+    // the place of the session of this number among those that aren't the current one
+    fn place_of(&self, number: u32) -> Option<usize>
+        ensures { IfSome result (λ place. place < vec_len self.now.others) }
+    {
+        self.others.iter().position(|open| open.number == number)
+    }
+
+    // a session is the current one; the one before it is among the others, if it is open
+    fn make_current(&mut self, number: u32, session: Session<O>)
+        requires room { vec_len self.old.others < vec_capacity self.old.others }
+        ensures { script_of self.new ≡ record (script_of self.old) { session = session } }
+    {
+        let before = OpenSession {
+            number: mem::replace(&mut self.number, number),
+            session: mem::replace(&mut self.session, session),
+        };
+        if mem::replace(&mut self.is_open, true) {
+            match self.others.push(before) {
+                Ok(()) => {}
+                // there is room for one more
+                Err(_) => unreachable!(),
+            }
+        }
+    }
+
+    // ends the session of this number, if it is open
+    pub(crate) fn end<E: StoreEngine, R: Wait>(
+        &mut self,
+        caller: &Caller<'_, E, O, R>,
+        number: u32,
+    ) -> Result<ReplyLine, Refusal>
+        ensures ok { IfOk result (λ reported. Answers O.trees O.number (script_of self.old) (line.End number)
+            reported (script_of self.new)) }
+        ensures refused { IfErr result (λ refusal. Answers O.trees O.number (script_of self.old)
+            (line.End number) (Refused refusal) (script_of self.new)) }
+    {
+        match self.take(caller, number) {
+            Some(session) => {
+                let answer = caller.registry.end_session(caller.rt, session);
+                Ok(reply_to(answer))
+            }
+            None => Err(Refusal::NoSuchHandle),
+        }
+    }
+
+    // takes the session of this number out of those that are open. After the current one, what follows is asked in a
+    // session that isn't open
+    fn take<E: StoreEngine, R: Wait>(
+        &mut self,
+        caller: &Caller<'_, E, O, R>,
+        number: u32,
+    ) -> Option<Session<O>>
+        ensures some { InSession (script_of self.old) (script_of self.new) }
+        ensures none { IfNone result (script_of self.new ≡ script_of self.old) }
+    {
+        if self.is_open && number == self.number {
+            self.is_open = false;
+            let closed = caller.registry.closed_session(caller.rt);
+            return Some(mem::replace(&mut self.session, closed));
+        }
+        let place = self.place_of(number)?;
+        Some(self.others.swap_remove(place).into_session())
+    }
+}

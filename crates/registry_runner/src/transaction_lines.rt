@@ -1,0 +1,133 @@
+//! The lines of transactions, and the line `flush`.
+ghost use Rattle.std.specs.Prelude.{IfErr, IfOk};
+ghost use Rattle.script_syntax.specs.declared.line.Line.TheVariants.{Begin, Close, Commit, Flush, Outcome, Rollback};
+ghost use Rattle.script_syntax.specs.declared.reply.ReplyLine.TheVariants.{Refused};
+ghost use Rattle.registry_runner.specs.Interpreters.{script_of};
+ghost use Rattle.registry_runner.specs.Scripts.{Answers};
+
+use crate::caller::{Caller, denied_reply, reply_to};
+use crate::script::Script;
+use ktm_calls::StoreEngine;
+use published_trees::Origin;
+use refusals::Refusal;
+use script_runner::reply_of;
+use script_syntax::{Label, ReplyLine};
+use std::sync::Wait;
+use uuid::Uuid;
+
+impl<O: Origin> Script<O> {
+    // begins a transaction that the label names; room for the label is made first, so each transaction that is begun is
+    // named
+    pub(crate) fn begin_as<E: StoreEngine, R: Wait>(
+        &mut self,
+        caller: &Caller<'_, E, O, R>,
+        label: Label,
+        id: Uuid,
+    ) -> Result<ReplyLine, Refusal>
+        ensures ok { IfOk result (λ reported. Answers O.trees O.number (script_of self.old) (Begin label id)
+            reported (script_of self.new)) }
+        ensures refused { IfErr result (λ refusal. Answers O.trees O.number (script_of self.old)
+            (Begin label id) (Refused refusal) (script_of self.new)) }
+    {
+        self.labels.make_room(label)?;
+        match caller
+            .registry
+            .create_transaction(caller.rt, &mut self.session, id)
+        {
+            Ok((tx, _told)) => {
+                self.labels.name(label, tx);
+                Ok(ReplyLine::Done)
+            }
+            Err(denied) => Ok(denied_reply(denied)),
+        }
+    }
+
+    // A step of the journal for which there is no memory refuses the line: the script's end tries again.
+    pub(crate) fn commit<E: StoreEngine, R: Wait>(
+        &mut self,
+        caller: &Caller<'_, E, O, R>,
+        label: Label,
+    ) -> Result<ReplyLine, Refusal>
+        ensures ok { IfOk result (λ reported. Answers O.trees O.number (script_of self.old) (Commit label)
+            reported (script_of self.new)) }
+        ensures refused { IfErr result (λ refusal. Answers O.trees O.number (script_of self.old)
+            (Commit label) (Refused refusal) (script_of self.new)) }
+    {
+        let tx = self.tx(label)?;
+        match caller
+            .registry
+            .try_commit_transaction(caller.rt, &mut self.session, tx, self.moment)
+        {
+            Ok((receipt, _told)) => Ok(ReplyLine::Committed {
+                number: receipt.number(),
+            }),
+            Err(denied) => Ok(denied_reply(denied)),
+        }
+    }
+
+    pub(crate) fn rollback<E: StoreEngine, R: Wait>(
+        &mut self,
+        caller: &Caller<'_, E, O, R>,
+        label: Label,
+    ) -> Result<ReplyLine, Refusal>
+        ensures ok { IfOk result (λ reported. Answers O.trees O.number (script_of self.old) (Rollback label)
+            reported (script_of self.new)) }
+        ensures refused { IfErr result (λ refusal. Answers O.trees O.number (script_of self.old)
+            (Rollback label) (Refused refusal) (script_of self.new)) }
+    {
+        let tx = self.tx(label)?;
+        let answer = caller
+            .registry
+            .rollback_transaction(caller.rt, &mut self.session, tx);
+        Ok(reply_to(answer))
+    }
+
+    pub(crate) fn close<E: StoreEngine, R: Wait>(
+        &mut self,
+        caller: &Caller<'_, E, O, R>,
+        label: Label,
+    ) -> Result<ReplyLine, Refusal>
+        ensures ok { IfOk result (λ reported. Answers O.trees O.number (script_of self.old) (Close label)
+            reported (script_of self.new)) }
+        ensures refused { IfErr result (λ refusal. Answers O.trees O.number (script_of self.old)
+            (Close label) (Refused refusal) (script_of self.new)) }
+    {
+        let tx = self.tx(label)?;
+        let answer = caller
+            .registry
+            .close_transaction(caller.rt, &mut self.session, tx);
+        Ok(reply_to(answer))
+    }
+
+    pub(crate) fn outcome<E: StoreEngine, R: Wait>(
+        &mut self,
+        caller: &Caller<'_, E, O, R>,
+        label: Label,
+    ) -> Result<ReplyLine, Refusal>
+        ensures ok { IfOk result (λ reported. Answers O.trees O.number (script_of self.old) (Outcome label)
+            reported (script_of self.new)) }
+        ensures refused { IfErr result (λ refusal. Answers O.trees O.number (script_of self.old)
+            (Outcome label) (Refused refusal) (script_of self.new)) }
+    {
+        let tx = self.tx(label)?;
+        match caller.registry.outcome(caller.rt, &mut self.session, tx) {
+            Ok((_outcome, told)) => Ok(reply_of(told.into_reply())),
+            Err(denied) => Ok(denied_reply(denied)),
+        }
+    }
+
+    /// Makes all accepted changes durable, as the line `flush` does.
+    pub fn flush<E: StoreEngine, R: Wait>(&mut self, caller: &Caller<'_, E, O, R>) -> ReplyLine
+        ensures { Answers O.trees O.number (script_of self.old) Flush result (script_of self.new) }
+    {
+        match caller
+            .registry
+            .flush_key(caller.rt, &mut self.session, &self.root)
+        {
+            Ok((receipt, _told)) => ReplyLine::Flushed {
+                number: receipt.number(),
+            },
+            Err(denied) => denied_reply(denied),
+        }
+    }
+}
