@@ -1,0 +1,11 @@
+//! A store as a program of threads uses it: opened, shared, and closed when the program has ended.
+//!
+//! A [`Client`] is given the registry, for whatever engine and list of changes stand behind it. [`serve`] opens the
+//! store, runs the client with a flusher beside it, and hands the disk back.
+#![tactic(auto)]
+
+mod client;
+mod service;
+
+pub use client::Client;
+pub use service::{Served, serve};

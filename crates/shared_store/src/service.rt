@@ -1,0 +1,162 @@
+//! The service of a store to the threads of a client.
+ghost use Rattle.std.specs.Prelude.{◌≡◌, ◌⊎◌, ◌<◌, [], IfOk, IfErr};
+ghost use Rattle.refusals.specs.declared.refusal.Refusal.TheVariants.{NoMemory, NoSeat};
+ghost use Rattle.recovery.specs.Recovered.{seen_in};
+ghost use Rattle.ktm_calls.specs.Moments.{IsOf};
+ghost use Rattle.shared_store.specs.Serving.{KeepsStore, MayNotServe};
+
+use crate::client::Client;
+use disk_model::Disk;
+use flusher::{Worker, run_beside_from, run_workers};
+use ktm_calls::{Ended, Registry, Stopped, StoreEngine, Told};
+use published_trees::{ChangeCount, Origin, SeenChanges};
+use refusals::Refusal;
+use refusals::limits::MOST_JOURNAL_BYTES;
+use script_runner::open_engine;
+use std::alloc::Global;
+use std::marker::Brand;
+use std::sync::Wait;
+use std::thread::Threads;
+
+/// At how many used bytes of the journal's room the flusher begins: commits don't need it, and its steps keep them
+/// waiting.
+const BUSY_ROOM: u64 = MOST_JOURNAL_BYTES / 2;
+
+/// What came of a client's use of a store.
+#[derive(Clone, Copy, Debug, PartialEq, Eq)]
+pub struct Served {
+    /// The number of the last change as the store was opened.
+    pub opened: u64,
+    /// The number up to which changes are durable.
+    pub durable: u64,
+    /// Why the flusher ended before all was in the hives, if it did: the device failed.
+    pub undone: Option<Refusal>,
+}
+
+/// Opens the store that is on a disk, and runs a client of its registry on so many threads, with a flusher on one more.
+/// When all have ended, all that was accepted is made durable and moved into the hives. The disk is handed back.
+///
+/// Refused if the store isn't opened, and with `NoMemory` or `NoSeat` if there can be no registry; the client doesn't
+/// run then.
+pub fn serve<D: Disk + Send, C: Client<R> + Sync, R: Threads + Wait + Sync>(
+    rt: &R,
+    alloc: Global,
+    disk: D,
+    client: &C,
+    threads: usize,
+) -> (D, Result<Served, Refusal>)
+    ensures kept { IfOk result.1 (λ served. KeepsStore D.faithful (seen_in (D.state_at disk (D.clock disk)))
+        served.opened served.durable (D.faithful result.0) (D.state_at result.0) (D.clock result.0)) }
+    ensures refused { IfErr result.1 (MayNotServe (D.failures disk < D.failures result.0) (D.faithful result.0)
+        (seen_in (D.state_at disk (D.clock disk)))) }
+{
+    let (engine, opened) = match open_engine(alloc, disk) {
+        Ok(begun) => begun,
+        Err((why, disk)) => return (disk, Err(why)),
+    };
+    let (count, seen) = ChangeCount::open();
+    let (engine, served) = serve_over::<Brand, _, _, _>(
+        rt,
+        alloc,
+        engine,
+        count,
+        seen,
+        Sharing {
+            client,
+            threads,
+            opened,
+        },
+    );
+    engine.keeps_a_prefix(); // for the prover
+    engine.reads_a_prefix(); // for the prover
+    (engine.into_disk(), served)
+}
+
+// a client, the number of its threads, and that of the last change as the store was opened
+#[derive(Drop)]
+struct Sharing<'a, C> {
+    client: &'a C,
+    threads: usize,
+    opened: u64,
+}
+
+// the same over an engine that was just opened, with an empty list of changes
+fn serve_over<
+    O: Origin + Send + Sync,
+    E: StoreEngine + Send,
+    C: Client<R> + Sync,
+    R: Threads + Wait + Sync,
+>(
+    rt: &R,
+    alloc: Global,
+    engine: E,
+    count: ChangeCount,
+    seen: SeenChanges,
+    sharing: Sharing<'_, C>,
+) -> (E, Result<Served, Refusal>)
+    requires book { (count ≡ O.book) × (seen ≡ record { book = O.book; list = [] }) }
+    requires engine { IsOf O.trees O.number (E.machine engine)
+        × ((E.machine engine).accepted ≡ []) × ((E.machine engine).sessions ≡ []) }
+    ensures owner { IsOf O.trees O.number (E.machine result.0) }
+    ensures numbers { IfOk result.1 (λ served. (served.opened ≡ sharing.entry.opened)
+        × (served.durable ≡ (E.machine result.0).durable)) }
+    ensures refused { IfErr result.1 (λ why. (why ≡ NoMemory) ⊎ (why ≡ NoSeat)) }
+{
+    let registry = match Registry::<E, O>::new(alloc, rt, engine, count, seen) {
+        Ok(registry) => registry,
+        Err((why, engine)) => return (engine, Err(why)),
+    };
+    let opened = sharing.opened;
+    let flushed = share(rt, &registry, sharing);
+    let Ended {
+        engine,
+        durable,
+        strangers: _,
+    } = registry.end(rt, Vec::new(alloc), Vec::new(alloc));
+    let served = Served {
+        opened,
+        durable,
+        undone: undone(&flushed),
+    };
+    (engine, Ok(served))
+}
+
+// a client as a worker on threads
+#[derive(Drop)]
+struct ClientThreads<'a, C> {
+    client: &'a C,
+}
+
+impl<'a, C: Client<R>, E: StoreEngine, O: Origin, R: Wait> Worker<E, O, R>
+    for ClientThreads<'a, C> {
+    fn work(&self, rt: &R, registry: &Registry<E, O>, index: usize) {
+        self.client.run(rt, registry, index);
+    }
+}
+
+// runs a client on its threads, with a flusher beside
+fn share<
+    O: Origin + Send + Sync,
+    E: StoreEngine + Send,
+    C: Client<R> + Sync,
+    R: Threads + Wait + Sync,
+>(rt: &R, registry: &Registry<E, O>, sharing: Sharing<'_, C>) -> Result<Stopped, Told> {
+    let Sharing {
+        client,
+        threads,
+        opened: _,
+    } = sharing;
+    let worker = ClientThreads { client };
+    let (_done, flushed) = run_beside_from(rt, registry, BUSY_ROOM, || {
+        run_workers(rt, registry, &worker, threads)
+    });
+    flushed
+}
+
+// why the flusher ended before it was told to, if it did
+fn undone(flushed: &Result<Stopped, Told>) -> Option<Refusal> {
+    match flushed {
+        Ok(_) => None,
+        Err(told) => told.refusal(),
+    }
+}

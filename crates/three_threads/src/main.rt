@@ -1,0 +1,69 @@
+//! Makes a store in the folder `store`. Three threads count in it, while a flusher moves their changes into its hive.
+#![tactic(auto)]
+
+use file_disk::{FileDisk, Unknown};
+use ktm_calls::{Key, Registry, StoreEngine};
+use published_trees::Origin;
+use refusals::Refusal;
+use reg_names::{Name, Path};
+use reg_tree::{Data, Trees};
+use shared_store::{Client, serve};
+use std::alloc::Global;
+use std::sync::Wait;
+use std::{fs, io};
+use uuid::Uuid;
+
+/// The registry's number of the type REG_DWORD.
+const REG_DWORD: u32 = 4;
+
+/// Each thread counts to a hundred in a value of its own, in one transaction after another.
+#[derive(Drop)]
+struct Counters(Global);
+
+impl<R: Wait + Print> Client<R> for Counters {
+    fn run<E: StoreEngine, O: Origin>(&self, rt: &R, registry: &Registry<E, O>, thread: usize) {
+        let letter = [b'A', b'B', b'C'][thread % 3];
+        if let Err(why) = count(rt, self.0, registry, u16::from(letter)) {
+            let _ = println!(rt; "{why}");
+        }
+    }
+}
+
+fn count<E: StoreEngine, O: Origin, R: Wait>(
+    rt: &R,
+    alloc: Global,
+    registry: &Registry<E, O>,
+    letter: u16,
+) -> Result<(), Refusal> {
+    let (mut session, _) = registry.session(rt)?;
+    let mut key = Key::new(0, Path::parse(alloc, &[letter])?);
+    registry.reg_create_key(rt, &mut session, &key, 0)?;
+    for round in 0..100u32 {
+        let moment = u64::from(round);
+        let (tx, _) = registry.create_transaction(rt, &mut session, Uuid::nil())?;
+        key.tx = Some(tx);
+        let name = Name::value(alloc, &[u16::from(b'n')])?;
+        let data = Data::new(alloc, &round.to_le_bytes())?;
+        registry.set_value(rt, &mut session, &key, name, REG_DWORD, data, moment)?;
+        registry.commit_transaction(rt, &mut session, tx, moment)?;
+        registry.close_transaction(rt, &mut session, tx)?;
+    }
+    registry.end_session(rt, session)?;
+    Ok(())
+}
+
+fn main(rt: HostRuntime) -> io::Result<()> {
+    let alloc = rt.alloc();
+    fs::create_dir(&rt, "store")?;
+    let Ok(mut disk) = FileDisk::<_, Unknown>::open_locked(&rt, alloc, "store") else {
+        return println!(rt; "the folder can't be locked");
+    };
+    let trees = Trees::new(alloc, 1)?;
+    if let Err(why) = recovery::create(alloc, &mut disk, Uuid::nil(), &trees) {
+        return println!(rt; "{why}");
+    }
+    match serve(&rt, alloc, disk, &Counters(alloc), 3).1 {
+        Ok(served) => println!(rt; "{} changes are durable", served.durable),
+        Err(why) => println!(rt; "{why}"),
+    }
+}
