@@ -1,7 +1,10 @@
 //! The calls of a registry by functions that promise nothing, and answers that tests compare.
 //!
 //! The promises of the calls themselves would be stated at each step of a test, though no test relies on them.
-use ktm_calls::{Denied, Disposition, Key, Receipt, Registry, Session, StoreEngine, Told};
+use disk_model::Progress;
+use ktm_calls::{
+    Denied, Disposition, EventKind, Key, Receipt, Registry, Session, StoreEngine, Told, Turn,
+};
 use published_trees::Origin;
 use refusals::Refusal;
 use reg_names::{Name, Path};
@@ -14,11 +17,13 @@ use uuid::Uuid;
 /// The type of each value: REG_BINARY.
 pub const KIND: u32 = 3;
 
-/// What a call answers if it isn't refused.
-#[derive(Clone, Copy, Debug, PartialEq, Eq)]
+/// What a call answers.
+#[derive(Clone, Copy, Debug)]
 pub enum Answer {
     /// It is done.
     Done,
+    /// A session of this number.
+    Session(u32),
     /// It was accepted as the change of this number.
     Accepted(u64),
     /// It was added to a transaction.
@@ -27,21 +32,74 @@ pub enum Answer {
     Opened,
     /// What became of a transaction.
     OutcomeIs(Outcome),
+    /// A receipt of this number.
+    Receipt(u64),
     /// How many subkeys and values a key has, and its last written time.
     Counts(usize, usize, u64),
+    /// A key whose name has this one character.
+    Named(u8),
     /// A value of one byte.
     Byte(u8),
+    /// A step of the flusher.
+    Step(EventKind, Progress),
+    /// A step of the flusher was refused.
+    StepRefused(EventKind, Refusal),
+    /// The flusher stopped, with all up to this number durable.
+    Stopped(u64),
+    /// Used room of the journal, in bytes.
+    Room(u64),
+    /// The call was refused.
+    Refused(Refusal),
     /// Another reply than the call may have.
     Other,
 }
 
-/// The key of hive 0 with this path.
-pub fn key(alloc: Global, text: &[u8]) -> Result<Key, Refusal> {
+impl Answer {
+    /// What is told of an event, or of a step of the flusher.
+    pub fn of(told: &Told) -> Answer {
+        match told.reply() {
+            Reply::Done => Answer::Done,
+            Reply::Accepted { number, .. } => Answer::Accepted(*number),
+            Reply::Added { .. } => Answer::Added,
+            Reply::Opened => Answer::Opened,
+            Reply::Read { found } => found_of(found),
+            Reply::Stepped { progress } => Answer::Step(told.kind(), *progress),
+            Reply::Refused { refusal } => Answer::StepRefused(told.kind(), *refusal),
+            _ => Answer::Other,
+        }
+    }
+}
+
+/// An answer or a refusal as one value.
+pub fn value_of(answer: Result<Answer, Refusal>) -> Answer {
+    match answer {
+        Ok(answer) => answer,
+        Err(why) => Answer::Refused(why),
+    }
+}
+
+/// The key with this path: in the hive of the digit before a colon, or in hive 0.
+pub fn key(alloc: Global, text: &str) -> Result<Key, Refusal> {
+    let bytes = text.as_bytes();
+    if bytes.len() > 1 && bytes[1] == b':' {
+        return key_in(alloc, bytes[0].wrapping_sub(b'0'), &bytes[2..]);
+    }
+    key_in(alloc, 0, bytes)
+}
+
+// the key of a hive with this path
+fn key_in(alloc: Global, hive: u8, text: &[u8]) -> Result<Key, Refusal> {
     let mut units = Vec::new(alloc);
     for byte in text {
         units.push(u16::from(*byte))?;
     }
-    Ok(Key::new(0, Path::parse(alloc, units.as_slice())?))
+    Ok(Key::new(hive, Path::parse(alloc, units.as_slice())?))
+}
+
+// a key of the same path
+fn copied(key: &Key) -> Result<Key, Refusal> {
+    let path = key.path.clone()?;
+    Ok(Key::new(key.hive, path))
 }
 
 /// Why a call was denied. There is a refusal in each denial.
@@ -49,25 +107,30 @@ pub fn refusal_of(denied: Denied) -> Refusal {
     denied.refusal().unwrap_or(Refusal::NoMemory)
 }
 
-// what is told
-fn answer_of(told: &Told) -> Answer {
-    match told.reply() {
-        Reply::Done => Answer::Done,
-        Reply::Accepted { number, .. } => Answer::Accepted(*number),
-        Reply::Added { .. } => Answer::Added,
-        Reply::Opened => Answer::Opened,
-        Reply::Read {
-            found: ReadResult::Value { value },
-        } => byte_of(value),
-        _ => Answer::Other,
-    }
-}
-
 // what is told, or why the call was denied
 fn answered(answer: Result<Told, Denied>) -> Result<Answer, Refusal> {
     match answer {
-        Ok(told) => Ok(answer_of(&told)),
+        Ok(told) => Ok(Answer::of(&told)),
         Err(denied) => Err(refusal_of(denied)),
+    }
+}
+
+// the same of a creation
+fn disposed(answer: Result<(Disposition, Told), Denied>) -> Result<Answer, Refusal> {
+    match answer {
+        Ok((Disposition::Created, told)) => Ok(Answer::of(&told)),
+        Ok((Disposition::Opened, _told)) => Ok(Answer::Opened),
+        Err(denied) => Err(refusal_of(denied)),
+    }
+}
+
+// what was read
+fn found_of(found: &ReadResult) -> Answer {
+    match found {
+        ReadResult::Value { value } => byte_of(value),
+        ReadResult::Key { name } => character_of(name),
+        ReadResult::Counts { info } => counts_of(*info),
+        _ => Answer::Other,
     }
 }
 
@@ -77,6 +140,24 @@ fn byte_of(value: &Value) -> Answer {
         [byte] if value.kind == KIND => Answer::Byte(*byte),
         _ => Answer::Other,
     }
+}
+
+// the one character of a name
+fn character_of(name: &Name) -> Answer {
+    match name.units() {
+        [unit] if *unit < 128 => Answer::Named(*unit as u8),
+        _ => Answer::Other,
+    }
+}
+
+// what a key has
+fn counts_of(info: Info) -> Answer {
+    let Info {
+        subkeys,
+        values,
+        time,
+    } = info;
+    Answer::Counts(subkeys, values, time)
 }
 
 /// A registry, as a test calls it.
@@ -108,6 +189,11 @@ impl<'a, E: StoreEngine, O: Origin, R: Wait> Calls<'a, E, O, R> {
         }
     }
 
+    /// A session that isn't open.
+    pub fn closed(&self) -> Session<O> {
+        self.registry.closed_session(self.rt)
+    }
+
     /// Ends a session.
     pub fn end(&self, session: Session<O>) -> Result<Answer, Refusal> {
         answered(self.registry.end_session(self.rt, session))
@@ -120,28 +206,7 @@ impl<'a, E: StoreEngine, O: Origin, R: Wait> Calls<'a, E, O, R> {
         key: &Key,
         moment: u64,
     ) -> Result<Answer, Refusal> {
-        match self.registry.reg_create_key(self.rt, session, key, moment) {
-            Ok((Disposition::Created, told)) => Ok(answer_of(&told)),
-            Ok((Disposition::Opened, _told)) => Ok(Answer::Opened),
-            Err(denied) => Err(refusal_of(denied)),
-        }
-    }
-
-    /// Creates a key in a transaction.
-    pub fn create_in(
-        &self,
-        session: &mut Session<O>,
-        tx: Tx,
-        key: &Key,
-    ) -> Result<Answer, Refusal> {
-        match self
-            .registry
-            .reg_create_key_transacted(self.rt, session, tx, key, 0)
-        {
-            Ok((Disposition::Created, told)) => Ok(answer_of(&told)),
-            Ok((Disposition::Opened, _told)) => Ok(Answer::Opened),
-            Err(denied) => Err(refusal_of(denied)),
-        }
+        disposed(self.registry.reg_create_key(self.rt, session, key, moment))
     }
 
     /// Deletes a key.
@@ -154,10 +219,10 @@ impl<'a, E: StoreEngine, O: Origin, R: Wait> Calls<'a, E, O, R> {
         &self,
         session: &mut Session<O>,
         key: &Key,
-        name: &[u8],
+        name: &str,
         byte: u8,
     ) -> Result<Answer, Refusal> {
-        let name = Name::value_in_bytes(self.alloc, name)?;
+        let name = Name::value_in_bytes(self.alloc, name.as_bytes())?;
         let data = Data::new(self.alloc, &[byte])?;
         answered(
             self.registry
@@ -170,44 +235,75 @@ impl<'a, E: StoreEngine, O: Origin, R: Wait> Calls<'a, E, O, R> {
         &self,
         session: &mut Session<O>,
         key: &Key,
-        name: &[u8],
+        name: &str,
     ) -> Result<Answer, Refusal> {
-        let name = Name::value_in_bytes(self.alloc, name)?;
+        let name = Name::value_in_bytes(self.alloc, name.as_bytes())?;
         answered(self.registry.delete_value(self.rt, session, key, name, 0))
     }
 
     /// Reads a value.
-    pub fn get(&self, session: &mut Session<O>, key: &Key, name: &[u8]) -> Result<Answer, Refusal> {
-        let name = Name::value_in_bytes(self.alloc, name)?;
+    pub fn get(&self, session: &mut Session<O>, key: &Key, name: &str) -> Result<Answer, Refusal> {
+        let name = Name::value_in_bytes(self.alloc, name.as_bytes())?;
         let value = session.get_value(key, name)?;
         Ok(byte_of(&value))
     }
 
-    /// Reads a value in the view of a transaction.
-    pub fn get_in(
+    /// Reads the value at an index.
+    pub fn value_at(
         &self,
         session: &mut Session<O>,
-        tx: Tx,
         key: &Key,
-        name: &[u8],
+        index: usize,
     ) -> Result<Answer, Refusal> {
-        let name = Name::value_in_bytes(self.alloc, name)?;
-        answered(
-            self.registry
-                .get_value_transacted(self.rt, session, tx, key, name),
-        )
+        let value = session.enum_value(key, index)?;
+        Ok(byte_of(&value))
+    }
+
+    /// The name of the subkey at an index.
+    pub fn key_at(
+        &self,
+        session: &mut Session<O>,
+        key: &Key,
+        index: usize,
+    ) -> Result<Answer, Refusal> {
+        let name = session.enum_key(key, index)?;
+        Ok(character_of(&name))
     }
 
     /// What a key has.
     pub fn info(&self, session: &mut Session<O>, key: &Key) -> Result<Answer, Refusal> {
-        let Info {
-            subkeys,
-            values,
-            time,
-        } = session.query_info(key)?;
-        Ok(Answer::Counts(subkeys, values, time))
+        let info = session.query_info(key)?;
+        Ok(counts_of(info))
     }
 
+    /// Makes all that was accepted durable.
+    pub fn flush(&self, session: &mut Session<O>, key: &Key) -> Result<Receipt<O>, Refusal> {
+        match self.registry.flush_key(self.rt, session, key) {
+            Ok((receipt, _told)) => Ok(receipt),
+            Err(denied) => Err(refusal_of(denied)),
+        }
+    }
+
+    /// One turn of the flusher.
+    pub fn turn(&self) -> Result<Answer, Refusal> {
+        match self.registry.turn(self.rt) {
+            Ok(Turn::Step(told)) => Ok(Answer::of(&told)),
+            Ok(Turn::Stopped(stopped)) => Ok(Answer::Stopped(stopped.number())),
+            Err(Denied::Told(told)) => Ok(Answer::of(&told)),
+            Err(Denied::NoMemory) => Err(Refusal::NoMemory),
+        }
+    }
+
+    /// Makes the steps of the flusher until there is nothing to do.
+    pub fn checkpoint(&self) -> Result<Answer, Refusal> {
+        match self.registry.checkpoint(self.rt) {
+            Ok(receipt) => Ok(Answer::Receipt(receipt.number())),
+            Err(denied) => Err(refusal_of(denied)),
+        }
+    }
+}
+
+impl<'a, E: StoreEngine, O: Origin, R: Wait> Calls<'a, E, O, R> {
     /// Begins a transaction.
     pub fn begin(&self, session: &mut Session<O>) -> Result<Tx, Refusal> {
         match self
@@ -217,6 +313,105 @@ impl<'a, E: StoreEngine, O: Origin, R: Wait> Calls<'a, E, O, R> {
             Ok((tx, _told)) => Ok(tx),
             Err(denied) => Err(refusal_of(denied)),
         }
+    }
+
+    /// Creates a key in a transaction.
+    pub fn create_in(
+        &self,
+        session: &mut Session<O>,
+        tx: Tx,
+        key: &Key,
+        moment: u64,
+    ) -> Result<Answer, Refusal> {
+        disposed(
+            self.registry
+                .reg_create_key_transacted(self.rt, session, tx, key, moment),
+        )
+    }
+
+    /// Sets a value of one byte in a transaction.
+    pub fn set_in(
+        &self,
+        session: &mut Session<O>,
+        tx: Tx,
+        key: &Key,
+        name: &str,
+        byte: u8,
+    ) -> Result<Answer, Refusal> {
+        let key = copied(key)?;
+        self.set(session, &key.in_transaction(tx), name, byte)
+    }
+
+    /// Deletes a key in a transaction.
+    pub fn delete_in(
+        &self,
+        session: &mut Session<O>,
+        tx: Tx,
+        key: &Key,
+    ) -> Result<Answer, Refusal> {
+        answered(
+            self.registry
+                .reg_delete_key_transacted(self.rt, session, tx, key, 0),
+        )
+    }
+
+    /// Reads a value in the view of a transaction.
+    pub fn get_in(
+        &self,
+        session: &mut Session<O>,
+        tx: Tx,
+        key: &Key,
+        name: &str,
+    ) -> Result<Answer, Refusal> {
+        let name = Name::value_in_bytes(self.alloc, name.as_bytes())?;
+        answered(
+            self.registry
+                .get_value_transacted(self.rt, session, tx, key, name),
+        )
+    }
+
+    /// Reads the value at an index in the view of a transaction.
+    pub fn value_at_in(
+        &self,
+        session: &mut Session<O>,
+        tx: Tx,
+        key: &Key,
+        index: usize,
+    ) -> Result<Answer, Refusal> {
+        answered(
+            self.registry
+                .enum_value_transacted(self.rt, session, tx, key, index),
+        )
+    }
+
+    /// The name of the subkey at an index in the view of a transaction.
+    pub fn key_at_in(
+        &self,
+        session: &mut Session<O>,
+        tx: Tx,
+        key: &Key,
+        index: usize,
+    ) -> Result<Answer, Refusal> {
+        answered(
+            self.registry
+                .enum_key_transacted(self.rt, session, tx, key, index),
+        )
+    }
+
+    /// What a key has in the view of a transaction.
+    pub fn info_in(&self, session: &mut Session<O>, tx: Tx, key: &Key) -> Result<Answer, Refusal> {
+        answered(
+            self.registry
+                .query_info_transacted(self.rt, session, tx, key),
+        )
+    }
+
+    /// Opens a key in the view of a transaction.
+    pub fn open_in(&self, session: &mut Session<O>, tx: Tx, key: &Key) -> Result<Answer, Refusal> {
+        answered(
+            self.registry
+                .reg_open_key_transacted(self.rt, session, tx, key),
+        )
     }
 
     /// Commits a transaction.
@@ -230,20 +425,6 @@ impl<'a, E: StoreEngine, O: Origin, R: Wait> Calls<'a, E, O, R> {
             .registry
             .commit_transaction(self.rt, session, tx, moment)
         {
-            Ok((receipt, _told)) => Ok(receipt),
-            Err(denied) => Err(refusal_of(denied)),
-        }
-    }
-
-    /// The number of a transaction's commit.
-    pub fn commit_number(&self, session: &mut Session<O>, tx: Tx) -> Result<u64, Refusal> {
-        let receipt = self.commit(session, tx, 0)?;
-        Ok(receipt.number())
-    }
-
-    /// Makes all that was accepted durable.
-    pub fn flush(&self, session: &mut Session<O>, key: &Key) -> Result<Receipt<O>, Refusal> {
-        match self.registry.flush_key(self.rt, session, key) {
             Ok((receipt, _told)) => Ok(receipt),
             Err(denied) => Err(refusal_of(denied)),
         }

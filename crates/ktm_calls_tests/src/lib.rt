@@ -1,4 +1,4 @@
-//! Tests of the registry on one thread, over a disk in memory: what no clause says.
+//! Tests of the registry and of the flusher, on one thread and on many, over a disk in memory: what no clause says.
 #![tactic(auto)]
 
 #[cfg(test)]
@@ -6,6 +6,22 @@ mod alone;
 #[cfg(test)]
 mod calls;
 #[cfg(test)]
+mod committers;
+#[cfg(test)]
+mod device;
+#[cfg(test)]
+mod flushing;
+#[cfg(test)]
+mod handing_over;
+#[cfg(test)]
 mod playing;
+#[cfg(test)]
+mod sharing;
+#[cfg(test)]
+mod steps;
+#[cfg(test)]
+mod stopping;
+#[cfg(test)]
+mod tables;
 #[cfg(test)]
 mod transacted;

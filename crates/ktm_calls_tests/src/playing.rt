@@ -3,27 +3,42 @@ ghost use Rattle.std.specs.Prelude.{◌≡◌, [], length, IfOk};
 ghost use Rattle.ktm_calls.specs.Moments.{IsOf};
 
 use crate::calls::Calls;
-use crate::{alone, transacted};
-use disk_model::{MemDisk, Plan};
+use crate::committers::Committers;
+use crate::device::{Device, TestDisk};
+use crate::flushing::Holding;
+use crate::handing_over::Committing;
+use crate::sharing::Sharing;
+use crate::steps::Wrong;
+use crate::{committers, flushing, handing_over, sharing, steps};
 use engine::Engine;
 use ktm_calls::{Ended, Receipt, Registry, Session, StoreEngine};
-use published_trees::{ChangeCount, Origin, SeenChanges};
+use published_trees::{ChangeCount, MOST_READERS, Origin, SeenChanges};
 use recovery::Opened;
 use refusals::Refusal;
+use reg_names::Path;
 use reg_tree::Trees;
 use std::alloc::Global;
 use std::marker::Brand;
-use std::process::Abort;
-use std::sync::{Arc, Wait};
+use std::sync::Wait;
+use std::thread::Threads;
+use store_model::{Event, Question, Reply, Tx};
 use uuid::Uuid;
 
 /// What is played.
 #[derive(Clone, Copy)]
-pub enum Scene {
-    /// Calls of one thread.
-    Alone,
-    /// Transactions of one thread.
-    Transactions,
+pub enum Scene<'a> {
+    /// Steps of one thread.
+    Alone(&'a str),
+    /// Steps of one thread, with a flusher beside it.
+    Beside(&'a str),
+    /// A commit in the middle of a flush.
+    Holding(&'a Holding),
+    /// Threads that hand each other what they have written.
+    Sharing(&'a Sharing),
+    /// Threads that commit until the device fails.
+    Committing(&'a Committers),
+    /// A commit during the batch of another.
+    HandingOver(&'a Committing),
 }
 
 /// What a scene leaves open at the end of its registry.
@@ -31,45 +46,63 @@ pub enum Scene {
 pub struct Left<O: Origin> {
     /// Sessions that are open.
     pub sessions: Vec<Session<O>>,
+    /// Transactions that were begun.
+    pub transactions: Vec<Tx>,
     /// Receipts.
     pub receipts: Vec<Receipt<O>>,
 }
 
-/// The end of a registry.
-#[derive(Clone, Copy)]
+/// The end of a scene and of its registry.
+#[derive(Clone, Copy, Debug)]
 pub struct Played {
+    /// The first answer that is not as expected.
+    pub wrong: Option<Wrong>,
     /// The number up to which changes are durable.
     pub durable: u64,
     /// How many receipts are of greater numbers.
     pub strangers: usize,
+    /// Whether a session is open in the engine that comes back.
+    pub is_open: bool,
 }
 
-/// Plays a scene on a new store, and ends its registry.
-pub fn play<R: Wait + Abort>(rt: &R, alloc: Global, scene: Scene) -> Result<Played, Refusal> {
-    let engine = new_engine(alloc)?;
+impl Played {
+    /// Whether it is as it should be, with this number durable.
+    pub fn is_well(&self, durable: u64) -> bool {
+        self.wrong.is_none() && self.durable == durable && self.strangers == 0 && !self.is_open
+    }
+}
+
+/// Plays a scene on a new store over a device, and ends its registry.
+pub fn play<R: Threads + Wait + Sync>(
+    rt: &R,
+    alloc: Global,
+    device: &Device,
+    scene: Scene<'_>,
+) -> Result<Played, Refusal> {
+    let engine = new_engine(alloc, device)?;
     let (count, seen) = ChangeCount::open();
-    play_over::<Brand, _, _>(rt, alloc, engine, count, seen, scene)
+    play_over::<Brand, _, _>(rt, alloc, device, engine, count, seen, scene)
 }
 
-// an engine over a new store of one hive
-fn new_engine(alloc: Global) -> Result<Engine<MemDisk>, Refusal>
+// an engine over a new store of two hives
+fn new_engine(alloc: Global, device: &Device) -> Result<Engine<TestDisk>, Refusal>
     ensures { IfOk result (λ e. (e.machine.accepted ≡ []) × (e.machine.sessions ≡ [])
         × (e.machine.bounds.hives ≡ length e.machine.opened)) }
 {
-    let mut disk = MemDisk::new(alloc, Arc::new(alloc, Plan::new())?);
+    let mut disk = device.disk(alloc)?;
     make(alloc, &mut disk)?;
     let engine = begin(alloc, open(alloc, disk)?)?;
     Ok(engine)
 }
 
-// makes a store of one hive
-fn make(alloc: Global, disk: &mut MemDisk) -> Result<(), Refusal> {
-    let trees = Trees::new(alloc, 1)?;
+// makes a store of two hives
+fn make(alloc: Global, disk: &mut TestDisk) -> Result<(), Refusal> {
+    let trees = Trees::new(alloc, 2)?;
     recovery::create(alloc, disk, Uuid::nil(), &trees)
 }
 
 // an engine over a store of which no repair is left
-fn begin(alloc: Global, store: Opened<MemDisk>) -> Result<Engine<MemDisk>, Refusal>
+fn begin(alloc: Global, store: Opened<TestDisk>) -> Result<Engine<TestDisk>, Refusal>
     ensures { IfOk result (λ e. (e.machine.accepted ≡ []) × (e.machine.sessions ≡ [])
         × (e.machine.bounds.hives ≡ length e.machine.opened)) }
 {
@@ -83,7 +116,7 @@ fn begin(alloc: Global, store: Opened<MemDisk>) -> Result<Engine<MemDisk>, Refus
 }
 
 // what is opened of a disk
-fn open(alloc: Global, disk: MemDisk) -> Result<Opened<MemDisk>, Refusal> {
+fn open(alloc: Global, disk: TestDisk) -> Result<Opened<TestDisk>, Refusal> {
     match recovery::open(alloc, disk) {
         Ok(store) => Ok(store),
         Err((why, _disk)) => Err(why),
@@ -91,13 +124,14 @@ fn open(alloc: Global, disk: MemDisk) -> Result<Opened<MemDisk>, Refusal> {
 }
 
 // the scene, on a registry of its own
-fn play_over<O: Origin, E: StoreEngine + Drop, R: Wait + Abort>(
+fn play_over<O: Origin + Send + Sync, E: StoreEngine + Drop + Send, R: Threads + Wait + Sync>(
     rt: &R,
     alloc: Global,
+    device: &Device,
     engine: E,
     count: ChangeCount,
     seen: SeenChanges,
-    scene: Scene,
+    scene: Scene<'_>,
 ) -> Result<Played, Refusal>
     requires book { (count ≡ O.book) × (seen ≡ record { book = O.book; list = [] }) }
     requires engine { IsOf O.trees O.number (E.machine engine)
@@ -109,37 +143,85 @@ fn play_over<O: Origin, E: StoreEngine + Drop, R: Wait + Abort>(
     };
     let mut left = Left {
         sessions: Vec::new(alloc),
+        transactions: Vec::new(alloc),
         receipts: Vec::new(alloc),
     };
-    let played = play_on(rt, alloc, &registry, scene, &mut left);
-    let Left { sessions, receipts } = left;
+    let wrong = play_on(rt, alloc, device, &registry, scene, &mut left);
+    end(rt, alloc, registry, left, wrong)
+}
+
+// ends the registry
+fn end<O: Origin, E: StoreEngine + Drop, R: Wait>(
+    rt: &R,
+    alloc: Global,
+    registry: Registry<E, O>,
+    left: Left<O>,
+    wrong: Result<Option<Wrong>, Refusal>,
+) -> Result<Played, Refusal> {
+    let Left {
+        sessions,
+        transactions: _,
+        receipts,
+    } = left;
     let Ended {
-        engine: _,
+        mut engine,
         durable,
         strangers,
     } = registry.end(rt, sessions, receipts);
-    played?;
     Ok(Played {
+        wrong: wrong?,
         durable,
         strangers: strangers.len(),
+        is_open: has_session(alloc, &mut engine)?,
     })
 }
 
-// the scene
-fn play_on<O: Origin, E: StoreEngine, R: Wait + Abort>(
+// whether a session is open: a read of one that isn't is refused
+fn has_session<E: StoreEngine>(alloc: Global, engine: &mut E) -> Result<bool, Refusal> {
+    for number in 0..MOST_READERS {
+        let event = Event::Read {
+            session: number as u32,
+            hive: 0,
+            path: Path::root(alloc)?,
+            question: Question::InfoOf,
+        };
+        if !is_unknown(&engine.event(event)) {
+            return Ok(true);
+        }
+    }
+    Ok(false)
+}
+
+// whether there is no such session
+fn is_unknown(reply: &Reply) -> bool {
+    matches!(
+        reply,
+        Reply::Refused {
+            refusal: Refusal::NoSuchHandle
+        }
+    )
+}
+
+// the scene; the first answer that is not as expected
+fn play_on<O: Origin + Send + Sync, E: StoreEngine + Send, R: Threads + Wait + Sync>(
     rt: &R,
     alloc: Global,
+    device: &Device,
     registry: &Registry<E, O>,
-    scene: Scene,
+    scene: Scene<'_>,
     left: &mut Left<O>,
-) -> Result<(), Refusal> {
+) -> Result<Option<Wrong>, Refusal> {
     let calls = Calls {
         rt,
         alloc,
         registry,
     };
     match scene {
-        Scene::Alone => alone::play(&calls, left),
-        Scene::Transactions => transacted::play(&calls),
+        Scene::Alone(table) => steps::play(&calls, device, left, table),
+        Scene::Beside(table) => steps::play_beside(&calls, device, left, table),
+        Scene::Holding(holding) => flushing::play(&calls, holding),
+        Scene::Sharing(sharing) => sharing::play(&calls, sharing, left),
+        Scene::HandingOver(committing) => Ok(handing_over::play(&calls, committing)),
+        Scene::Committing(committers) => committers::play(&calls, device, committers),
     }
 }
