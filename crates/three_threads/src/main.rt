@@ -9,12 +9,16 @@ use reg_names::{Name, Path};
 use reg_tree::{Data, Trees};
 use shared_store::{Client, serve};
 use std::alloc::Global;
+use std::fs;
+use std::io::{self, ErrorKind};
 use std::sync::Wait;
-use std::{fs, io};
 use uuid::Uuid;
 
 /// The registry's number of the type REG_DWORD.
 const REG_DWORD: u32 = 4;
+
+/// Each of the three threads makes a key, and sets its value a hundred times.
+const CHANGES: u64 = 3 * 101;
 
 /// Each thread counts to a hundred in a value of its own, in one transaction after another.
 #[derive(Drop)]
@@ -56,14 +60,24 @@ fn main(rt: HostRuntime) -> io::Result<()> {
     let alloc = rt.alloc();
     fs::create_dir(&rt, "store")?;
     let Ok(mut disk) = FileDisk::<_, Unknown>::open_locked(&rt, alloc, "store") else {
-        return println!(rt; "the folder can't be locked");
+        return Err(ErrorKind::PermissionDenied.into());
     };
     let trees = Trees::new(alloc, 1)?;
     if let Err(why) = recovery::create(alloc, &mut disk, Uuid::nil(), &trees) {
-        return println!(rt; "{why}");
+        return refused(&rt, why);
     }
     match serve(&rt, alloc, disk, &Counters(alloc), 3).1 {
-        Ok(served) => println!(rt; "{} changes are durable", served.durable),
-        Err(why) => println!(rt; "{why}"),
+        Ok(served) => match served.undone {
+            None if served.durable == CHANGES => println!(rt; "{CHANGES} changes are durable"),
+            None => Err(ErrorKind::Other.into()),
+            Some(why) => refused(&rt, why),
+        },
+        Err(why) => refused(&rt, why),
     }
+}
+
+// prints a refusal, and ends the program with status 1
+fn refused<R: Print>(rt: &R, why: Refusal) -> io::Result<()> {
+    println!(rt; "{why}")?;
+    Err(ErrorKind::Other.into())
 }
