@@ -1,4 +1,5 @@
 pub mod Marks
 pub mod Pages
+pub mod Changes
 pub mod MarkWords
 pub mod Runs

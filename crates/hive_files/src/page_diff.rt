@@ -1,7 +1,7 @@
 //! The pages in which two images differ.
 ghost use Rattle.std.specs.Prelude.{◌≡◌, ◌≤◌, ◌/◌, ◌<◌, ◌%◌, ◌+◌, ◌*◌, ℕ, true, false, length, take, drop, slice_index, IsTrue, ◌↔◌};
 ghost use Rattle.dirty_vector.specs.Pages.{is_dirty, is_bins_size};
-ghost use Rattle.hive_flush_model.specs.Plans.{ChangesAreMarked};
+ghost use Rattle.dirty_vector.specs.Changes.{ChangesAreMarked};
 
 use dirty_vector::{DirtyVector, PAGE_BYTES};
 

@@ -7,7 +7,8 @@ use Rattle.disk_model.specs.FileState.{FileState}
 use Rattle.hive_records.specs.Images.{BinsEncodeTree}
 use Rattle.hive_flush_model.proofs.Moving.{absorbed}
 use Rattle.hive_flush_model.specs.StoredTrees.{TreeDecoder, tree_under}
-use Rattle.hive_flush_model.specs.Plans.{PlanFitsImage, ChangesAreMarked}
+use Rattle.dirty_vector.specs.Changes.{ChangesAreMarked}
+use Rattle.hive_flush_model.specs.Plans.{PlanFitsImage}
 use Rattle.hive_flush_model.specs.States.{IsAtRest, PrimaryIsSyncedIn, files_match_phase}
 use Rattle.hive_writer.specs.declared.writer.HiveWriter.{HiveWriter}
 use Rattle.hive_writer.specs.declared.stage.FlushStage.{FlushStage}

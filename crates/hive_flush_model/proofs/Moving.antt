@@ -12,7 +12,8 @@ use Rattle.dirt_log.specs.FileContents.{is_clean_file}
 use Rattle.hive_flush_model.specs.StoredTrees.{TreeDecoder}
 use Rattle.hive_flush_model.specs.Phases.{FlushState}
 use Rattle.hive_flush_model.specs.States.{IsSectorOnWay, ArePagesOnWay, Shows, LogHas, HasLog, IsAtRest, IsWritingLog, IsLogSynced, IsPrimaryMarkedDirty, IsWritingPages, ArePagesSynced, IsHeaderWritten}
-use Rattle.hive_flush_model.specs.Plans.{IsBehind, PlanFitsImage, ChangesAreMarked, AreClean, AreDirty}
+use Rattle.dirty_vector.specs.Changes.{ChangesAreMarked}
+use Rattle.hive_flush_model.specs.Plans.{IsBehind, PlanFitsImage, AreClean, AreDirty}
 use Rattle.hive_flush_model.proofs.StoredTrees.{clean_long, sector_unclean}
 use Rattle.hive_flush_model.proofs.Leaving.{left_beside, beside_behind, pages_unclean, pages_behind, shows_behind, whole_pages, shows_long, clean_of}
 

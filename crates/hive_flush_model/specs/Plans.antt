@@ -1,5 +1,5 @@
 -- What a flush writes, and what it may rest on: the pages in which a primary file differs from an image.
-use Rattle.std.specs.Prelude.{◌≡◌, ℕ, ◌/◌, ◌%◌, ◌<◌, ◌≤◌, true, false, List, length, drop, slice_index, Some}
+use Rattle.std.specs.Prelude.{◌≡◌, ℕ, ◌/◌, ◌<◌, ◌≤◌, true, false, List, length, drop, Some}
 use Rattle.base_block.specs.declared.block.BaseBlock.{BaseBlock}
 use Rattle.base_block.specs.Judgements.{IsPrimary}
 use Rattle.base_block.specs.Layout.{block_at, is_clean_block}
@@ -48,13 +48,6 @@ pub record PlanFitsImage {T : Type 0} (decode : TreeDecoder T) (memory : T × �
   pub log_number : (block_of plan.encoding).applied.0 ≡ plan.block.applied.0
   pub log_pages : pages_in plan.encoding ≡ pages
   pub log_repairs : (bins : List ℕ) → SameWhereClean image bins pages → repaired bins pages (page_bytes_in plan.encoding) ≡ image
-
--- Absorbing marks each page that it changes, and each page after the old end; no mark goes.
-pub record ChangesAreMarked (old_image : List ℕ) (old_pages : Pages) (new_image : List ℕ) (new_pages : Pages) : Type 0 where
-  pub whole : new_pages.bins_size % 512 ≡ 0
-  pub within : (page : ℕ) → page < new_pages.bins_size / 512 → is_dirty new_pages page ≡ false → page < old_pages.bins_size / 512
-  pub kept : (page : ℕ) → is_dirty new_pages page ≡ false → is_dirty old_pages page ≡ false
-  pub same : (i : ℕ) → i < new_pages.bins_size → is_dirty new_pages (i / 512) ≡ false → slice_index new_image i ≡ slice_index old_image i
 
 -- no byte from one offset up to another is in a dirty page
 abbrev pub AreClean : Pages → ℕ → ℕ → Type 0

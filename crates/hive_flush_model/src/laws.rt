@@ -22,7 +22,8 @@ ghost use Rattle.dirt_log.specs.WholeLog.{
 };
 ghost use Rattle.hive_flush_model.specs.Decisions.{held};
 ghost use Rattle.hive_flush_model.specs.StoredTrees.{TreeDecoder, tree_under, FilesHoldTree};
-ghost use Rattle.hive_flush_model.specs.Plans.{marked_block, FlushPlan, PlanFitsImage, IsBehind, ChangesAreMarked, AreClean, AreDirty};
+ghost use Rattle.dirty_vector.specs.Changes.{ChangesAreMarked};
+ghost use Rattle.hive_flush_model.specs.Plans.{marked_block, FlushPlan, PlanFitsImage, IsBehind, AreClean, AreDirty};
 ghost use Rattle.hive_flush_model.specs.Phases.{
   Purpose,
   Hive,

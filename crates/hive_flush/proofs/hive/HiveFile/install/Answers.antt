@@ -1,5 +1,5 @@
 use Rattle.std.proofs.Common.{◌≡◌, ℕ, List, refl, sym, ap, subst, ◌∙◌}
-use Rattle.hive_flush_model.specs.Plans.{ChangesAreMarked}
+use Rattle.dirty_vector.specs.Changes.{ChangesAreMarked}
 use Rattle.hive_writer.specs.declared.writer.HiveWriter.{HiveWriter}
 use Rattle.hive_flush.specs.HiveStates.{FilesMatchWriter, memory_of, durable_of}
 use Rattle.hive_flush.specs.NextBlocks.{block_for}
