@@ -58,7 +58,7 @@ image_split old half new words words' bounds bounds' spare room words_room at si
         second_size = omega arith;
         stay = c.stay;
         cells = c.cells;
-        written = record { len = len; others = λ j out. elim out [ inl low ↦ q.others j (inl low) ∙ p.others j (inl (omega arith)) | inr high ↦ q.others j (inr (omega arith)) ∙ p.others j (inr (omega arith)) ] };
+        written = record { len = len; others = λ j here rest. q.others j here ∙ p.others j (rest (omega arith)) };
       },
     )
 

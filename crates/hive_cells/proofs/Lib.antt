@@ -10,3 +10,5 @@ pub mod Outcomes
 pub mod Reached
 pub mod Region
 pub mod Walk
+mod SavedPages
+mod CellFills

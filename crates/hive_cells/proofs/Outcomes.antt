@@ -5,7 +5,7 @@ use Rattle.refusals.specs.declared.limits.TheConstants.{MOST_BINS_BYTES}
 use Rattle.hive_cells.specs.Tiles.{u32_at, IsBin, bin_size, is_allocated, cell_size, IsAllocatedCell, IsFreeCell, HasFree}
 use Rattle.hive_cells.specs.Marks.{IsWholeCell}
 use Rattle.hive_cells.specs.Starts.{HasStartBits, SameCell}
-use Rattle.hive_cells.specs.Changes.{StaysAt, StaysFree, RewritesWithin, Turns, Splits, Joins, JoinsBehind, JoinsBefore, Frees, IsCutToSize, Takes, LeavesRest, IsRoomFor, AddsFreeBin, HasRoom, HasNoRoomFor, Allocates, least_size, least_bin}
+use Rattle.hive_cells.specs.Changes.{StaysAt, StaysFree, RewritesWithin, RewritesSizes, IsOutside, Turns, Splits, Joins, JoinsBehind, JoinsBefore, Frees, IsCutToSize, Takes, LeavesRest, IsRoomFor, AddsFreeBin, HasRoom, HasNoRoomFor, Allocates, least_size, least_bin}
 use Rattle.hive_cells.proofs.CellChanges.{cell_within}
 use Rattle.hive_cells.proofs.Lookups.{begins_apart}
 use Rattle.hive_cells.proofs.Region.{words_same}
@@ -72,6 +72,16 @@ freed old free joined new words at from k was limit turned behind before =
             let first = free_is old free b (turned.cells b (omega arith) (omega arith)) found in
             let second = free_is free joined b (behind.before b low) first.0 in
             before.joined b second.0 (omega (arith, second.1, first.1));
+        none_before = λ none. before.alone (λ b found ends. elim (cases_lt b at) [
+          | inl low ↦
+              let second = free_was free joined b (behind.before b low) found in
+              let first = free_was old free b (turned.cells b (omega arith) (omega arith)) second.0 in
+              none b first.0 (omega (arith, second.1, first.1))
+          | inr high ↦
+              let here : b ≡ at = omega arith in
+              let same : cell_size joined b ≡ cell_size joined at = ap (cell_size joined) here in
+              omega arith
+        ]);
         free_behind = λ b found starts.
             let first = free_is old free b (turned.cells b (omega arith) (omega arith)) found in
             omega (arith, behind.joined b first.0 (omega arith), first.1);
@@ -116,6 +126,7 @@ joined_before old new words at from k free ends only j =
       free = j.joined;
       end = omega (arith, j.size);
       joined = only;
+      alone = λ none. absurd (none from free ends);
       stay = j.stay;
       written = j.written;
     }
@@ -128,6 +139,7 @@ none_before bytes at free none =
       free = free;
       end = refl;
       joined = λ first found ends. absurd (none first found ends);
+      alone = λ nothing. refl;
       stay = λ other. stays_same bytes other;
       written = record { len = refl; others = λ i out. refl };
     }
@@ -150,7 +162,7 @@ was_fitted old new at size more s =
       rest_size = λ less. omega (arith, ap (cell_size new) place);
       stay = s.stay;
       cells = λ other apart beside. s.cells other apart (λ e. beside (omega arith) (e ∙ sym place));
-      written = record { len = s.written.len; others = λ i out. s.written.others i (elim out [ inl low ↦ inl low | inr high ↦ inr (omega arith) ]) };
+      written = record { len = s.written.len; others = λ i here rest. s.written.others i here (λ less. subst (λ n. IsOutside i (at + n)) first (rest (omega arith))) };
     }
 
 -- one that fits as it is
@@ -166,7 +178,7 @@ fits_already bytes at size free least most =
       rest_size = λ less. absurd (omega arith);
       stay = λ other. stays_same bytes other;
       cells = λ other apart beside. same_cell bytes other;
-      written = record { len = refl; others = λ i out. refl };
+      written = record { len = refl; others = λ i here rest. refl };
     }
 
 -- a free cell that was fitted and turned allocated
@@ -210,10 +222,7 @@ taken old fitted new words at size k wide free fit turn =
       };
       written = record {
         len = turn.written.len ∙ fit.written.len;
-        others = λ i out. elim out [
-          | inl low ↦ turn.written.others i (inl low) ∙ fit.written.others i (inl low)
-          | inr high ↦ turn.written.others i (inr (omega arith)) ∙ fit.written.others i (inr (omega arith))
-        ];
+        others = λ i here rest. turn.written.others i here ∙ fit.written.others i here (λ less. subst (λ n. IsOutside i (at + n)) same_size (rest (omega arith)));
       };
     }
 
@@ -231,6 +240,16 @@ bin_stays mid new bin from to b behind r =
       },
       size,
     )
+
+-- what is written lies in the cell and in the four bytes after it
+sizes_within : (old new : List ℕ) (at size room : ℕ) → RewritesSizes old new at size room → RewritesWithin old new at (at + size + 4)
+sizes_within old new at size room r = record {
+  len = r.len;
+  others = λ i out. elim out [
+    | inl low ↦ r.others i (inl low) (λ less. inl (omega arith))
+    | inr high ↦ r.others i (inr (omega arith)) (λ less. inr high)
+  ];
+}
 
 -- the room that a cell is taken from, once it is taken
 room_of : (old mid new : List ℕ) (size at room : ℕ) → IsRoomFor old mid size at room → RewritesWithin mid new at (at + cell_size new at + 4) → IsRoomFor old new size at room
@@ -267,7 +286,7 @@ allocated old mid new len size at size_is room took =
       most = omega arith;
       exact = λ less. took.exact (subst (λ (x : ℕ). x + 8 < cell_size mid at) (sym size_is) less) ∙ size_is;
       others = λ other apart. stays_on old mid new other (room.stay other) (took.others other apart);
-      source = subst (λ (x : ℕ). IsRoomFor old new x at (cell_size mid at)) size_is (room_of old mid new size at (cell_size mid at) room.source took.written);
+      source = subst (λ (x : ℕ). IsRoomFor old new x at (cell_size mid at)) size_is (room_of old mid new size at (cell_size mid at) room.source (sizes_within mid new at (cell_size new at) (cell_size mid at) took.written));
       leaves = record {
         within = leaves.within;
         rest = leaves.rest;
@@ -283,7 +302,7 @@ allocated old mid new len size at size_is room took =
       };
       written = record {
         longer = omega (arith, took.written.len);
-        others = λ i before out. took.written.others i out ∙ room.same i before;
+        others = λ i before here rest. took.written.others i here rest ∙ room.same i before;
       };
     }
 

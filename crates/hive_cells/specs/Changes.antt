@@ -27,10 +27,20 @@ AllStay old new = (at : ℕ) → StaysAt old new at
 abbrev pub least_size : ℕ → ℕ
 least_size len = (len + 11) / 8 * 8
 
--- only the bytes from one offset up to another are written, and those after the old end
-pub record WritesWithin (old new : List ℕ) (from to : ℕ) : Type 0 where
+-- a byte is none of the four at an offset
+abbrev pub IsOutside : ℕ → ℕ → Type 0
+IsOutside i at = (i < at) ⊎ (at + 4 ≤ i)
+
+-- the data get no shorter. Of the old data, only the four bytes at an offset are written. If a cell of a size there
+-- leaves something of its room over, the four bytes after the cell are written too
+pub record WritesSizes (old new : List ℕ) (at size room : ℕ) : Type 0 where
   pub longer : length old ≤ length new
-  pub others : (i : ℕ) → i < length old → ((i < from) ⊎ (to ≤ i)) → slice_index new i ≡ slice_index old i
+  pub others : (i : ℕ) → i < length old → IsOutside i at → (size < room → IsOutside i (at + size)) → slice_index new i ≡ slice_index old i
+
+-- the same, and the length stays
+pub record RewritesSizes (old new : List ℕ) (at size room : ℕ) : Type 0 where
+  pub len : length new ≡ length old
+  pub others : (i : ℕ) → IsOutside i at → (size < room → IsOutside i (at + size)) → slice_index new i ≡ slice_index old i
 
 -- the length stays, and only the bytes from one offset up to another are written
 pub record RewritesWithin (old new : List ℕ) (from to : ℕ) : Type 0 where
@@ -66,7 +76,7 @@ pub record Splits (old new : List ℕ) (at size : ℕ) : Type 0 where
   pub second_size : size + cell_size new (at + size) ≡ cell_size old at
   pub stay : AllStay old new
   pub cells : OtherCells old new at (at + size)
-  pub written : RewritesWithin old new at (at + size + 4)
+  pub written : RewritesSizes old new at size (cell_size old at)
 
 -- the free cells at an offset and after it become one
 pub record Joins (old new : List ℕ) (at next : ℕ) : Type 0 where
@@ -92,6 +102,7 @@ pub record JoinsBefore (old new : List ℕ) (at from : ℕ) : Type 0 where
   pub free : IsFreeCell new from
   pub end : from + cell_size new from ≡ at + cell_size old at
   pub joined : (first : ℕ) → IsFreeCell old first → first + cell_size old first ≡ at → from ≡ first
+  pub alone : ((first : ℕ) → IsFreeCell old first → first + cell_size old first ≢ at) → from ≡ at
   pub stay : AllStay old new
   pub written : RewritesWithin old new from (from + 4)
 
@@ -183,7 +194,7 @@ pub record IsCutToSize (old new : List ℕ) (at size : ℕ) : Type 0 where
   pub rest_size : cell_size new at < cell_size old at → cell_size new at + cell_size new (at + cell_size new at) ≡ cell_size old at
   pub stay : AllStay old new
   pub cells : (other : ℕ) → other ≢ at → (cell_size new at < cell_size old at → other ≢ at + cell_size new at) → SameCell old new other
-  pub written : RewritesWithin old new at (at + cell_size new at + 4)
+  pub written : RewritesSizes old new at (cell_size new at) (cell_size old at)
 
 -- a free cell is allocated at an offset, of a size, or with all that it has if no more than 8 bytes would be left over
 pub record Takes (old new : List ℕ) (at size : ℕ) : Type 0 where
@@ -194,7 +205,7 @@ pub record Takes (old new : List ℕ) (at size : ℕ) : Type 0 where
   pub exact : size + 8 < cell_size old at → cell_size new at ≡ size
   pub others : OthersStay old new at
   pub leaves : LeavesRest old new at (cell_size old at)
-  pub written : RewritesWithin old new at (at + cell_size new at + 4)
+  pub written : RewritesSizes old new at (cell_size new at) (cell_size old at)
 
 -- a freed cell lies in the free cell at an offset, which is merged from three: the freed cell, the free cell that ended
 -- where it began, and the free cell that began where it ended
@@ -203,6 +214,7 @@ pub record Merges (old new : List ℕ) (offset from : ℕ) : Type 0 where
   pub before : from ≤ offset
   pub behind : offset + cell_size old offset ≤ from + cell_size new from
   pub free_before : (at : ℕ) → IsFreeCell old at → at + cell_size old at ≡ offset → from ≡ at
+  pub none_before : ((at : ℕ) → IsFreeCell old at → at + cell_size old at ≢ offset) → from ≡ offset
   pub free_behind : (at : ℕ) → IsFreeCell old at → at ≡ offset + cell_size old offset → from + cell_size new from ≡ at + cell_size old at
 
 -- the allocated cell at an offset is freed, and lies in a free cell that begins at another offset
@@ -234,7 +246,7 @@ pub record Allocates (old new : List ℕ) (len offset : ℕ) : Type 0 where
   pub others : OthersStay old new offset
   pub source : IsRoomFor old new (least_size len) offset room
   pub leaves : LeavesRest old new offset room
-  pub written : WritesWithin old new offset (offset + cell_size new offset + 4)
+  pub written : WritesSizes old new offset (cell_size new offset) room
 
 -- bytes of the data of the allocated cell at an offset are written, from one offset up to another
 pub record Writes (old new : List ℕ) (at from to : ℕ) : Type 0 where

@@ -63,6 +63,11 @@ Fault bytes cause.BadBin = (at : ℕ) × BinStart bytes at × (¬ IsBin bytes at
 Fault bytes cause.BadCell = (end : ℕ) × (at : ℕ) × CellStart bytes end at × (¬ IsCell bytes end at)
 Fault bytes _ = ⊥
 
+-- a refusal for a cause that is true of the data, reported of hive 0
+abbrev pub IsFaultOf : List ℕ → Refusal → Type 0
+IsFaultOf bytes (refusal.HiveDamaged zero c) = Fault bytes c
+IsFaultOf bytes _ = ⊥
+
 -- why data are refused as hive bins data: for want of memory, or for a cause that is true of them, reported of hive 0
 abbrev pub DataRefused : List ℕ → Refusal → Type 0
 DataRefused bytes refusal.NoMemory = Unit {0}

@@ -48,6 +48,14 @@ impl FreeBounds {
         Ok(FreeBounds { pages, groups })
     }
 
+    /// Puts all bounds to 0.
+    pub(crate) fn clear(&mut self)
+        ensures { self.new ≡ replicate (length self.old) 0 }
+    {
+        self.pages.fill(0);
+        self.groups.fill(0);
+    }
+
     /// Makes sure that the bound of its page is at least the size of a cell at an offset.
     pub(crate) fn note(&mut self, at: usize, size: usize)
         requires page { at / 4096 < length self.old }

@@ -1,15 +1,17 @@
 //! Hive bins data whose bins and cells tile, with its cells by their offsets.
-ghost use Rattle.std.specs.Prelude.{◌≡◌, ◌+◌, ◌-◌, ◌^◌, ◌<◌, ◌*◌, ◌/◌, ◌%◌, ◌≤◌, List, ℕ, MatchResult, IfOk, IsTrue, ◌↔◌, min, length, slice_range};
+ghost use Rattle.std.specs.Prelude.{◌≡◌, ◌+◌, ◌-◌, ◌^◌, ◌<◌, ◌*◌, ◌/◌, ◌%◌, ◌≤◌, List, ℕ, MatchResult, MatchOption, IfOk, IsTrue, ◌↔◌, ◌++◌, min, length, replicate, slice_range, slice_index};
 ghost use Rattle.std.specs.List.{AllByRecursion};
 ghost use Rattle.std.specs.Vec.{vec_capacity};
 ghost use Rattle.hive_cells.specs.Bins.{Bins, bins_code, Cells, Shows};
-ghost use Rattle.hive_cells.specs.Tiles.{Tiles, LiesInOneTile, DataRefused, IsAllocatedCell, cell_data, cell_size, is_allocated};
+ghost use Rattle.hive_cells.specs.Tiles.{Tiles, LiesInOneTile, DataRefused, IsAllocatedCell, IsFreeCell, HasFree, cell_data, cell_size, is_allocated};
 ghost use Rattle.hive_cells.specs.Starts.{IsImage};
 ghost use Rattle.hive_cells.specs.Changes.{RewritesWithin, Frees, FreeRefused, Allocates, RoomRefused, HasRoom, UsesSpare, Writes, least_size};
 
 mod edits;
 mod growth;
 mod lookup;
+mod places;
+mod saved_pages;
 
 use crate::free_bounds::FreeBounds;
 use crate::looks::Looks;
@@ -179,6 +181,50 @@ impl Image {
         Ok(())
     }
 
+    /// Writes a text into the data of the allocated cell that begins at an offset, from their first byte on, and zeros
+    /// after it up to the end of the cell. Takes no memory.
+    pub fn fill(&mut self, offset: u32, text: &[u8])
+        requires cell { IsAllocatedCell self.old.bytes offset }
+        requires room { 4 + length text.now ≤ cell_size self.old.bytes offset }
+        ensures written { Writes self.old.bytes self.new.bytes offset (offset + 4)
+            (offset + cell_size self.old.bytes offset) }
+        ensures data { cell_data self.new.bytes offset ≡ text.now
+            ++ replicate (cell_size self.old.bytes offset - (4 + length text.now)) 0 }
+        ensures spare { self.new.spare ≡ self.old.spare }
+    {
+        let cell = offset as usize;
+        let end = cell + self.size_at(cell);
+        put_filled(&mut self.bytes, cell + SIZE_BYTES, end, text);
+    }
+
+    /// Moves `len` bytes within the data of the allocated cell that begins at an offset, from the byte `from` of the
+    /// data to the byte `to`. The two places may overlap. Only the bytes that they are moved to are written. The caller
+    /// makes sure that both places lie in the cell. Takes no memory.
+    ///
+    /// Refused with `HiveDamaged` of hive 0 and `BadOffset` exactly if no allocated cell begins there.
+    pub fn shift(&mut self, offset: u32, from: usize, to: usize, len: usize) -> Result<(), Refusal>
+        requires source { IsAllocatedCell self.old.bytes offset →
+            4 + from + len ≤ cell_size self.old.bytes offset }
+        requires target { IsAllocatedCell self.old.bytes offset →
+            4 + to + len ≤ cell_size self.old.bytes offset }
+        ensures moved { MatchResult result
+            (λ _. Writes self.old.bytes self.new.bytes offset (offset + 4 + to)
+            (offset + 4 + to + len)
+            × ((j : ℕ) → j < len → slice_index self.new.bytes (offset + 4 + to + j)
+            ≡ slice_index self.old.bytes (offset + 4 + from + j)))
+            (λ refusal. (self.new ≡ self.old) × (refusal ≡ Refusal.HiveDamaged 0 Cause.BadOffset)
+            × (¬ IsAllocatedCell self.old.bytes offset)) }
+        ensures spare { self.new.spare ≡ self.old.spare }
+    {
+        let cell = offset as usize;
+        if !self.is_allocated(cell) {
+            return Err(Refusal::from(Cause::BadOffset));
+        }
+        let data = cell + SIZE_BYTES;
+        move_bytes(&mut self.bytes, data + from, data + to, len);
+        Ok(())
+    }
+
     /// Frees the allocated cell that begins at an offset. Merges it with the free cell that ends there and with the
     /// free cell that begins where it ends. Answers the offset of the free cell in which it now lies. Only the four
     /// bytes at that offset and the four bytes at the given offset are written. Never refused for want of memory.
@@ -204,8 +250,9 @@ impl Image {
     /// Allocates a cell for data of a length, and answers its offset. The cell's size is the length and four bytes,
     /// rounded up to a multiple of 8. It is 8 bytes more if exactly 8 bytes would be left over. A free cell that is
     /// long enough is taken. If there is none, the least bin for the cell is added after the data, and its free cell is
-    /// taken. What is left over is one free cell, and all other free cells stay. Of the old data, only bytes of the
-    /// cell and the four bytes after it are written. The data of the new cell are not specified.
+    /// taken. What is left over is one free cell, and all other free cells stay. Of the old data, only the four bytes
+    /// of the cell's size are written and, if something is left over, the four bytes after the cell. The data of the
+    /// new cell are not specified.
     ///
     /// Refused with `TooLarge` exactly if the data are longer than the limit, or if no free cell is long enough and a
     /// new bin would take the data over the limit. Otherwise refused with `NoMemory` if no free cell is long enough and
@@ -267,4 +314,36 @@ fn put_bytes(bytes: &mut [u8], from: usize, source: &[u8])
     ensures encoding { slice_range bytes.new from (from + length source.now) ≡ source.now }
 {
     bytes[from..from + source.len()].copy_from_slice(source);
+}
+
+// writes bytes from an offset on, and zeros after them up to another offset
+fn put_filled(bytes: &mut [u8], from: usize, to: usize, text: &[u8])
+    requires within { to ≤ length bytes.old }
+    requires room { from + length text.now ≤ to }
+    ensures written { RewritesWithin bytes.old bytes.new from to }
+    ensures encoding { slice_range bytes.new from to
+        ≡ text.now ++ replicate (to - (from + length text.now)) 0 }
+{
+    put_bytes(bytes, from, text);
+    put_zeros(bytes, from + text.len(), to);
+}
+
+// writes zeros from an offset up to another
+fn put_zeros(bytes: &mut [u8], from: usize, to: usize)
+    requires within { to ≤ length bytes.old }
+    requires order { from ≤ to }
+    ensures written { RewritesWithin bytes.old bytes.new from to }
+    ensures zeros { slice_range bytes.new from to ≡ replicate (to - from) 0 }
+{
+    bytes[from..to].fill(0);
+}
+
+// moves bytes from one offset to another
+fn move_bytes(bytes: &mut [u8], from: usize, to: usize, len: usize)
+    requires source { from + len ≤ length bytes.old }
+    requires target { to + len ≤ length bytes.old }
+    ensures written { RewritesWithin bytes.old bytes.new to (to + len) }
+    ensures moved { (j : ℕ) → j < len → slice_index bytes.new (to + j) ≡ slice_index bytes.old (from + j) }
+{
+    bytes.copy_within(from..from + len, to);
 }

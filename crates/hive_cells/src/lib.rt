@@ -6,8 +6,10 @@
 //! nothing, and each call counts one look of the [`Looks`] that it is given. [`Image::alloc`] takes a free cell if one
 //! is long enough, and else adds the least bin. [`Image::free`] merges a cell with its free neighbours. Both leave
 //! every other allocated cell and its data as they were. Both say which bytes they wrote, so that a caller knows which
-//! pages changed. [`Image::write`] writes into one cell's data. Each of the three leaves data that bins and cells tile.
-//! A refused call changes nothing. [`Image::reserve`] takes memory ahead, so that an allocation within it can't be
+//! pages changed. [`Image::write`], [`Image::fill`] and [`Image::shift`] write into one cell's data. Each of these
+//! leaves data that bins and cells tile. A refused call changes nothing. [`Image::place_for`] and
+//! [`Image::merges_from`] say ahead where a change will write. A caller that keeps these pages can put them back by
+//! [`Image::restore`]. [`Image::reserve`] takes memory ahead, so that an allocation within it can't be
 //! refused for want of memory. [`Image::bytes`] lends all bytes to whoever writes them to a file, by `&mut self`. Of
 //! the calls that take `&self`, `cell` alone gives bytes of a cell. Offsets are counted from the start of the hive bins
 //! data.

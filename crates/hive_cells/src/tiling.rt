@@ -1,6 +1,6 @@
 //! The one walk over hive bins data that finds where bins and cells begin.
-ghost use Rattle.std.specs.Prelude.{◌≡◌, ◌+◌, ◌≤◌, ◌<◌, ◌*◌, ◌%◌, ◌^◌, length, MatchResult, IfOk};
-ghost use Rattle.hive_cells.specs.Tiles.{IsBin, IsCell, DataRefused, bin_size, cell_size, is_allocated};
+ghost use Rattle.std.specs.Prelude.{◌≡◌, ◌+◌, ◌≤◌, ◌<◌, ◌*◌, ◌/◌, ◌%◌, ◌^◌, length, MatchResult, IfOk};
+ghost use Rattle.hive_cells.specs.Tiles.{IsBin, IsCell, DataRefused, IsFaultOf, bin_size, cell_size, is_allocated};
 ghost use Rattle.hive_cells.specs.Starts.{IsIndexed, WalkIsBetweenBins, WalkIsInBin};
 
 use crate::free_bounds::FreeBounds;
@@ -107,7 +107,7 @@ fn walk_cell(
     requires walk { WalkIsInBin bytes.now starts.old free.old end at }
     requires before { at < end }
     ensures { MatchResult result (λ behind. (at < behind)
-        × WalkIsInBin bytes.now starts.new free.new end behind) (DataRefused bytes.now) }
+        × WalkIsInBin bytes.now starts.new free.new end behind) (IsFaultOf bytes.now) }
 {
     let behind = cell_end(bytes, at, end)?;
     set_start_bit(starts, at / MARKED_BYTES, true);
@@ -127,7 +127,7 @@ fn walk_bin(
     requires walk { WalkIsBetweenBins bytes.now starts.old free.old at }
     requires before { at < length bytes.now }
     ensures { MatchResult result (λ end. (at < end)
-        × WalkIsBetweenBins bytes.now starts.new free.new end) (DataRefused bytes.now) }
+        × WalkIsBetweenBins bytes.now starts.new free.new end) (IsFaultOf bytes.now) }
 {
     let end = bin_end(bytes, at)?;
     let mut cell = at + BIN_HEADER_BYTES;
@@ -144,14 +144,33 @@ pub(crate) fn index_of(alloc: Global, bytes: &[u8]) -> Result<(Vec<u64>, FreeBou
     ensures { MatchResult result (λ index. IsIndexed bytes.now index.0.items index.1)
         (DataRefused bytes.now) }
 {
+    let mut starts = vec![in alloc; 0; bytes.len() / WORD_BYTES]?;
+    let mut free = FreeBounds::none(alloc, bytes.len() / PAGE_BYTES)?;
+    index_again(bytes, &mut starts, &mut free)?;
+    Ok((starts, free))
+}
+
+/// Clears bits and bounds and fills them with those of other data, of which they have one for each 8 bytes and for each
+/// page. Refused as [`index_of`] is, but never for want of memory.
+pub(crate) fn index_again(
+    bytes: &[u8],
+    starts: &mut [u64],
+    free: &mut FreeBounds,
+) -> Result<(), Refusal>
+    requires bits { length starts.old ≡ length bytes.now / 512 }
+    requires bounds { length bytes.now / 4096 ≤ length free.old }
+    requires most { 16384 ≤ length free.old }
+    ensures { MatchResult result (λ _. IsIndexed bytes.now starts.new free.new)
+        (IsFaultOf bytes.now) }
+{
     if bytes.len() % PAGE_BYTES != 0 {
         return Err(Refusal::from(Cause::Truncated));
     }
-    let mut starts = vec![in alloc; 0; bytes.len() / WORD_BYTES]?;
-    let mut free = FreeBounds::none(alloc, bytes.len() / PAGE_BYTES)?;
+    starts.fill(0);
+    free.clear();
     let mut bin = 0;
     while bin < bytes.len() {
-        bin = walk_bin(bytes, &mut starts, &mut free, bin)?;
+        bin = walk_bin(bytes, starts, free, bin)?;
     }
-    Ok((starts, free))
+    Ok(())
 }

@@ -13,9 +13,13 @@ use refusals::Refusal;
 use refusals::limits::MOST_BINS_BYTES;
 use std::alloc::AllocError;
 
+// what has no memory left gets memory for one part of so many more
+const GROWTH: usize = 8;
+
 impl Image {
     /// Takes memory by which the data may get `more` bytes longer. If fewer than `more` bytes are spare, `more` bytes
-    /// are spare then.
+    /// are spare then. If the data have no memory for them yet, an eighth of the data's length is taken, or `more` bytes
+    /// if that is more.
     ///
     /// Refused with `NoMemory` alone, and then everything is as before.
     pub fn reserve(&mut self, more: usize) -> Result<(), Refusal>
@@ -28,8 +32,11 @@ impl Image {
         if more <= self.spare {
             return Ok(());
         }
-        self.bytes.reserve(more)?;
-        self.starts.reserve(more / WORD_BYTES)?;
+        let room = room_for(self.bytes.len(), self.bytes.capacity(), more);
+        self.bytes.reserve_exact(room)?;
+        let words = more / WORD_BYTES;
+        let room = room_for(self.starts.len(), self.starts.capacity(), words);
+        self.starts.reserve_exact(room)?;
         self.spare = more;
         Ok(())
     }
@@ -71,6 +78,19 @@ impl Image {
         self.free.note(cell, size - BIN_HEADER_BYTES);
         self.spare = self.spare.saturating_sub(size);
         Ok(())
+    }
+}
+
+// for how many items more memory is taken if `more` are asked for: an eighth of those that are there at least, so that
+// what grows by little each time is rarely moved; or just `more`, if there is memory for them
+fn room_for(len: usize, capacity: usize, more: usize) -> usize
+    requires { len ≤ capacity }
+    ensures { more ≤ result }
+{
+    if more <= capacity - len {
+        more
+    } else {
+        more.max(len / GROWTH)
     }
 }
 
