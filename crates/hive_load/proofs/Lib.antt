@@ -4,3 +4,4 @@ pub mod Levels
 pub mod Ends
 pub mod Bound
 pub mod Untiled
+pub mod OneEncoding

@@ -8,8 +8,8 @@ use refusals::Refusal;
 use reg_tree::Tree;
 use std::alloc::Global;
 
-/// The registry tree that hive bins data encode, from the key node at an offset on, and the data given back. The answer
-/// is what [`Image::open`] and [`load`] answer one after the other.
+/// The registry tree that hive bins data encode, from the key node at an offset on, and the image of the data. The
+/// answer is what [`Image::open`] and [`load`] answer one after the other.
 ///
 /// Refused as they are: with `HiveDamaged` of hive 0 and a cause that is true of the data, with `Unsupported`, with
 /// `TooLarge`, and with `NoMemory`.
@@ -18,8 +18,8 @@ pub fn load_bins(
     bins: Vec<u8>,
     root: u32,
     minor: u32,
-) -> Result<(Tree, Vec<u8>), Refusal>
-    ensures same { IfOk result (λ loaded. loaded.1.items ≡ bins.items) }
+) -> Result<(Tree, Image), Refusal>
+    ensures same { IfOk result (λ loaded. loaded.1.bytes ≡ bins.items) }
     ensures stands { IfOk result (λ loaded. BinsEncodeTreeInLimits bins.items root minor loaded.0) }
     ensures refused { IfErr result (BinsRefused bins.items root minor) }
 {
@@ -29,7 +29,7 @@ pub fn load_bins(
     };
     let mut looks = Looks::new();
     match load(alloc, &image, root, minor, &mut looks) {
-        Ok(tree) => Ok((tree, image.into_bytes())),
+        Ok(tree) => Ok((tree, image)),
         Err(why) => Err(why),
     }
 }

@@ -3,6 +3,8 @@ ghost use Rattle.std.specs.Prelude.{◌≡◌, ◌≢◌, ℕ, List};
 ghost use Rattle.refusals.specs.declared.refusal.Refusal.{Refusal};
 ghost use Rattle.refusals.specs.declared.refusal.Refusal.TheVariants.{NoMemory};
 ghost use Rattle.reg_tree.specs.Maps.{TreeMap};
+ghost use Rattle.hive_cells.specs.Bins.{Cells, Shows};
+ghost use Rattle.hive_cells.specs.Tiles.{Tiles};
 ghost use Rattle.hive_records.specs.Images.{BinsEncodeTree};
 ghost use Rattle.hive_load.specs.Limits.{BinsRefused, BinsEncodeTreeInLimits, TreeIsInLimits, LoadRefused};
 
@@ -16,4 +18,12 @@ pub fn refusals_exclude_trees()
 pub fn refused_bins_exclude_trees()
     ensures { (bytes : List ℕ) (root minor : ℕ) (why : Refusal) → BinsRefused bytes root minor why →
         why ≢ NoMemory → (tree : TreeMap) → BinsEncodeTreeInLimits bytes root minor tree → ⊥ }
+{}
+
+/// Bins data encode a tree in one way at most. So a type may keep that they do so as a fact without its details, and
+/// the details follow from the cells that the data show.
+pub fn one_encoding()
+    ensures { (bytes : List ℕ) (root minor : ℕ) (tree : TreeMap) → Tiles bytes → (cells : Cells) →
+        Shows bytes cells → ∥ BinsEncodeTreeInLimits bytes root minor tree ∥₁ →
+        BinsEncodeTreeInLimits bytes root minor tree }
 {}
