@@ -2,3 +2,4 @@ pub mod Words
 pub mod Bytes
 pub mod Sets
 pub mod Firsts
+mod Alike

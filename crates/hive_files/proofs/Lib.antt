@@ -1,5 +1,4 @@
 pub mod Frames
 pub mod Founding
-pub mod Alike
 pub mod Anew
 pub mod Chunks

@@ -1,7 +1,7 @@
 use Rattle.std.proofs.Common.{◌≡◌, ℕ, ◌+◌, ◌*◌, ◌-◌, List, take, drop, ap, sym, ◌∙◌, arith}
 use Rattle.std.proofs.lemmas.Bool.{not-false}
 use Rattle.std.proofs.lemmas.Slice.Eq.{bytes_eq-Decides}
-use Rattle.hive_files.proofs.page_diff.mark_page.Goals as goal
+use Rattle.dirty_vector.proofs.page_diff.mark_page.Goals as goal
 
 pub returns-else-ne-clause-same : goal.returns-else-ne-clause-same
 returns-else-ne-clause-same c = λ clean.

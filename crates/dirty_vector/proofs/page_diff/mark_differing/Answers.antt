@@ -1,8 +1,8 @@
 use Rattle.std.proofs.Common.{◌≡◌, ℕ, ◌/◌, false, ⊎_elim, subst, arith, rules}
 use Rattle.std.proofs.lemmas.Bool.{cases_eq}
 use Rattle.dirty_vector.specs.Pages.{is_dirty}
-use Rattle.hive_files.proofs.Alike.{alike_in_page}
-use Rattle.hive_files.proofs.page_diff.mark_differing.Goals as goal
+use Rattle.dirty_vector.proofs.Alike.{alike_in_page}
+use Rattle.dirty_vector.proofs.page_diff.mark_differing.Goals as goal
 
 pub pages-preserved : goal.pages-preserved
 pages-preserved c =

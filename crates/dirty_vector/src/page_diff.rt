@@ -3,7 +3,7 @@ ghost use Rattle.std.specs.Prelude.{◌≡◌, ◌≤◌, ◌/◌, ◌<◌, ◌%
 ghost use Rattle.dirty_vector.specs.Pages.{is_dirty, is_bins_size};
 ghost use Rattle.dirty_vector.specs.Changes.{ChangesAreMarked};
 
-use dirty_vector::{DirtyVector, PAGE_BYTES};
+use crate::vector::{DirtyVector, PAGE_BYTES};
 
 /// Marks each page in which a new image differs from the old one, and each page past the old one's end; no mark goes.
 /// Takes no memory. Each byte is looked at once.

@@ -1,8 +1,8 @@
 use Rattle.std.proofs.Common.{◌≡◌, ◌*◌, ◌/◌, ◌%◌, inl, inr, ⊎_elim, arith, refl, length}
 use Rattle.std.proofs.lemmas.Bool.{cases_lt, false_from_ne_true, eqb-true, and_parts}
 use Rattle.dirty_vector.specs.Pages.{is_dirty}
-use Rattle.hive_flush_model.proofs.StoredTrees.{true_false}
-use Rattle.hive_files.proofs.page_diff.mark_changes.Goals as goal
+use Rattle.dirty_vector.proofs.Alike.{true_false}
+use Rattle.dirty_vector.proofs.page_diff.mark_changes.Goals as goal
 
 pub mark_differing-requires-clause-whole : goal.mark_differing-requires-clause-whole
 mark_differing-requires-clause-whole c = omega (arith, c.requires.old_size, c.bins_size.ensures.whole, c.bins_size.ensures.value)

@@ -1,6 +1,6 @@
 use Rattle.std.proofs.Common.{◌≡◌, ◌≤◌, ◌/◌, ◌<◌, ◌*◌, ◌-◌, ℕ, false, length, slice_index}
 use Rattle.dirty_vector.specs.Pages.{is_dirty}
-use Rattle.hive_files.proofs.page_diff.mark_differing.Given as goal
+use Rattle.dirty_vector.proofs.page_diff.mark_differing.Given as goal
 
 abbrev pub invariant-pages : goal.invariant-pages
 invariant-pages l =

@@ -1,5 +1,5 @@
 -- Pages in which two images are alike.
-use Rattle.std.proofs.Common.{◌≡◌, ℕ, ◌+◌, ◌*◌, ◌/◌, ◌%◌, ◌<◌, List, take, drop, get_or, sym, ap, ◌∙◌, arith}
+use Rattle.std.proofs.Common.{◌≡◌, ℕ, ◌+◌, ◌*◌, ◌/◌, ◌%◌, ◌<◌, Bool, true, false, List, take, drop, get_or, sym, ap, ◌∙◌, arith}
 use Rattle.std.proofs.lemmas.List.{get_or-take, get_or-drop}
 
 -- a byte of a page that is alike
@@ -11,3 +11,6 @@ alike_in_page old new page i here same =
     let of : (l : List ℕ) → get_or (take 512 (drop (512 * page) l)) k 0 ≡ get_or l i 0 =
     λ l. get_or-take 512 (drop (512 * page) l) k 0 below ∙ get_or-drop (512 * page) l k 0 ∙ ap (λ (n : ℕ). get_or l n 0) (sym place) in
     sym (of new) ∙ ap (λ (l : List ℕ). get_or l k 0) same ∙ of old
+
+pub true_false : (b : Bool) → b ≡ true → b ≡ false → ⊥
+true_false b t f = absurd cc
