@@ -1,0 +1,4 @@
+mod MarkedPages
+mod Logs
+mod WaysBack
+mod CellChanges

@@ -1,0 +1,4 @@
+pub mod SavedPages
+pub mod Savepoints
+pub mod Puts
+pub mod Lending
