@@ -37,6 +37,10 @@ use Rattle.transactions.specs.contracts.prepared.ReadyCommit as ReadyCommit
 use Rattle.transactions.specs.contracts.prepared.Prepared as Prepared
 use Rattle.reg_tree.specs.contracts.tree.Tree as Tree
 use Rattle.dirty_vector.specs.contracts.vector.DirtyVector as DirtyVector
+use Rattle.hive_cells.specs.contracts.free_bounds.FreeBounds as FreeBounds
+use Rattle.hive_cells.specs.contracts.image.Image as Image
+use Rattle.hive_savepoint.specs.contracts.log.UndoLog as UndoLog
+use Rattle.hive_savepoint.specs.contracts.image.SavepointImage as SavepointImage
 use Rattle.base_block.specs.contracts.block.BaseBlock as BaseBlock
 use Rattle.hive_writer.specs.contracts.writer.HiveWriter as HiveWriter
 use Rattle.hive_flush.specs.contracts.hive.HiveFile as HiveFile
@@ -193,8 +197,20 @@ block_send = search (std.crosses, sendable) depth 40 fits 8000
 pub writer_send : IsSend HiveWriter.the_field.row
 writer_send = search (block_send, std.crosses, sendable) depth 40
 
+pub bounds_send : IsSend FreeBounds.the_row
+bounds_send = search (std.crosses, sendable) depth 40
+
+pub image_send : IsSend Image.the_row
+image_send = search (bounds_send, std.crosses, sendable) depth 40
+
+pub log_send : IsSend UndoLog.the_row
+log_send = search (std.crosses, sendable) depth 40
+
+pub savepoint_send : IsSend SavepointImage.the_row
+savepoint_send = search (image_send, log_send, std.crosses, sendable) depth 40
+
 pub hive_send : IsSend HiveFile.the_field.row
-hive_send = search (tree_send, vector_send, writer_send, std.crosses, sendable) depth 40
+hive_send = search (tree_send, vector_send, savepoint_send, writer_send, std.crosses, sendable) depth 40
 
 pub told_send : IsSend GhostLog.the_row
 told_send = search (ghost_log.crosses, std.crosses, sendable) depth 40

@@ -18,6 +18,7 @@ use Rattle.hive_flush.specs.HiveStates.{FilesMatchWriter}
 use Rattle.hive_flush.specs.NextBlocks.{block_for}
 use Rattle.hive_load.specs.Limits.{BinsEncodeTreeInLimits}
 use Rattle.hive_flush.specs.Decoders.{decoder_with}
+use Rattle.hive_flush.proofs.Going.{ready_same}
 use Rattle.hive_flush.proofs.TreeDecoder.{gives, gives_right, gives_still}
 
 -- bins data encode at most one tree
@@ -61,3 +62,18 @@ adopted w image bins pages left now memory tree root size time number primary lo
       on = subst (λ (q : FlushStage). files_match_phase stands (work_of next bins left now (tree, number)) (phase_in (length next.encoding) q) primary log) (sym quiet) no_change;
       rests = λ working. subst (λ (q : FlushStage). PrimaryIsSyncedIn (phase_in 0 q) primary) (sym quiet) tt;
     }
+
+-- the files of a quiet hive whose writer is planned for another image, as the calls of install and absorb show it
+pub planned_on : (w next : HiveWriter) (image bins last shown : List ℕ) (pages left : Pages) (held old tree : TreeMap) (root size time number : ℕ) (primary log : FileState)
+    → IsOne → w.stage ≡ stage.AtRest → next ≡ record w { block = block_for w.block root size time number } → w.block.minor ≡ 5
+    → BinsEncodeTreeInLimits bins root 5 tree → ChangesAreMarked image pages bins left → last ≡ bins → shown ≡ bins
+    → ((stands : TreeDecoder TreeMap) → tree_under stands next.block shown ≡ Some tree → next.block.applied.0 ≡ number → PlanFitsImage stands (tree, number) shown left (plan_of next shown left))
+    → FilesMatchWriter w image pages (held, w.base.applied.0) (old, w.block.applied.0) primary log
+    → FilesMatchWriter next last left (held, next.base.applied.0) (tree, next.block.applied.0) primary log
+planned_on w next image bins last shown pages left held old tree root size time number primary log one quiet is minor within marks same lent fits on =
+    let planned : HiveWriter = record w { block = block_for w.block root size time number } in
+    let encodes : BinsEncodeTreeInLimits bins root w.block.minor tree = subst (λ (m : ℕ). BinsEncodeTreeInLimits bins root m tree) (sym minor) within in
+    subst (λ (l : List ℕ). FilesMatchWriter next l left (held, next.base.applied.0) (tree, next.block.applied.0) primary log) (sym same)
+    (subst (λ (x : HiveWriter). FilesMatchWriter x bins left (held, x.base.applied.0) (tree, x.block.applied.0) primary log) (sym is)
+    (adopted w image bins pages left (held, w.base.applied.0) (old, w.block.applied.0) tree root size time number primary log one quiet encodes marks
+    (λ stands given. ready_same planned next bins shown left left (tree, number) stands is lent refl (fits stands) given refl) on))

@@ -10,3 +10,5 @@ pub mod Ahead
 pub mod Repairing
 pub mod Telling
 pub mod Times
+mod Encoding
+mod Editing

@@ -217,6 +217,18 @@ writer_number writer hive block is_clean w = elim (cases_Bool is_clean) [
   | inr e ↦ ap (λ (x : HiveWriter). x.block.applied.0) (sym (w.unclean e))
 ]
 
+pub writer_root : (writer : HiveWriter) (hive : ℕ) (block : BaseBlock) (is_clean : Bool) → IsWriterFor writer hive block is_clean → writer.block.root ≡ block.root
+writer_root writer hive block is_clean w = elim (cases_Bool is_clean) [
+  | inl e ↦ ap (λ (x : HiveWriter). x.block.root) (w.clean e)
+  | inr e ↦ ap (λ (x : HiveWriter). x.block.root) (w.unclean e)
+]
+
+pub writer_minor : (writer : HiveWriter) (hive : ℕ) (block : BaseBlock) (is_clean : Bool) → IsWriterFor writer hive block is_clean → writer.block.minor ≡ block.minor
+writer_minor writer hive block is_clean w = elim (cases_Bool is_clean) [
+  | inl e ↦ ap (λ (x : HiveWriter). x.block.minor) (w.clean e)
+  | inr e ↦ ap (λ (x : HiveWriter). x.block.minor) (w.unclean e)
+]
+
 pub writer_ahead : (writer : HiveWriter) (hive : ℕ) (block : BaseBlock) (is_clean : Bool) → IsWriterFor writer hive block is_clean → writer.base.applied.0 ≤ writer.block.applied.0
 writer_ahead writer hive block is_clean w = elim (cases_Bool is_clean) [
   | inl e ↦ subst (λ (x : HiveWriter). x.base.applied.0 ≤ x.block.applied.0) (sym (w.clean e)) (omega arith)

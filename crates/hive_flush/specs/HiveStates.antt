@@ -70,7 +70,7 @@ pub record FilesMatchWriter (writer : HiveWriter) (image : List ℕ) (pages : Pa
 
 -- the primary file and the log are as the hive's stage says
 abbrev pub FilesMatchHive : HiveFile → FileState → FileState → Type 0
-FilesMatchHive file primary log = FilesMatchWriter file.writer file.bins.items file.pages (durable_of file) (memory_of file) primary log
+FilesMatchHive file primary log = FilesMatchWriter file.writer file.image.bytes file.pages (durable_of file) (memory_of file) primary log
 
 -- from one moment to another the two files go on as the hive's stages say
 abbrev pub FilesFollowHive : HiveFile → HiveFile → (ℕ → FileState) → (ℕ → FileState) → Type 0
@@ -90,7 +90,7 @@ IsBroken file = file.writer.failed ≡ true
 pub record MemoryIsDurable (old new : HiveFile) : Type 0 where
   pub held : new.held.value ≡ old.tree
   pub tree : new.tree ≡ old.tree
-  pub bins : new.bins.items ≡ old.bins.items
+  pub bins : new.image.bytes ≡ old.image.bytes
   pub pages : new.pages ≡ clean_pages old.pages.bins_size
   pub writer : new.writer ≡ record old.writer { block = block_again old.writer.block }
 
@@ -118,4 +118,4 @@ most_repairs primary log = if is_clean_file primary then 0 else marked_pages log
 
 -- a flush's calls that are left, or the calls of a whole flush
 abbrev pub steps_left : HiveFile → ℕ
-steps_left file = calls_left (length (plan_of file.writer file.bins.items file.pages).encoding) file.pages file.writer.stage
+steps_left file = calls_left (length (plan_of file.writer file.image.bytes file.pages).encoding) file.pages file.writer.stage

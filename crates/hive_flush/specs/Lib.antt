@@ -3,3 +3,4 @@ pub mod NextBlocks
 pub mod HiveStates
 pub mod Creation
 pub mod Times
+pub mod Replays

@@ -11,19 +11,22 @@ ghost use Rattle.hive_flush.specs.Decoders.{IsRefusedFor};
 ghost use Rattle.hive_flush.specs.HiveStates.{ChangesAreLegalOn, IsBroken, HiveIsRepaired, KeepsMatch, file_choice, tree_after_changes, memory_of, hive_number, store_of};
 ghost use Rattle.hive_flush.specs.Times.{time_after, time_of};
 
-use crate::change_replay::{last_moment, replayed};
-use crate::flush_plan::plan_fits;
+use crate::batch_edit::edit_batch;
+use crate::change_replay::last_moment;
+use crate::flush_plan::{plan_fits, plan_for};
 use crate::hive::HiveFile;
-use base_block::{AppliedNumber, BaseBlock};
 use change_codec::EncodedChange;
+use dirty_vector::mark_changes;
+use hive_cells::Image;
+use hive_edit::Edit;
 use hive_emit::{Emitted, emit};
-use hive_files::mark_changes;
 use refusals::Refusal;
 use reg_tree::Tree;
 use std::alloc::Global;
 
 impl HiveFile {
     /// Absorbs changes into memory, one after another, from two slices: those after the number in memory up to `upto`.
+    /// They are done in place in the image, as long as they can be and it isn't cheaper to make the image anew.
     /// A flush that begins then writes the tree that they lead to. Its last written time is the moment of the last of
     /// them that has an operation on this hive; the time stays if none has. No flush is on its way, and no repair is
     /// left.
@@ -60,26 +63,62 @@ impl HiveFile {
         ensures sound { IsBroken self.new → IsBroken self.old }
     {
         legal_is_light(&self.tree); // for the prover
+        hive_load::laws::one_encoding();
+        hive_records::laws::one_tree();
+        self.image.tiles(); // for the prover
         let hive = self.writer.hive;
-        let tree = replayed(alloc, self.tree.clone()?, hive, first)?;
-        let tree = replayed(alloc, tree, hive, then)?;
-        let (bins, root) = encoded_tree(alloc, &tree, self.pages.bins_size())?;
+        let root = self.writer.block.root;
         let time = last_moment(hive, first, self.writer.block.last_written);
         let time = last_moment(hive, then, time);
-        self.install(tree, bins, root, time, upto);
-        Ok(())
+        let tree = self.tree.clone()?;
+        match edit_batch(alloc, &mut self.image, root, hive, tree, first, then) {
+            Ok(made) => match made.edit {
+                Edit::Done => {
+                    self.image.release(&mut self.pages);
+                    let size = self.pages.bins_size() as u32;
+                    plan_for(&mut self.writer, root, size, time, upto);
+                    self.tree = made.tree;
+                    plan_fits(&self.writer, self.image.bytes(), &self.pages); // for the prover
+                    Ok(())
+                }
+                Edit::Rebuild => self.rebuild(alloc, made.tree, time, upto),
+            },
+            Err(why) => Err(why),
+        }
     }
 
-    /// Takes a tree into memory, with bins data that encode it from a root on, and the moment and number of its last
-    /// change. No flush is on its way, and the data are no shorter than those before. The pages that differ are marked.
-    /// What is in the files stays.
-    pub fn install(&mut self, tree: Tree, bins: Vec<u8>, root: u32, time: u64, number: u64)
+    // takes a tree into memory with a new image
+    fn rebuild(&mut self, alloc: Global, tree: Tree, time: u64, number: u64) -> Result<(), Refusal>
         requires whole { HiveIsRepaired self.old }
         requires rest { (file_choice self.old).next ≡ None }
         requires ahead { (memory_of self.old).1 ≤ number }
-        requires stands { BinsEncodeTreeInLimits bins.items root MINOR_VERSION tree }
-        requires size { is_bins_size (length bins.items) ≡ true }
-        requires larger { length self.old.bins.items ≤ length bins.items }
+        ensures memory { OnOk result (memory_of self.new ≡ (tree, number)) }
+        ensures time { OnOk result (time_of self.new ≡ time) }
+        ensures refused { IfErr result (IsRefusedFor (weight tree)) }
+        ensures err { OnErr result (self.new ≡ self.old) }
+        ensures files { file_choice self.new ≡ file_choice self.old }
+        ensures on { KeepsMatch self.old self.new }
+        ensures place { hive_number self.new ≡ hive_number self.old }
+        ensures store { store_of self.new ≡ store_of self.old }
+        ensures whole { HiveIsRepaired self.new }
+        ensures sound { IsBroken self.new → IsBroken self.old }
+    {
+        let least = self.pages.bins_size();
+        let Emitted { image, root } = encoded_tree(alloc, &tree, least)?;
+        self.install(tree, image, root, time, number);
+        Ok(())
+    }
+
+    /// Takes a tree into memory, with an image that encodes it from a root on, and the moment and number of its last
+    /// change. No flush is on its way, and the image is no shorter than the one before. The pages that differ are
+    /// marked. What is in the files stays. Takes no memory.
+    pub fn install(&mut self, tree: Tree, image: Image, root: u32, time: u64, number: u64)
+        requires whole { HiveIsRepaired self.old }
+        requires rest { (file_choice self.old).next ≡ None }
+        requires ahead { (memory_of self.old).1 ≤ number }
+        requires stands { BinsEncodeTreeInLimits image.bytes root MINOR_VERSION tree }
+        requires size { is_bins_size (length image.bytes) ≡ true }
+        requires larger { length self.old.image.bytes ≤ length image.bytes }
         ensures memory { memory_of self.new ≡ (tree, number) }
         ensures time { time_of self.new ≡ time }
         ensures files { file_choice self.new ≡ file_choice self.old }
@@ -90,41 +129,35 @@ impl HiveFile {
         ensures sound { IsBroken self.new → IsBroken self.old }
     {
         hive_records::laws::one_tree();
-        mark_changes(&mut self.pages, &self.bins, &bins);
-        let block = BaseBlock {
-            last_written: time,
-            root,
-            bins_size: bins.len() as u32,
-            applied: AppliedNumber(number),
-            ..self.writer.block
-        };
-        self.writer.plan(block);
-        self.bins = bins;
+        let mut image = image;
+        mark_changes(&mut self.pages, self.image.bytes(), image.bytes());
+        plan_for(&mut self.writer, root, image.len() as u32, time, number);
+        self.image.replace(image);
         self.tree = tree;
-        plan_fits(&self.writer, &self.bins, &self.pages); // for the prover
+        plan_fits(&self.writer, self.image.bytes(), &self.pages); // for the prover
     }
 }
 
-/// Bins data of at least a size that encode a tree, and the root's cell in them. Refused with `TooLarge` exactly if the
+/// An image of at least a size that encodes a tree, and the root's cell in it. Refused with `TooLarge` exactly if the
 /// tree is over the weight. Otherwise refused with `NoMemory`.
 pub(crate) fn encoded_tree(
     alloc: Global,
     tree: &Tree,
     least_size: usize,
-) -> Result<(Vec<u8>, u32), Refusal>
+) -> Result<Emitted, Refusal>
     requires least { 4096 ≤ least_size }
     requires most { least_size ≤ MOST_BINS_BYTES }
     ensures stands { IfOk result (λ made.
-        BinsEncodeTreeInLimits made.0.items made.1 MINOR_VERSION tree.now) }
-    ensures size { IfOk result (λ made. is_bins_size (length made.0.items) ≡ true) }
-    ensures least { IfOk result (λ made. least_size ≤ length made.0.items) }
+        BinsEncodeTreeInLimits made.image.bytes made.root MINOR_VERSION tree.now) }
+    ensures size { IfOk result (λ made. is_bins_size (length made.image.bytes) ≡ true) }
+    ensures least { IfOk result (λ made. least_size ≤ length made.image.bytes) }
     ensures refused { IfErr result (IsRefusedFor (weight tree.now)) }
     ensures heavy { MOST_WEIGHT < weight tree.now → result ≡ Err TooLarge }
 {
     let _ = tree.root(); // for the prover
-    let Emitted { image, root } = emit(alloc, tree, least_size as u32)?;
-    image.tiles(0); // for the prover
-    Ok((image.into_bytes(), root))
+    let emitted = emit(alloc, tree, least_size as u32)?;
+    emitted.image.tiles(0); // for the prover
+    Ok(emitted)
 }
 
 // a law: changes that are legal leave a tree within the weight

@@ -35,7 +35,9 @@ impl HiveImage {
         ensures refused { IfErr result (IsRefusedFor (weight tree.now)) }
         ensures heavy { MOST_WEIGHT < weight tree.now → result ≡ Err TooLarge }
     {
-        let (bins, root) = encoded_tree(alloc, tree, LEAST_BINS_BYTES)?;
+        let emitted = encoded_tree(alloc, tree, LEAST_BINS_BYTES)?;
+        let root = emitted.root;
+        let bins = emitted.image.into_bytes();
         Ok(HiveImage { store, root, bins })
     }
 

@@ -86,8 +86,9 @@ impl HiveFile {
         ensures failures { HasFailed result (D.failures disk.old) (D.failures disk.new) }
         ensures faithful { D.faithful disk.new → D.faithful disk.old }
     {
-        plan_fits(&self.writer, &self.bins, &self.pages); // for the prover
-        match self.writer.step::<D, Tree>(disk, &self.bins, &self.pages) {
+        let image = self.image.bytes();
+        plan_fits(&self.writer, image, &self.pages); // for the prover
+        match self.writer.step::<D, Tree>(disk, image, &self.pages) {
             Ok(Progress::Done) => {
                 self.mark_durable();
                 Ok(Progress::Done)
@@ -170,10 +171,8 @@ impl HiveFile {
         if self.is_whole() {
             return Ok(Progress::Idle);
         }
-        match self
-            .writer
-            .repair_step::<D, Tree>(disk, &self.bins, &self.pages)
-        {
+        let image = self.image.bytes();
+        match self.writer.repair_step::<D, Tree>(disk, image, &self.pages) {
             Ok(Progress::Done) => {
                 self.mark_durable();
                 Ok(Progress::Done)
@@ -189,10 +188,10 @@ impl HiveFile {
         requires quiet { self.old.writer.stage ≡ stage.AtRest }
         ensures settled { MemoryIsDurable self.old self.new }
         ensures fits { (stands : TreeDecoder TreeMap) (memory : TreeMap × ℕ) →
-            tree_under stands self.new.writer.block self.new.bins.items ≡ Some memory.0 →
+            tree_under stands self.new.writer.block self.new.image.bytes ≡ Some memory.0 →
             self.new.writer.block.applied.0 ≡ memory.1 →
-            PlanFitsImage stands memory self.new.bins.items self.new.pages
-            (plan_of self.new.writer self.new.bins.items self.new.pages) }
+            PlanFitsImage stands memory self.new.image.bytes self.new.pages
+            (plan_of self.new.writer self.new.image.bytes self.new.pages) }
     {
         self.held = Snapshot::of(&self.tree);
         self.pages.clear();
@@ -204,6 +203,6 @@ impl HiveFile {
             block.last_written,
             block.applied.0,
         ));
-        plan_fits(&self.writer, &self.bins, &self.pages); // for the prover
+        plan_fits(&self.writer, self.image.bytes(), &self.pages); // for the prover
     }
 }

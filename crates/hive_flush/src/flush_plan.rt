@@ -10,7 +10,7 @@ ghost use Rattle.dirty_vector.specs.Pages.{dirty_count};
 ghost use Rattle.hive_writer.specs.WriterSteps.{calls_left, plan_of};
 ghost use Rattle.hive_writer.specs.declared.stage.FlushStage.TheVariants as stage;
 ghost use Rattle.hive_files.specs.Blocks.{IsPlanned};
-ghost use Rattle.hive_flush.specs.NextBlocks.{block_after, repair_plan};
+ghost use Rattle.hive_flush.specs.NextBlocks.{block_after, block_for, repair_plan};
 
 use base_block::{AppliedNumber, BaseBlock, FileType, SequenceNumber};
 use dirt_log::write_steps;
@@ -40,6 +40,23 @@ pub(crate) fn next_block(
         applied: AppliedNumber(applied),
         ..*base
     }
+}
+
+/// Plans the block for an image of a size with a root, and the moment and number of the last change in it.
+pub(crate) fn plan_for(writer: &mut HiveWriter, root: u32, bins_size: u32, time: u64, number: u64)
+    requires { writer.old.stage ≡ stage.AtRest }
+    ensures { writer.new ≡ record writer.old {
+      block = block_for writer.old.block root bins_size time number;
+    } }
+{
+    let block = BaseBlock {
+        last_written: time,
+        root,
+        bins_size,
+        applied: AppliedNumber(number),
+        ..writer.block
+    };
+    writer.plan(block);
 }
 
 /// A law: what a writer is to write of an image fits the image, if its block is planned for the image's pages.

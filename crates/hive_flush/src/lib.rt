@@ -1,8 +1,8 @@
-//! The owner of a hive's two files: its tree in memory, the bins data that encode it, and the steps of flush and
-//! repair.
+//! The owner of a hive's two files: its tree in memory, the image that encodes it, and the steps of flush and repair.
 #![tactic(auto)]
 
 mod application;
+mod batch_edit;
 mod change_replay;
 mod creation;
 mod file;

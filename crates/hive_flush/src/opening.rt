@@ -18,6 +18,7 @@ use base_block::BaseBlock;
 use disk_model::Disk;
 use hive_files::{HiveContents, find};
 use hive_load::load_bins;
+use hive_savepoint::{SavepointImage, UndoLog};
 use hive_writer::HiveWriter;
 use refusals::{Cause, Refusal};
 use std::alloc::Global;
@@ -148,18 +149,21 @@ fn of_contents(
         is_clean,
     } = found;
     hive_load::laws::refused_bins_exclude_trees();
-    let (tree, bins) = match load_bins(alloc, bins, block.root, block.minor) {
+    let (tree, image) = match load_bins(alloc, bins, block.root, block.minor) {
         Ok(loaded) => loaded,
         Err(why) => return Err(hive_refusal(why, hive)),
     };
+    let log = UndoLog::new(alloc)?;
+    let _ = pages.bins_size(); // for the prover
     let held = Snapshot::of(&tree);
     let writer = writer_for(block, hive, is_clean);
-    plan_fits(&writer, &bins, &pages); // for the prover
+    let mut image = SavepointImage::of(image, log);
+    plan_fits(&writer, image.bytes(), &pages); // for the prover
     repair_fits(&block); // for the prover
     Ok(HiveFile {
         held,
         tree,
-        bins,
+        image,
         pages,
         writer,
     })

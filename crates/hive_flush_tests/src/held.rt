@@ -37,6 +37,6 @@ fn truncated() -> Refusal {
 
 // the number of a block, and the tree that bins data encode under it
 fn tree_under(alloc: Global, block: &BaseBlock, bins: Vec<u8>) -> Result<(u64, Tree), Refusal> {
-    let (tree, _bins) = load_bins(alloc, bins, block.root, block.minor)?;
+    let (tree, _image) = load_bins(alloc, bins, block.root, block.minor)?;
     Ok((block.applied.0, tree))
 }

@@ -10,7 +10,7 @@ use Rattle.hive_flush.proofs.laws.files_hold.Goals as goal
 
 pub returns : goal.returns
 returns c = λ file primary log on p l primary_left log_left.
-    let hive : Hive TreeMap = record { work = work_of on.plan file.bins.items file.pages (durable_of file) (memory_of file); phase = phase_in (length on.plan.encoding) file.writer.stage } in
+    let hive : Hive TreeMap = record { work = work_of on.plan file.image.bytes file.pages (durable_of file) (memory_of file); phase = phase_in (length on.plan.encoding) file.writer.stage } in
     let left = c.crash_leaves_choice.ensures.related on.stands hive primary log on.on p l primary_left log_left in (
       left.0,
       subst (λ (x : Choice (TreeMap × ℕ)). Leaves x left.0) (choice_is (length on.plan.encoding) file.writer.stage (durable_of file) (memory_of file)) left.1,

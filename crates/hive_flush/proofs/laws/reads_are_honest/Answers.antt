@@ -24,5 +24,5 @@ rests total (stage.HeaderWritten purpose) primary r = tt
 
 pub returns : goal.returns
 returns c = λ file primary log sound whole on.
-    c.reads_are_honest.ensures on.stands (work_of on.plan file.bins.items file.pages (durable_of file) (memory_of file)) (phase_in (length on.plan.encoding) file.writer.stage) primary log sound on.on
+    c.reads_are_honest.ensures on.stands (work_of on.plan file.image.bytes file.pages (durable_of file) (memory_of file)) (phase_in (length on.plan.encoding) file.writer.stage) primary log sound on.on
     (rests (length on.plan.encoding) file.writer.stage primary (on.rests (works file.writer.failed whole)))

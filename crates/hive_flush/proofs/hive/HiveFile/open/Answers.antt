@@ -8,6 +8,16 @@ use Rattle.hive_flush.specs.Decoders.{unusable}
 use Rattle.hive_flush.proofs.Opened.{has_hive}
 use Rattle.hive_flush.proofs.hive.HiveFile.open.Goals as goal
 
+pub returns-in-Ok-clause-held : goal.returns-in-Ok-clause-held
+returns-in-Ok-clause-held g c = IfOk-weaker c.of_contents.result _ _ (λ file held faithful.
+    let old = g.D.Disk.state_at c.args.disk.now (g.D.Disk.clock c.args.disk.now) in
+    held (old (primary_file c.args.hive)).seen (old (log_file c.args.hive)).seen (c.in-Ok.ensures.found faithful)) c.of_contents.ensures.held
+
+pub returns-in-Ok-clause-few : goal.returns-in-Ok-clause-few
+returns-in-Ok-clause-few g c = IfOk-weaker c.of_contents.result _ _ (λ file few faithful.
+    let old = g.D.Disk.state_at c.args.disk.now (g.D.Disk.clock c.args.disk.now) in
+    few (old (primary_file c.args.hive)).seen (old (log_file c.args.hive)).seen (c.in-Ok.ensures.found faithful)) c.of_contents.ensures.few
+
 pub returns-in-Ok-clause-on : goal.returns-in-Ok-clause-on
 returns-in-Ok-clause-on g c = IfOk-weaker c.of_contents.result _ _ (λ file on faithful.
     let old = g.D.Disk.state_at c.args.disk.now (g.D.Disk.clock c.args.disk.now) in
