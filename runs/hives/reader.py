@@ -1,5 +1,5 @@
 """Reads the tree of a primary file by the rules of docs/FORMATS.md, and by nothing of this project's code. If it is strict, the
-file has to keep what the rules say of written bytes, too.
+file has to keep what the rules say of written bytes, too. An edited file may have cells with room, and greater upper bounds.
 """
 import struct
 from dataclasses import dataclass, field
@@ -41,8 +41,8 @@ def hash_of(name):
 
 
 class Reader:
-    def __init__(self, file, strict=False):
-        self.strict, self.named = strict, {}
+    def __init__(self, file, strict=False, edited=False):
+        self.strict, self.edited, self.named = strict, edited, {}
         root, size = struct.unpack_from("<2I", file, 36)
         self.bins, self.cells = file[4_096:4_096 + size], {}
         at = 0
@@ -73,10 +73,11 @@ class Reader:
         return end
 
     def cell(self, at, length):
-        """So many bytes of a cell. It has just enough room for them, or 8 bytes more."""
+        """So many bytes of a cell. It has just enough room for them, or 8 bytes more; an edited one has enough."""
         data = self.cells[at]
         least = (length + 4 + 7) // 8 * 8
-        self.see(len(data) + 4 in (least, least + 8), "the size of a cell", at, length)
+        room = len(data) + 4 - least
+        self.see(room >= 0 if self.edited else room in (0, 8), "the size of a cell", at, length)
         return data[:length]
 
     def name(self, raw, is_latin):
@@ -119,7 +120,8 @@ class Reader:
         self.see(row.class_bytes or record[48:52] == b"\xff" * 4, "the offset of no class", row.name)
         self.see((record[12:16], record[24:28], record[68:72]) == (bytes(4),) * 3, "zeros of a key's record", row.name)
         self.see(record[32:36] == b"\xff" * 4, "the offset of no volatile subkeys", row.name)
-        self.see(struct.unpack_from("<4I", record, 52) == bounds(row), "a key's upper bounds", row.name, bounds(row))
+        told = struct.unpack_from("<4I", record, 52)
+        self.see(told == bounds(row) or self.edited and all(map(int.__ge__, told, bounds(row))), "a key's upper bounds", row.name, told)
 
     def offsets(self, at, count):
         return struct.unpack(f"<{count}I", self.cell(at, 4 * count)) if count else ()
@@ -197,6 +199,6 @@ def bounds(row):
             max((len(name) for name, _, _ in values), default=0), max((len(data) for _, _, data in values), default=0))
 
 
-def read(file, strict=False):
+def read(file, strict=False, edited=False):
     """The tree of a hive."""
-    return Reader(file, strict).tree
+    return Reader(file, strict, edited).tree
