@@ -1,5 +1,5 @@
 -- A key is taken from its parent's list.
-use Rattle.std.proofs.Common.{◌≡◌, ◌≢◌, inl, inr, ℕ, ◌+◌, ◌-◌, ◌*◌, ◌<◌, ◌≤◌, true, List, [], ◌∷◌, ◌++◌, length, Some, IsSome, refl, sym, ap, subst, ◌∙◌, arith}
+use Rattle.std.proofs.Common.{◌≡◌, ◌≢◌, inl, inr, ℕ, ◌+◌, ◌-◌, ◌*◌, ◌<◌, ◌≤◌, true, List, [], ◌∷◌, ◌++◌, length, Some, refl, sym, ap, subst, ◌∙◌, arith}
 use Rattle.std.proofs.Math.Nat.{mul-sub}
 use Rattle.reg_names.specs.Names.{folded, folded_path}
 use Rattle.reg_tree.specs.Maps.{TreeMap}
@@ -20,7 +20,7 @@ use Rattle.hive_records.proofs.WholesAgain.{no_subkeys}
 use Rattle.hive_edit_laws.specs.Found.{KeyFound}
 use Rattle.hive_edit_laws.specs.KeyCells.{class_cells}
 use Rattle.hive_edit_laws.specs.ValueEdits.{value_cells}
-use Rattle.hive_edit_laws.specs.SubkeyLists.{subkey_cells, SubkeysChange, DropsSubkey}
+use Rattle.hive_edit_laws.specs.SubkeyLists.{OneMore, subkey_cells, SubkeysChange}
 use Rattle.hive_edit_laws.proofs.CellsShown.{shown_here}
 use Rattle.hive_edit_laws.proofs.CellWrites.{data_long}
 use Rattle.hive_edit_laws.proofs.KeyCells.{own_kinds, own_once}
@@ -28,14 +28,20 @@ use Rattle.hive_edit_laws.proofs.LeafBytes.{list_is_leaf, list_has_leaves}
 use Rattle.hive_edit_laws.proofs.ListSearch.{list_many}
 use Rattle.hive_edit_laws.proofs.KeySearch.{subkeys_read}
 use Rattle.hive_edit_laws.proofs.KeyRemovals.{deletion_encodes}
-use Rattle.hive_savepoint.specs.Puts.{ChangesCell, DropsCell}
+use Rattle.hive_edit_laws.proofs.EachSwaps.{same_reading}
+use Rattle.hive_records.proofs.Keys.{local_subkeys}
+use Rattle.hive_savepoint.specs.Puts.{ChangesCell}
+use Rattle.hive_edit.specs.DataPlaces.{FreesCells}
+use Rattle.hive_edit.specs.OwnCells.{FreesKey}
 use Rattle.hive_edit.specs.Searches.{IsNamedAt, IsSlotOf}
 use Rattle.hive_edit.specs.SubkeyPlaces.{IsListOfKey, IsShapeOf, LeafLoses, NodeGetsList}
 use Rattle.hive_edit.specs.declared.search.RecordKind.TheVariants.{Key}
 use Rattle.hive_edit.specs.declared.subkeys.SubkeySlot.{SubkeySlot}
 use Rattle.hive_edit.specs.declared.key_lists.KeyList.{KeyList}
 use Rattle.hive_edit.specs.declared.leaf_edit.LeafShape.{LeafShape}
-use Rattle.hive_edit.proofs.KeyCells.{node_given, node_apart, node_not_listing}
+use Rattle.hive_edit.proofs.KeyCells.{home_kept, lists_kept, given_freed}
+use Rattle.hive_edit.proofs.KeyCreations.{home_own, lists_own}
+use Rattle.hive_edit.proofs.ValueFrees.{none_freed}
 use Rattle.hive_edit.proofs.Slots.{slot_listed}
 use Rattle.hive_edit.proofs.LeafLosses.{ListLost, list_lost}
 
@@ -80,40 +86,53 @@ module _ (bytes : List ℕ) (root : ℕ) (tree : TreeMap) (hive : ℕ) (front : 
   listed : list.count ≢ 0 → IsIn slot.subkey (offsets f.place.below)
   listed some = slot_listed bytes f.cells f.shows list.count list.at r.0 [] (offsets f.place.below) reads some slot in_slot
 
-  not_node : list.count ≢ 0 → home ≢ slot.subkey
-  not_node some = node_apart bytes root tree (folded_path front) home f slot.subkey (listed some)
+  in_lists : (cell : ℕ) → IsIn cell r.0 → IsIn cell (subkey_cells f.cells (cell_data bytes home))
+  in_lists cell i = subst (λ (z : List ℕ). IsIn cell z) (sym own_is) i
 
-  not_list : list.count ≢ 0 → (cell : ℕ) → IsIn cell r.0 → cell ≢ slot.subkey
-  not_list some cell i e = node_not_listing bytes root tree (folded_path front) home f slot.subkey (listed some) (subst (λ (z : List ℕ). IsIn slot.subkey z) (sym own_is) (subst (λ (z : ℕ). IsIn z r.0) e i))
+  -- the key has another list, cells of the old one are freed, and then the cells of the subkey
+  module _ (some : list.count ≢ 0) (left to : ℕ) (put_bytes mid new_bytes : List ℕ) (new_tiles : Tiles new_bytes) (put : Cells) (shown : Shows put_bytes put) (node : List ℕ) (node_is : put home ≡ Some node) (gets : NodeGetsList (cell_data bytes home) node left to moment) (own subkeys : List ℕ) (now : Gives (subkeys_at left to) put own [] subkeys)
+      (own_once : Once own) (within : (cell : ℕ) → IsIn cell own → IsIn cell r.0) (others : (cell : ℕ) → cell ≢ home → (IsIn cell r.0 → ⊥) → put cell ≡ f.cells cell) (more : OneMore slot.subkey subkeys (offsets f.place.below)) (gone : List ℕ) (lists_gone : FreesCells put_bytes mid gone) (gone_within : (cell : ℕ) → IsIn cell gone → IsIn cell r.0)
+      (gone_apart : (cell : ℕ) → IsIn cell own → IsIn cell gone → ⊥) (key_gone : FreesKey mid new_bytes slot.subkey) where
+    abbrev given : List ℕ
+    given = trail_in true f.cells slot.subkey
 
-  not_kept : list.count ≢ 0 → (cell : ℕ) → (IsIn cell (trail_in true f.cells slot.subkey) → ⊥) → cell ≢ slot.subkey
-  not_kept some cell out e = out (subst (λ (z : ℕ). IsIn z (trail_in true f.cells slot.subkey)) (sym e) (node_given bytes root tree (folded_path front) home f slot.subkey (listed some)))
+    after : (cells : Cells) × Shows mid cells × ((cell : ℕ) → (IsIn cell gone → ⊥) → cells cell ≡ put cell)
+    after = lists_gone put shown
 
-  module _ (left to : ℕ) (new_bytes : List ℕ) (new_tiles : Tiles new_bytes) (after : Cells) (shown : Shows new_bytes after) (node : List ℕ) (node_is : after home ≡ Some node) (gets : NodeGetsList (cell_data bytes home) node left to moment)
-      (own subkeys : List ℕ) (now : Gives (subkeys_at left to) after own [] subkeys) (own_once : Once own) (within : (cell : ℕ) → IsIn cell own → IsIn cell r.0) (stays : (cell : ℕ) → IsSome (f.cells cell) → cell ≢ home → (IsIn cell r.0 → ⊥) → (IsIn cell (trail_in true f.cells slot.subkey) → ⊥) → after cell ≡ f.cells cell) where
-    change : SubkeysChange f.cells after home subkeys moment (trail_in true f.cells slot.subkey)
+    key_frees : FreesCells mid new_bytes given
+    key_frees = given_freed bytes root tree (folded_path front) home f slot.subkey (listed some) lonely mid after.0 after.1
+        (λ cell out. after.2 cell (λ i. out (lists_own bytes root tree (folded_path front) home f cell (in_lists cell (gone_within cell i))))
+        ∙ others cell (λ e. out (subst (λ (z : ℕ). IsIn z f.place.parts.own) (sym e) (home_own bytes root tree (folded_path front) home f))) (λ i. out (lists_own bytes root tree (folded_path front) home f cell (in_lists cell i))))
+        new_bytes key_gone
+
+    last : (cells : Cells) × Shows new_bytes cells × ((cell : ℕ) → (IsIn cell given → ⊥) → cells cell ≡ after.0 cell)
+    last = key_frees after.0 after.1
+
+    change : SubkeysChange f.cells last.0 home subkeys moment given
     change = record {
       old_node = cell_data bytes home;
       old_is = home_here;
       new_node = node;
-      new_is = node_is;
+      new_is = last.2 home (home_kept bytes root tree (folded_path front) home f slot.subkey (listed some)) ∙ after.2 home (λ i. once.0 (gone_within home i)) ∙ node_is;
       fields = gets.fields;
       time_is = gets.time_is;
       value_count = gets.value_count;
       value_list = gets.value_list;
       own = own;
-      reads = subst (λ (z : ℕ). Gives (subkeys_at z (u32_at node 28)) after own [] subkeys) (sym gets.count_is) (subst (λ (z : ℕ). Gives (subkeys_at left z) after own [] subkeys) (sym gets.list_is) now);
+      reads = subst (λ (z : ℕ). Gives (subkeys_at z (u32_at node 28)) last.0 own [] subkeys) (sym gets.count_is) (subst (λ (z : ℕ). Gives (subkeys_at left z) last.0 own [] subkeys) (sym gets.list_is)
+          (same_reading (subkeys_at left to) (local_subkeys left to) put last.0 own [] subkeys now
+          (λ cell i. last.2 cell (lists_kept bytes root tree (folded_path front) home f slot.subkey (listed some) cell (in_lists cell (within cell i))) ∙ after.2 cell (gone_apart cell i)) (λ cell i. absurd i)));
       once = own_once;
-      takes = λ cell i. inl (subst (λ (z : List ℕ). IsIn cell z) (sym own_is) (within cell i));
-      stays = λ cell some apart not_list not_given. stays cell some apart (λ i. not_list (subst (λ (z : List ℕ). IsIn cell z) (sym own_is) i)) not_given;
+      takes = λ cell i. inl (in_lists cell (within cell i));
+      stays = λ cell is apart not_list not_given. last.2 cell not_given ∙ after.2 cell (λ i. not_list (in_lists cell (gone_within cell i))) ∙ others cell apart (λ i. not_list (in_lists cell i));
     }
 
-    drops_encode : DropsSubkey true f.cells after home slot.subkey (offsets f.place.below) moment → BinsEncodeTree new_bytes root 5 (tree_after tree (DeleteKey hive (front ++ name ∷ [])) moment)
-    drops_encode d = deletion_encodes bytes new_bytes root 5 tree hive front name home slot.subkey moment f new_tiles after shown named.1.1 lonely d
+    taken : BinsEncodeTree new_bytes root 5 (tree_after tree (DeleteKey hive (front ++ name ∷ [])) moment)
+    taken = deletion_encodes bytes new_bytes root 5 tree hive front name home slot.subkey moment f new_tiles last.0 last.1 named.1.1 lonely (record { subkeys = subkeys; change = change; more = more })
 
   -- the leaf that has it gets shorter
   module _ (shape : LeafShape) (shaped : IsShapeOf bytes slot.leaf shape) (few : slot.index < shape.count) (more : 1 < list.count) (mid put_bytes new_bytes : List ℕ) (new_tiles : Tiles new_bytes)
-      (leaf_put : ChangesCell bytes mid slot.leaf (λ its now. LeafLoses its now shape.stride (shape.count - 1) slot.index)) (node_put : ChangesCell mid put_bytes home (λ its now. NodeGetsList its now (list.count - 1) list.at moment)) (dropped : DropsCell put_bytes new_bytes slot.subkey) where
+      (leaf_put : ChangesCell bytes mid slot.leaf (λ its now. LeafLoses its now shape.stride (shape.count - 1) slot.index)) (node_put : ChangesCell mid put_bytes home (λ its now. NodeGetsList its now (list.count - 1) list.at moment)) (key_gone : FreesKey put_bytes new_bytes slot.subkey) where
     many : list.count ≢ 0
     many e = absurd (omega (arith, e, more))
 
@@ -130,17 +149,6 @@ module _ (bytes : List ℕ) (root : ℕ) (tree : TreeMap) (hive : ℕ) (front : 
     lost after new there others loses = list_lost bytes f.cells f.shows list.count r.0 [] (offsets f.place.below) once.1 (λ e. absurd (omega (arith, e, more))) (list.count - 1) (omega (arith, more)) (λ e. absurd (omega (arith, e, more))) slot.leaf slot.index slot.subkey in_slot.1
         after new there others (shape.count - 1) (sym shaped.count_is ∙ omega (arith, few)) (omega (arith, few)) loses long list.at reads slot.leaf_index in_slot.0
 
-    finish : (after : Cells) → Shows new_bytes after → (node : List ℕ) → after home ≡ Some node → NodeGetsList (cell_data bytes home) node (list.count - 1) list.at moment → ((cell : ℕ) → cell ≢ home → cell ≢ slot.leaf → cell ≢ slot.subkey → after cell ≡ f.cells cell) → ListLost after (list.count - 1) list.at r.0 (offsets f.place.below) slot.leaf slot.subkey
-        → BinsEncodeTree new_bytes root 5 (tree_after tree (DeleteKey hive (front ++ name ∷ [])) moment)
-    finish after shown node node_is gets others l = drops_encode (list.count - 1) list.at new_bytes new_tiles after shown node node_is gets r.0 l.subkeys l.reads once.1 (λ cell i. i)
-        (λ cell some apart not_listing not_given. others cell apart (λ e. not_listing (subst (λ (z : ℕ). IsIn z r.0) (sym e) l.leaf_own)) (not_kept many cell not_given))
-        (record {
-          subkeys = l.subkeys;
-          change = change (list.count - 1) list.at new_bytes new_tiles after shown node node_is gets r.0 l.subkeys l.reads once.1 (λ cell i. i)
-              (λ cell some apart not_listing not_given. others cell apart (λ e. not_listing (subst (λ (z : ℕ). IsIn z r.0) (sym e) l.leaf_own)) (not_kept many cell not_given));
-          more = l.more;
-        })
-
     pub shortened : BinsEncodeTree new_bytes root 5 (tree_after tree (DeleteKey hive (front ++ name ∷ [])) moment)
     shortened =
         let s = leaf_put.cells f.cells f.shows in
@@ -150,13 +158,13 @@ module _ (bytes : List ℕ) (root : ℕ) (tree : TreeMap) (hive : ℕ) (front : 
         let apart : home ≢ slot.leaf = λ e. once.0 (subst (λ (z : ℕ). IsIn z r.0) (sym e) in_own) in
         let t = node_put.cells s.0 s.1 in
         let e = t.3 (cell_data bytes home) (s.2 home apart ∙ home_here) in
-        let u = dropped.cells t.0 t.1 in
-        let others : (cell : ℕ) → cell ≢ home → cell ≢ slot.leaf → cell ≢ slot.subkey → u.0 cell ≡ f.cells cell = λ cell no no_leaf no_node. u.2 cell no_node ∙ t.2 cell no ∙ s.2 cell no_leaf in
-        finish u.0 u.1 e.0 (u.2 home (not_node many) ∙ e.1) e.2 others
-        (lost u.0 d.0 (u.2 slot.leaf (not_list many slot.leaf in_own) ∙ t.2 slot.leaf (λ q. apart (sym q)) ∙ d.1) (λ cell i no_leaf. others cell (λ q. once.0 (subst (λ (z : ℕ). IsIn z r.0) q i)) no_leaf (not_list many cell i)) loses)
+        let l = lost t.0 d.0 (t.2 slot.leaf (λ q. apart (sym q)) ∙ d.1) (λ cell i no_leaf. t.2 cell (λ q. once.0 (subst (λ (z : ℕ). IsIn z r.0) q i)) ∙ s.2 cell no_leaf) loses in
+        taken many (list.count - 1) list.at put_bytes put_bytes new_bytes new_tiles t.0 t.1 e.0 e.1 e.2 r.0 l.subkeys l.reads once.1 (λ cell i. i)
+        (λ cell no not_list. t.2 cell no ∙ s.2 cell (λ q. not_list (subst (λ (z : ℕ). IsIn z r.0) (sym q) in_own))) l.more
+        [] (none_freed put_bytes []) (λ cell i. absurd i) (λ cell i j. j) key_gone
 
   -- the list goes with its last one
-  module _ (alone : list.count ≡ 1) (there : IsAllocatedCell bytes list.at) (to : ℕ) (mid list_bytes new_bytes : List ℕ) (new_tiles : Tiles new_bytes) (node_put : ChangesCell bytes mid home (λ its now. NodeGetsList its now 0 to moment)) (dropped : DropsCell mid list_bytes list.at) (freed : DropsCell list_bytes new_bytes slot.subkey) where
+  module _ (alone : list.count ≡ 1) (there : IsAllocatedCell bytes list.at) (to : ℕ) (put_bytes mid new_bytes : List ℕ) (new_tiles : Tiles new_bytes) (node_put : ChangesCell bytes put_bytes home (λ its now. NodeGetsList its now 0 to moment)) (lists_gone : FreesCells put_bytes mid (list.at ∷ [])) (key_gone : FreesKey mid new_bytes slot.subkey) where
     some : list.count ≢ 0
     some e = absurd (omega (arith, e, alone))
 
@@ -170,24 +178,11 @@ module _ (bytes : List ℕ) (root : ℕ) (tree : TreeMap) (hive : ℕ) (front : 
     ]
 
     only : offsets f.place.below ≡ slot.subkey ∷ []
-    only = only_one (offsets f.place.below) slot.subkey (list_many bytes f.cells f.shows list.count list.at r.0 [] (offsets f.place.below) reads ∙ alone) (slot_listed bytes f.cells f.shows list.count list.at r.0 [] (offsets f.place.below) reads some slot in_slot)
-
-    empty : (after : Cells) → Shows new_bytes after → (node : List ℕ) → after home ≡ Some node → NodeGetsList (cell_data bytes home) node 0 to moment → ((cell : ℕ) → cell ≢ home → cell ≢ list.at → cell ≢ slot.subkey → after cell ≡ f.cells cell)
-        → BinsEncodeTree new_bytes root 5 (tree_after tree (DeleteKey hive (front ++ name ∷ [])) moment)
-    empty after shown node node_is gets others = drops_encode 0 to new_bytes new_tiles after shown node node_is gets [] [] (no_subkeys after to) tt (λ cell i. absurd i)
-        (λ cell is apart not_listing not_given. others cell apart (λ e. not_listing (subst (λ (z : ℕ). IsIn z r.0) (sym e) list_own)) (not_kept some cell not_given))
-        (record {
-          subkeys = [];
-          change = change 0 to new_bytes new_tiles after shown node node_is gets [] [] (no_subkeys after to) tt (λ cell i. absurd i)
-              (λ cell is apart not_listing not_given. others cell apart (λ e. not_listing (subst (λ (z : ℕ). IsIn z r.0) (sym e) list_own)) (not_kept some cell not_given));
-          more = record { first = []; rest = []; fewer_is = refl; more_is = only };
-        })
+    only = only_one (offsets f.place.below) slot.subkey (list_many bytes f.cells f.shows list.count list.at r.0 [] (offsets f.place.below) reads ∙ alone) (listed some)
 
     pub emptied : BinsEncodeTree new_bytes root 5 (tree_after tree (DeleteKey hive (front ++ name ∷ [])) moment)
     emptied =
         let s = node_put.cells f.cells f.shows in
         let d = s.3 (cell_data bytes home) home_here in
-        let t = dropped.cells s.0 s.1 in
-        let apart : home ≢ list.at = λ e. once.0 (subst (λ (z : ℕ). IsIn z r.0) (sym e) list_own) in
-        let u = freed.cells t.0 t.1 in
-        empty u.0 u.1 d.0 (u.2 home (not_node some) ∙ t.2 home apart ∙ d.1) d.2 (λ cell no no_list no_node. u.2 cell no_node ∙ t.2 cell no_list ∙ s.2 cell no)
+        taken some 0 to put_bytes mid new_bytes new_tiles s.0 s.1 d.0 d.1 d.2 [] [] (no_subkeys s.0 to) tt (λ cell i. absurd i) (λ cell no not_list. s.2 cell no) (record { first = []; rest = []; fewer_is = refl; more_is = only })
+        (list.at ∷ []) lists_gone (λ cell i. elim i [ inl e ↦ subst (λ (z : ℕ). IsIn z r.0) (sym e) list_own | inr j ↦ absurd j ]) (λ cell i j. absurd i) key_gone

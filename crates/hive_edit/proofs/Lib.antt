@@ -20,10 +20,12 @@ mod LeafGrowths
 mod ValueFrees
 mod ValueNodes
 mod ListShifts
+mod DataFrees
 mod ValueDeletes
 mod ValueInserts
 mod ListInserts
 mod ValueAdds
+mod KeyFrees
 mod KeyCounts
 mod ValueSegments
 mod LoadedTrees

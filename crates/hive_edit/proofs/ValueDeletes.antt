@@ -1,5 +1,5 @@
 -- A value that was found is taken from its key.
-use Rattle.std.proofs.Common.{◌≡◌, ◌≢◌, inl, inr, ℕ, suc, ◌*◌, ◌≤◌, true, List, [], ◌∷◌, length, refl, sym, ap, subst, ◌∙◌}
+use Rattle.std.proofs.Common.{◌≡◌, ◌≢◌, inl, inr, ℕ, suc, ◌*◌, ◌≤◌, true, List, [], ◌∷◌, length, sym, ap, subst, ◌∙◌}
 use Rattle.reg_names.specs.Names.{folded, folded_path}
 use Rattle.reg_tree.specs.Maps.{TreeMap}
 use Rattle.reg_tree.specs.Operations.{tree_after}
@@ -9,10 +9,9 @@ use Rattle.hive_cells.specs.Tiles.{Tiles, u32_at, cell_data}
 use Rattle.hive_cells.specs.Bins.{Cells, Shows}
 use Rattle.hive_records.specs.Numbers.{words_from}
 use Rattle.hive_records.specs.Images.{BinsEncodeTree}
-use Rattle.hive_records.specs.Values.{segments_of}
 use Rattle.hive_edit_laws.specs.Found.{ValueFound, value_list}
 use Rattle.hive_edit_laws.proofs.CellsShown.{shown_some}
-use Rattle.hive_edit_laws.proofs.DataCells.{found_data, none_outside, none_empty, one_cell, many_cells}
+use Rattle.hive_edit_laws.proofs.DataCells.{found_data}
 use Rattle.hive_edit_laws.specs.Shifts.{without_at}
 use Rattle.hive_edit_laws.specs.ValueEdits.{DropsValue}
 use Rattle.hive_edit_laws.proofs.RowRevisions.{deleted_encodes}
@@ -20,8 +19,8 @@ use Rattle.hive_edit_laws.proofs.ValueRemovals.{removal}
 use Rattle.hive_edit.specs.DataPlaces.{IsDataPlace, FreesCells}
 use Rattle.hive_edit.specs.ValueLists.{ListLess, TakesFromList}
 use Rattle.hive_edit.specs.declared.value_data.DataPlace.{DataPlace}
-use Rattle.hive_edit.specs.declared.value_data.DataPlace.TheVariants.{InRecord, InCell, InSegments}
-use Rattle.hive_edit.specs.SegmentCells.{segment_cells, record_segments, data_cells_at}
+use Rattle.hive_edit.specs.SegmentCells.{data_cells_at}
+use Rattle.hive_edit.proofs.DataFrees.{data_placed, places_kept}
 use Rattle.hive_edit.proofs.ValueSets.{its_cells, once, there, key_there, at_there}
 
 module _ (bytes : List ℕ) (root : ℕ) (tree : TreeMap) (path : List (List ℕ)) (name : List ℕ) (key index at : ℕ) (found : ValueFound bytes root 5 tree path (folded name) key index at) (tiles : Tiles bytes)
@@ -66,10 +65,7 @@ module _ (bytes : List ℕ) (root : ℕ) (tree : TreeMap) (path : List (List ℕ
 module _ (bytes : List ℕ) (root : ℕ) (tree : TreeMap) (path : List (List ℕ)) (name : List ℕ) (key index at : ℕ) (found : ValueFound bytes root 5 tree path (folded name) key index at) (tiles : Tiles bytes) where
   -- the cells of the data, by their place
   places_of : (old : DataPlace) → IsDataPlace (cell_data bytes at) old → its_cells bytes root tree path name key index at found tiles ≡ data_cells_at bytes at old
-  places_of InRecord (inl h) = none_outside true bytes found.in_key.cells found.in_key.shows (cell_data bytes at) (its_cells bytes root tree path name key index at found tiles) [] (found.value).«data» (found_data bytes root 5 tree path (folded name) key index at found) h
-  places_of InRecord (inr h) = none_empty true bytes found.in_key.cells found.in_key.shows (cell_data bytes at) (its_cells bytes root tree path name key index at found tiles) [] (found.value).«data» (found_data bytes root 5 tree path (folded name) key index at found) h
-  places_of (InCell to room) h = one_cell true bytes found.in_key.cells found.in_key.shows (cell_data bytes at) (its_cells bytes root tree path name key index at found tiles) [] (found.value).«data» (found_data bytes root 5 tree path (folded name) key index at found) h.1 h.0 (λ _. h.2) ∙ ap (λ z. z ∷ []) h.3
-  places_of (InSegments to) h = many_cells true bytes found.in_key.cells found.in_key.shows (cell_data bytes at) (its_cells bytes root tree path name key index at found tiles) [] (found.value).«data» (found_data bytes root 5 tree path (folded name) key index at found) refl h.1 h.0
+  places_of old h = data_placed bytes found.in_key.cells found.in_key.shows at (its_cells bytes root tree path name key index at found tiles) [] (found.value).«data» (found_data bytes root 5 tree path (folded name) key index at found) old h
 
   module _ (mid_bytes : List ℕ) (mid : Cells) (shown : Shows mid_bytes mid) (stays : (cell : ℕ) → cell ≢ key → cell ≢ u32_at (cell_data bytes key) 40 → mid cell ≡ found.in_key.cells cell) where
     -- the record, and the cells of its data, have the data that they had
@@ -79,22 +75,8 @@ module _ (bytes : List ℕ) (root : ℕ) (tree : TreeMap) (path : List (List ℕ
         (λ e. (once bytes root tree path name key index at found tiles).1.0 (subst (λ (z : ℕ). IsIn z (at ∷ its_cells bytes root tree path name key index at found tiles)) e i))
         ∙ there bytes root tree path name key index at found tiles cell (inr (inr i)))).1
 
-    same_segments : its_cells bytes root tree path name key index at found tiles ≡ record_segments bytes at → record_segments bytes at ≡ record_segments mid_bytes at
-    same_segments are =
-        let db = u32_at (cell_data bytes at) 8 in
-        let list = u32_at (cell_data bytes db) 4 in
-        let count = segments_of (u32_at (cell_data bytes at) 4) in
-        let record_is = same_data at (inl refl) in
-        let db_is = same_data db (inr (subst (λ (z : List ℕ). IsIn db z) (sym are) (inl refl))) in
-        let list_is = same_data list (inr (subst (λ (z : List ℕ). IsIn list z) (sym are) (inr (inl refl)))) in
-        ap (λ (z : List ℕ). db ∷ list ∷ words_from z 0 4 count) list_is
-        ∙ ap (λ (z : List ℕ). db ∷ u32_at z 4 ∷ words_from (cell_data mid_bytes (u32_at z 4)) 0 4 count) db_is
-        ∙ ap (λ (z : List ℕ). segment_cells mid_bytes (u32_at z 8) (u32_at z 4)) record_is
-
     pub places_now : (old : DataPlace) → IsDataPlace (cell_data bytes at) old → its_cells bytes root tree path name key index at found tiles ≡ data_cells_at mid_bytes at old
-    places_now InRecord h = places_of InRecord h
-    places_now (InCell to room) h = places_of (InCell to room) h
-    places_now (InSegments to) h = places_of (InSegments to) h ∙ same_segments (places_of (InSegments to) h)
+    places_now old h = places_kept bytes mid_bytes at (its_cells bytes root tree path name key index at found tiles) same_data old (places_of old h)
 
 pub deleted_stands : (bytes mid new_bytes : List ℕ) (root hive : ℕ) (tree : TreeMap) (path : List (List ℕ)) (name : List ℕ) (key index at : ℕ) (old : DataPlace) (moment : ℕ) →
     Tiles bytes → Tiles new_bytes → IsDataPlace (cell_data bytes at) old → TakesFromList bytes mid key index moment → FreesCells mid new_bytes (at ∷ data_cells_at mid at old) →

@@ -6,3 +6,4 @@ pub mod SubkeyPlaces
 pub mod ValueLists
 pub mod ValueRecords
 pub mod SegmentCells
+pub mod OwnCells

@@ -10,21 +10,20 @@ ghost use Rattle.reg_tree.specs.declared.op.Legality.TheVariants.{Legal};
 ghost use Rattle.reg_tree.specs.declared.op.Op.TheVariants.{DeleteKey};
 ghost use Rattle.hive_cells.specs.Tiles.{u32_at, cell_data};
 ghost use Rattle.reg_names.specs.Names.{folded, folded_path};
-ghost use Rattle.hive_savepoint.specs.Puts.{HasData};
 ghost use Rattle.hive_edit_laws.specs.Found.{KeyFound};
 ghost use Rattle.hive_edit.specs.Searches.{IsNamedAt, IsSlotOf};
 ghost use Rattle.hive_edit.specs.SubkeyPlaces.{IsListOfKey};
 ghost use Rattle.hive_edit.specs.declared.search.RecordKind.TheVariants.{Key};
 ghost use Rattle.hive_edit.specs.declared.outcome.Edit.TheVariants as edit;
 
+use crate::cell_frees::free_cells;
 use crate::key_counts::{CountChange, count_key};
+use crate::key_frees::free_key;
 use crate::key_lists::{KeyList, list_of_key, put_list};
 use crate::keys::find_key;
 use crate::leaf_edit::{leaf_shape, shorten_leaf};
 use crate::outcome::Edit;
 use crate::subkeys::{SubkeySlot, find_slot};
-use hive_cells::Looks;
-use hive_records::KeyNode;
 use hive_savepoint::SavepointImage;
 use refusals::Refusal;
 use reg_names::Name;
@@ -32,8 +31,7 @@ use reg_names::Name;
 // the offset that means none
 const NIL: u32 = 0xffff_ffff;
 
-/// Deletes the key at a path, which has no subkeys. One that has values or a class is not deleted here: their cells
-/// would be lost.
+/// Deletes the key at a path, which has no subkeys.
 pub(crate) fn delete_key(
     image: &mut SavepointImage,
     root: u32,
@@ -51,24 +49,9 @@ pub(crate) fn delete_key(
     let Some(key) = find_key(image, root, path) else {
         return Ok(Edit::Rebuild);
     };
-    if !has_one_cell(image, key) {
-        return Ok(Edit::Rebuild);
-    }
     count_key(image, key, CountChange::Fewer)?;
     image.tiles(); // for the prover
     drop_key(image, root, path, moment)
-}
-
-// whether the key whose node is at an offset has neither values nor a class
-fn has_one_cell(image: &SavepointImage, key: u32) -> bool {
-    let mut looks = Looks::new();
-    let Ok(cell) = image.cell(key, &mut looks) else {
-        return false;
-    };
-    match KeyNode::read(cell) {
-        Ok(node) => node.value_count == 0 && node.class_len == 0,
-        Err(_) => false,
-    }
 }
 
 // deletes the key at a path, whose security cell has been told
@@ -137,9 +120,9 @@ fn take_key(
         at: list.at,
     };
     put_list(image, home, left, moment)?;
-    image.free(slot.subkey)?;
+    let freed = free_key(image, slot.subkey)?;
     image.tiles(); // for the prover
-    Ok(Edit::Done)
+    Ok(freed)
 }
 
 // takes the last key from a key's list, and the list
@@ -153,7 +136,6 @@ fn drop_list(
     requires list { IsListOfKey image.old.bytes home list }
     requires slot { IsSlotOf image.old.bytes list.at slot.now }
     requires alone { list.count ≡ 1 }
-    requires node { HasData image.old.bytes slot.now.subkey 76 }
     requires leaf { u32_at (cell_data image.old.bytes slot.now.subkey) 20 ≡ 0 }
     ensures done { result ≡ Ok edit.Done → (root hive : ℕ) (tree : TreeMap) (front : List (List ℕ))
         (name : List ℕ) → KeyFound image.old.bytes root MINOR_VERSION tree (folded_path front) home →
@@ -167,20 +149,23 @@ fn drop_list(
     let Some(shape) = leaf_shape(image, list.at) else {
         return Ok(Edit::Rebuild);
     };
-    if shape.is_indirect || shape.count == 0 || slot.subkey == list.at {
+    if shape.is_indirect || shape.count == 0 {
         return Ok(Edit::Rebuild);
     }
     put_list(image, home, KeyList { count: 0, at: NIL }, moment)?;
-    image.free(list.at)?;
-    image.free(slot.subkey)?;
-    image.tiles(); // for the prover
-    Ok(Edit::Done)
+    match free_cells(image, &[list.at])? {
+        Edit::Rebuild => Ok(Edit::Rebuild),
+        Edit::Done => {
+            let freed = free_key(image, slot.subkey)?;
+            image.tiles(); // for the prover
+            Ok(freed)
+        }
+    }
 }
 
 // whether the key node at an offset says that it has no subkeys
 fn has_no_subkeys(image: &SavepointImage, key: u32) -> bool
-    ensures none { IsTrue result → u32_at (cell_data image.now.bytes key) 20 ≡ 0 }
-    ensures node { IsTrue result → HasData image.now.bytes key 76 }
+    ensures { IsTrue result → u32_at (cell_data image.now.bytes key) 20 ≡ 0 }
 {
     match list_of_key(image, key) {
         Some(list) => list.count == 0,

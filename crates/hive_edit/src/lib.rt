@@ -9,6 +9,7 @@ mod image_edit;
 mod key_counts;
 mod key_create;
 mod key_delete;
+mod key_frees;
 mod key_lists;
 mod keys;
 mod leaf_edit;

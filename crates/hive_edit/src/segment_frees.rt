@@ -64,8 +64,8 @@ fn free_segments(image: &mut SavepointImage, list: u32, size: u32) -> Result<Edi
     Ok(Edit::Done)
 }
 
-// the number of four bytes at a place of a cell's data
-fn word_at(image: &SavepointImage, at: u32, place: usize) -> Option<u32>
+/// The number of four bytes at a place of a cell's data.
+pub(crate) fn word_at(image: &SavepointImage, at: u32, place: usize) -> Option<u32>
     ensures word { IfSome result (λ word. word ≡ u32_at (cell_data image.now.bytes at) place) }
     ensures there { IfSome result (λ word. IsAllocatedCell image.now.bytes at) }
 {

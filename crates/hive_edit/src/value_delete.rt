@@ -146,8 +146,12 @@ fn shorten_list(
     put_values(image, key, list.count - 1, list.at, moment)
 }
 
-// frees a value's record, and the cells of its data
-fn free_record(image: &mut SavepointImage, at: u32, data: &DataPlace) -> Result<Edit, Refusal>
+/// Frees a value's record, and the cells of its data.
+pub(crate) fn free_record(
+    image: &mut SavepointImage,
+    at: u32,
+    data: &DataPlace,
+) -> Result<Edit, Refusal>
     ensures freed { result ≡ Ok edit.Done → FreesCells image.old.bytes image.new.bytes
         (at ∷ data_cells_at image.old.bytes at data.now) }
     ensures saved { image.new.saved ≡ image.old.saved }
