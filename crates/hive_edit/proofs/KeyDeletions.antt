@@ -1,5 +1,5 @@
 -- A key is taken from its parent's list.
-use Rattle.std.proofs.Common.{◌≡◌, ◌≢◌, inl, inr, ℕ, ◌+◌, ◌-◌, ◌*◌, ◌<◌, ◌≤◌, true, List, [], ◌∷◌, ◌++◌, length, Some, refl, sym, ap, subst, ◌∙◌, arith}
+use Rattle.std.proofs.Common.{◌≡◌, ◌≢◌, inl, inr, ℕ, ◌+◌, ◌-◌, ◌*◌, ◌<◌, ◌≤◌, true, List, [], ◌∷◌, ◌++◌, length, Option, Some, refl, sym, ap, subst, ◌∙◌, arith}
 use Rattle.std.proofs.Math.Nat.{mul-sub}
 use Rattle.reg_names.specs.Names.{folded, folded_path}
 use Rattle.reg_tree.specs.Maps.{TreeMap}
@@ -11,6 +11,7 @@ use Rattle.hive_tree_model.proofs.Basics.{decided, in_back, once_back}
 use Rattle.hive_cells.specs.Tiles.{Tiles, IsAllocatedCell, u32_at, cell_data, cell_size}
 use Rattle.hive_cells.specs.Bins.{Cells, Shows}
 use Rattle.hive_records.specs.Readers.{Read}
+use Rattle.hive_records.specs.Numbers.{u16_at}
 use Rattle.hive_records.specs.Fields.{Gives}
 use Rattle.hive_records.specs.Heads.{stride_of}
 use Rattle.hive_records.specs.Images.{splits, BinsEncodeTree}
@@ -33,7 +34,7 @@ use Rattle.hive_records.proofs.Keys.{local_subkeys}
 use Rattle.hive_savepoint.specs.Puts.{ChangesCell}
 use Rattle.hive_edit.specs.DataPlaces.{FreesCells}
 use Rattle.hive_edit.specs.OwnCells.{FreesKey}
-use Rattle.hive_edit.specs.Searches.{IsNamedAt, IsSlotOf}
+use Rattle.hive_edit.specs.Searches.{IsNamedAt, IsLeafAt, IsLeafOf, IsSlotOf}
 use Rattle.hive_edit.specs.SubkeyPlaces.{IsListOfKey, IsShapeOf, LeafLoses, NodeGetsList}
 use Rattle.hive_edit.specs.declared.search.RecordKind.TheVariants.{Key}
 use Rattle.hive_edit.specs.declared.subkeys.SubkeySlot.{SubkeySlot}
@@ -43,7 +44,8 @@ use Rattle.hive_edit.proofs.KeyCells.{home_kept, lists_kept, given_freed}
 use Rattle.hive_edit.proofs.KeyCreations.{home_own, lists_own}
 use Rattle.hive_edit.proofs.ValueFrees.{none_freed}
 use Rattle.hive_edit.proofs.Slots.{slot_listed}
-use Rattle.hive_edit.proofs.LeafLosses.{ListLost, list_lost}
+use Rattle.hive_edit.proofs.LeafLosses.{ListLost, list_lost, indirect_stride}
+use Rattle.hive_edit.proofs.LeafDrops.{LeafDropped, leaf_dropped, dropped_top_own, only_one}
 
 -- the cells of a key's lists: none is there twice, and its node is none of them
 pub lists_once : (bytes : List ℕ) (root minor : ℕ) (tree : TreeMap) (path : List (List ℕ)) (home : ℕ) (f : KeyFound bytes root minor tree path home) → Once (home ∷ subkey_cells f.cells (cell_data bytes home))
@@ -53,12 +55,6 @@ lists_once bytes root minor tree path home f =
     let lists = subkey_cells f.cells (cell_data bytes home) in
     let all : Once (home ∷ (class ++ (values ++ lists))) = subst (λ (z : List ℕ). Once z) (own_kinds bytes root minor tree path home f) (own_once bytes root minor tree path home f) in
     ((λ i. all.0 (in_back home class (values ++ lists) (in_back home values lists i))), once_back values lists (once_back class (values ++ lists) all.1))
-
-only_one : (xs : List ℕ) (x : ℕ) → length xs ≡ 1 → IsIn x xs → xs ≡ x ∷ []
-only_one [] x e i = absurd i
-only_one (y ∷ []) x e (inl p) = ap (λ (z : ℕ). z ∷ []) (sym p)
-only_one (y ∷ []) x e (inr i) = absurd i
-only_one (y ∷ z ∷ zs) x e i = absurd (omega (arith, e))
 
 shorter : (stride count len size : ℕ) → len + 4 ≡ size → 4 + (4 + stride * count) ≤ size → 4 + stride * (count - 1) ≤ len
 shorter stride count len size is long =
@@ -162,6 +158,50 @@ module _ (bytes : List ℕ) (root : ℕ) (tree : TreeMap) (hive : ℕ) (front : 
         taken many (list.count - 1) list.at put_bytes put_bytes new_bytes new_tiles t.0 t.1 e.0 e.1 e.2 r.0 l.subkeys l.reads once.1 (λ cell i. i)
         (λ cell no not_list. t.2 cell no ∙ s.2 cell (λ q. not_list (subst (λ (z : ℕ). IsIn z r.0) (sym q) in_own))) l.more
         [] (none_freed put_bytes []) (λ cell i. absurd i) (λ cell i j. j) key_gone
+
+  -- the leaf that has it alone is taken out of the list of lists
+  module _ (place : ℕ) (here : slot.leaf_index ≡ Some place) (single : u16_at (cell_data bytes slot.leaf) 2 ≡ 1) (more : 1 < list.count) (shape : LeafShape) (shaped : IsShapeOf bytes list.at shape) (few : place < shape.count) (lists_bytes put_bytes mid new_bytes : List ℕ) (new_tiles : Tiles new_bytes)
+      (lists_put : ChangesCell bytes lists_bytes list.at (λ its now. LeafLoses its now shape.stride (shape.count - 1) place)) (node_put : ChangesCell lists_bytes put_bytes home (λ its now. NodeGetsList its now (list.count - 1) list.at moment)) (leaf_gone : FreesCells put_bytes mid (slot.leaf ∷ [])) (key_gone : FreesKey mid new_bytes slot.subkey) where
+    several : list.count ≢ 0
+    several e = absurd (omega (arith, e, more))
+
+    some_left : list.count - 1 ≢ 0
+    some_left e = absurd (omega (arith, e, more))
+
+    abbrev lists : List ℕ
+    lists = cell_data bytes list.at
+
+    lists_here : f.cells list.at ≡ Some lists
+    lists_here = shown_here bytes f.cells f.shows list.at shaped.long.0
+
+    place_is : IsLeafAt bytes list.at place slot.leaf
+    place_is = subst (λ (o : Option ℕ). IsLeafOf bytes list.at o slot.leaf) here in_slot.0
+
+    four : shape.stride ≡ 4
+    four = shaped.stride_is ∙ indirect_stride lists (sym (place_is.is).indirect ∙ place_is.indirect)
+
+    lists_long : 4 + 4 * (shape.count - 1) ≤ length lists
+    lists_long = subst (λ (k : ℕ). 4 + k * (shape.count - 1) ≤ length lists) four (shorter shape.stride shape.count (length lists) (cell_size bytes list.at) (data_long bytes list.at tiles shaped.long.0) shaped.long.1)
+
+    lists_own_them : IsIn list.at r.0
+    lists_own_them = dropped_top_own bytes f.cells f.shows list.count r.0 (offsets f.place.below) once.1 several (list.count - 1) (omega (arith, more)) some_left slot.leaf slot.index slot.subkey in_slot.1 single list.at reads place place_is
+
+    home_apart : home ≢ list.at
+    home_apart e = once.0 (subst (λ (z : ℕ). IsIn z r.0) (sym e) lists_own_them)
+
+    pub leaf_taken : BinsEncodeTree new_bytes root 5 (tree_after tree (DeleteKey hive (front ++ name ∷ [])) moment)
+    leaf_taken =
+        let s = lists_put.cells f.cells f.shows in
+        let d = s.3 lists lists_here in
+        let loses : LeafLoses lists d.0 4 (shape.count - 1) place = subst (λ (k : ℕ). LeafLoses lists d.0 k (shape.count - 1) place) four d.2 in
+        let t = node_put.cells s.0 s.1 in
+        let e = t.3 (cell_data bytes home) (s.2 home home_apart ∙ home_here) in
+        let l : LeafDropped t.0 (list.count - 1) list.at r.0 (offsets f.place.below) slot.leaf slot.subkey = leaf_dropped bytes f.cells f.shows list.count r.0 (offsets f.place.below) once.1 several (list.count - 1) (omega (arith, more)) some_left slot.leaf slot.index slot.subkey in_slot.1 single list.at reads place place_is
+        t.0 d.0 (t.2 list.at (λ q. home_apart (sym q)) ∙ d.1) (λ cell i no_top. t.2 cell (λ q. once.0 (subst (λ (z : ℕ). IsIn z r.0) q i)) ∙ s.2 cell no_top) (shape.count - 1) (sym shaped.count_is ∙ omega (arith, few)) (omega (arith, few)) loses lists_long in
+        taken several (list.count - 1) list.at put_bytes mid new_bytes new_tiles t.0 t.1 e.0 e.1 e.2 l.own_now l.subkeys l.reads l.once_now l.within
+        (λ cell no not_list. t.2 cell no ∙ s.2 cell (λ q. not_list (subst (λ (z : ℕ). IsIn z r.0) (sym q) lists_own_them))) l.more
+        (slot.leaf ∷ []) leaf_gone (λ cell i. elim i [ inl q ↦ subst (λ (z : ℕ). IsIn z r.0) (sym q) l.leaf_own | inr j ↦ absurd j ])
+        (λ cell i j. elim j [ inl q ↦ l.apart (subst (λ (z : ℕ). IsIn z l.own_now) q i) | inr k ↦ absurd k ]) key_gone
 
   -- the list goes with its last one
   module _ (alone : list.count ≡ 1) (there : IsAllocatedCell bytes list.at) (to : ℕ) (put_bytes mid new_bytes : List ℕ) (new_tiles : Tiles new_bytes) (node_put : ChangesCell bytes put_bytes home (λ its now. NodeGetsList its now 0 to moment)) (lists_gone : FreesCells put_bytes mid (list.at ∷ [])) (key_gone : FreesKey mid new_bytes slot.subkey) where

@@ -59,7 +59,7 @@ elements_words bytes list is indirect =
     ∙ (λ i. words_from bytes 4 (four i) (u16_at bytes 2))
 
 -- what is beside an element of a list in which nothing is twice is another
-beside_other : (words : List ℕ) (index leaf : ℕ) → Once words → slice_get words index ≡ Some leaf → (other : ℕ) → IsIn other (take index words ++ drop (suc index) words) → other ≢ leaf
+pub beside_other : (words : List ℕ) (index leaf : ℕ) → Once words → slice_get words index ≡ Some leaf → (other : ℕ) → IsIn other (take index words ++ drop (suc index) words) → other ≢ leaf
 beside_other words index leaf once get other i e = go (take index words) (subst (λ (z : List ℕ). Once z) (around_index words index leaf get) once) (subst (λ (n : ℕ). IsIn n (take index words ++ drop (suc index) words)) e i)
   where
     go : (front : List ℕ) → Once (front ++ leaf ∷ drop (suc index) words) → IsIn leaf (front ++ drop (suc index) words) → ⊥
@@ -67,7 +67,7 @@ beside_other words index leaf once get other i e = go (take index words) (subst 
     go (x ∷ front) o (inl k) = o.0 (in_back x front (leaf ∷ drop (suc index) words) (inl (sym k)))
     go (x ∷ front) o (inr j) = go front o.1 j
 
-beside_in : (words : List ℕ) (index leaf : ℕ) → slice_get words index ≡ Some leaf → (other : ℕ) → IsIn other (take index words ++ drop (suc index) words) → IsIn other words
+pub beside_in : (words : List ℕ) (index leaf : ℕ) → slice_get words index ≡ Some leaf → (other : ℕ) → IsIn other (take index words ++ drop (suc index) words) → IsIn other words
 beside_in words index leaf get other i = subst (λ (z : List ℕ). IsIn other z) (sym (around_index words index leaf get)) (elim (in_either other (take index words) (drop (suc index) words) i) [
   | inl j ↦ in_front other (take index words) (leaf ∷ drop (suc index) words) j
   | inr j ↦ in_back other (take index words) (leaf ∷ drop (suc index) words) (inr j)

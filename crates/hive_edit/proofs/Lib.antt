@@ -12,6 +12,7 @@ mod SaidOps
 mod KeyListWrites
 mod LeafWrites
 mod LeafLosses
+mod LeafDrops
 mod KeyDeletions
 mod KeyCreations
 mod KeyAdditions

@@ -7,3 +7,4 @@ pub mod ValueLists
 pub mod ValueRecords
 pub mod SegmentCells
 pub mod OwnCells
+pub mod KeyLosses

@@ -1,5 +1,5 @@
 //! A key is deleted.
-ghost use Rattle.std.specs.Prelude.{◌≡◌, ◌++◌, ◌∷◌, [], ℕ, List, IsTrue, Ok, IfErr};
+ghost use Rattle.std.specs.Prelude.{◌≡◌, ◌<◌, ℕ, IsTrue, Ok, IfErr};
 ghost use Rattle.base_block.specs.declared.block.TheConstants.{MINOR_VERSION};
 ghost use Rattle.refusals.specs.declared.refusal.Refusal.TheVariants.{NoMemory};
 ghost use Rattle.hive_records.specs.Images.{BinsEncodeTree};
@@ -9,11 +9,10 @@ ghost use Rattle.reg_tree.specs.Judgement.{judged};
 ghost use Rattle.reg_tree.specs.declared.op.Legality.TheVariants.{Legal};
 ghost use Rattle.reg_tree.specs.declared.op.Op.TheVariants.{DeleteKey};
 ghost use Rattle.hive_cells.specs.Tiles.{u32_at, cell_data};
-ghost use Rattle.reg_names.specs.Names.{folded, folded_path};
-ghost use Rattle.hive_edit_laws.specs.Found.{KeyFound};
-ghost use Rattle.hive_edit.specs.Searches.{IsNamedAt, IsSlotOf};
+ghost use Rattle.hive_records.specs.Numbers.{u16_at};
+ghost use Rattle.hive_edit.specs.KeyLosses.{TakesKey};
+ghost use Rattle.hive_edit.specs.Searches.{IsSlotOf};
 ghost use Rattle.hive_edit.specs.SubkeyPlaces.{IsListOfKey};
-ghost use Rattle.hive_edit.specs.declared.search.RecordKind.TheVariants.{Key};
 ghost use Rattle.hive_edit.specs.declared.outcome.Edit.TheVariants as edit;
 
 use crate::cell_frees::free_cells;
@@ -93,11 +92,8 @@ fn take_key(
 ) -> Result<Edit, Refusal>
     requires list { IsListOfKey image.old.bytes home list }
     requires slot { IsSlotOf image.old.bytes list.at slot.now }
-    ensures done { result ≡ Ok edit.Done → (root hive : ℕ) (tree : TreeMap) (front : List (List ℕ))
-        (name : List ℕ) → KeyFound image.old.bytes root MINOR_VERSION tree (folded_path front) home →
-        IsNamedAt Key image.old.bytes slot.now.subkey (folded name) →
-        BinsEncodeTree image.new.bytes root MINOR_VERSION
-        (tree_after tree (DeleteKey hive (front ++ name ∷ [])) moment) }
+    ensures done { result ≡ Ok edit.Done → TakesKey image.old.bytes image.new.bytes home slot.now.subkey
+        moment }
     ensures saved { image.new.saved ≡ image.old.saved }
     ensures refused { IfErr result (λ why. why ≡ NoMemory) }
 {
@@ -111,8 +107,11 @@ fn take_key(
     let Some(shape) = leaf_shape(image, slot.leaf) else {
         return Ok(Edit::Rebuild);
     };
-    if list.count <= 1 || shape.count <= 1 || shape.count as usize <= slot.index {
+    if list.count == 0 || shape.count as usize <= slot.index {
         return Ok(Edit::Rebuild);
+    }
+    if shape.count == 1 {
+        return drop_leaf(image, home, list, slot, moment);
     }
     shorten_leaf(image, slot.leaf, shape, slot.index)?;
     let left = KeyList {
@@ -123,6 +122,50 @@ fn take_key(
     let freed = free_key(image, slot.subkey)?;
     image.tiles(); // for the prover
     Ok(freed)
+}
+
+// takes the only key from a leaf below a list of lists, and the leaf from that list
+fn drop_leaf(
+    image: &mut SavepointImage,
+    home: u32,
+    list: KeyList,
+    slot: &SubkeySlot,
+    moment: u64,
+) -> Result<Edit, Refusal>
+    requires list { IsListOfKey image.old.bytes home list }
+    requires slot { IsSlotOf image.old.bytes list.at slot.now }
+    requires more { 1 < list.count }
+    requires single { u16_at (cell_data image.old.bytes slot.now.leaf) 2 ≡ 1 }
+    requires leaf { u32_at (cell_data image.old.bytes slot.now.subkey) 20 ≡ 0 }
+    ensures done { result ≡ Ok edit.Done → TakesKey image.old.bytes image.new.bytes home slot.now.subkey
+        moment }
+    ensures saved { image.new.saved ≡ image.old.saved }
+    ensures refused { IfErr result (λ why. why ≡ NoMemory) }
+{
+    image.tiles(); // for the prover
+    let Some(index) = slot.leaf_index else {
+        return Ok(Edit::Rebuild);
+    };
+    let Some(lists) = leaf_shape(image, list.at) else {
+        return Ok(Edit::Rebuild);
+    };
+    if lists.count as usize <= index {
+        return Ok(Edit::Rebuild);
+    }
+    shorten_leaf(image, list.at, lists, index)?;
+    let left = KeyList {
+        count: list.count - 1,
+        at: list.at,
+    };
+    put_list(image, home, left, moment)?;
+    match free_cells(image, &[slot.leaf])? {
+        Edit::Rebuild => Ok(Edit::Rebuild),
+        Edit::Done => {
+            let freed = free_key(image, slot.subkey)?;
+            image.tiles(); // for the prover
+            Ok(freed)
+        }
+    }
 }
 
 // takes the last key from a key's list, and the list
@@ -137,11 +180,8 @@ fn drop_list(
     requires slot { IsSlotOf image.old.bytes list.at slot.now }
     requires alone { list.count ≡ 1 }
     requires leaf { u32_at (cell_data image.old.bytes slot.now.subkey) 20 ≡ 0 }
-    ensures done { result ≡ Ok edit.Done → (root hive : ℕ) (tree : TreeMap) (front : List (List ℕ))
-        (name : List ℕ) → KeyFound image.old.bytes root MINOR_VERSION tree (folded_path front) home →
-        IsNamedAt Key image.old.bytes slot.now.subkey (folded name) →
-        BinsEncodeTree image.new.bytes root MINOR_VERSION
-        (tree_after tree (DeleteKey hive (front ++ name ∷ [])) moment) }
+    ensures done { result ≡ Ok edit.Done → TakesKey image.old.bytes image.new.bytes home slot.now.subkey
+        moment }
     ensures saved { image.new.saved ≡ image.old.saved }
     ensures refused { IfErr result (λ why. why ≡ NoMemory) }
 {
