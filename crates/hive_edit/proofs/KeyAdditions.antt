@@ -140,7 +140,7 @@ module _ (bytes : List ℕ) (root hive : ℕ) (tree : TreeMap) (front : List (Li
   key_added =
       let s = insert.cells f.cells f.shows in
       let node_text : List ℕ = text ++ replicate s.4 0 in
-      let g = grow s.1 s.2 own [] (offsets f.place.below) (reads_one s.0 s.1 s.3 node_text s.5) in
+      let g = grow s.1 s.2 own [] (offsets f.place.below) (reads_one s.0 s.1 s.3 node_text s.5) (lists_once bytes root 5 tree (folded_path front) home f).1 in
       let t = put.cells g.0 g.1 in
       let e = t.3 (cell_data bytes home) (home_two s.0 s.1 s.3 node_text s.5 g.0 g.2) in
       all_created s.0 s.1 s.3 node_text s.5 g.0 g.2 (replicate s.4 0) refl t.0 t.1 t.2 e.0 e.1 e.2

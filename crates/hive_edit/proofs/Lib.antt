@@ -17,6 +17,8 @@ mod KeyDeletions
 mod KeyCreations
 mod KeyAdditions
 mod KeyAbsences
+mod LeafInserts
+mod BareCells
 mod LeafGrowths
 mod ValueFrees
 mod ValueNodes

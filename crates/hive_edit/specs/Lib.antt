@@ -3,6 +3,7 @@ pub mod Lists
 pub mod Searches
 pub mod DataPlaces
 pub mod SubkeyPlaces
+pub mod LeafChanges
 pub mod ValueLists
 pub mod ValueRecords
 pub mod SegmentCells

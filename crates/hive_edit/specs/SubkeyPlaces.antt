@@ -13,6 +13,7 @@ use Rattle.hive_records.specs.Lists.{is_indirect, subkeys_at}
 use Rattle.hive_records.specs.Fields.{Gives}
 use Rattle.hive_records.specs.Heads.{stride_of}
 use Rattle.hive_savepoint.specs.Puts.{HasData}
+use Rattle.hive_edit_laws.specs.Found.{HoldsNode, HoldsList}
 use Rattle.hive_edit_laws.specs.RecordEdits.{NodeListsChange}
 use Rattle.hive_edit_laws.specs.Shifts.{ShiftsIn, ShiftsOut}
 use Rattle.hive_edit.specs.declared.key_lists.KeyList.{KeyList}
@@ -20,12 +21,14 @@ use Rattle.hive_edit.specs.declared.leaf_edit.LeafShape.{LeafShape}
 
 -- the node at an offset names this list of subkeys
 pub record IsListOfKey (bytes : List ℕ) (key : ℕ) (list : KeyList) : Type 0 where
+  pub holds : HoldsNode bytes key
   pub long : HasData bytes key 76
   pub count_is : list.count ≡ u32_at (cell_data bytes key) 20
   pub at_is : list.at ≡ u32_at (cell_data bytes key) 28
 
 -- the list at an offset has elements of this many bytes, and so many of them
 pub record IsShapeOf (bytes : List ℕ) (leaf : ℕ) (shape : LeafShape) : Type 0 where
+  pub holds : HoldsList bytes leaf
   pub long : HasData bytes leaf (4 + shape.stride * shape.count)
   pub stride_is : shape.stride ≡ stride_of (cell_data bytes leaf)
   pub count_is : shape.count ≡ u16_at (cell_data bytes leaf) 2
@@ -67,9 +70,9 @@ pub record ListGrown (before after : Cells) (count at made subkey : ℕ) (own it
   pub takes : (cell : ℕ) → IsIn cell own_now → IsIn cell own ⊎ (before cell ≡ None)
   pub stays : (cell : ℕ) → IsSome (before cell) → (IsIn cell own → ⊥) → after cell ≡ before cell
 
--- the same of the lists of two images
+-- the same of the lists of two images, if no cell of the list is named twice
 abbrev pub GrowsList : List ℕ → List ℕ → KeyList → ℕ → ℕ → Type 0
-GrowsList old_bytes new_bytes list subkey made = (before : Cells) → Shows old_bytes before → (own lent its : List ℕ) → Gives (subkeys_at list.count list.at) before own lent its
+GrowsList old_bytes new_bytes list subkey made = (before : Cells) → Shows old_bytes before → (own lent its : List ℕ) → Gives (subkeys_at list.count list.at) before own lent its → Once own
     → (after : Cells) × Shows new_bytes after × ListGrown before after list.count list.at made subkey own its
 
 -- a name that a new key may have

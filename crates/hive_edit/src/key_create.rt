@@ -73,6 +73,7 @@ fn add_key(
     ensures saved { image.new.saved ≡ image.old.saved }
     ensures refused { IfErr result (λ why. why ≡ NoMemory) }
 {
+    image.tiles(); // for the prover
     let Some(list) = list_of_key(image, home) else {
         return Ok(Edit::Rebuild);
     };

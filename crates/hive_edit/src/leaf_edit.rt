@@ -10,10 +10,11 @@ use hive_records::SubkeyList;
 use hive_savepoint::SavepointImage;
 use refusals::Refusal;
 
-// where a list has the number of its elements, and the elements
-const COUNT: usize = 2;
+/// Where a list has the number of its elements.
+pub(crate) const COUNT: usize = 2;
 
-const ELEMENTS: usize = 4;
+/// Where a list has its elements.
+pub(crate) const ELEMENTS: usize = 4;
 
 // the most bytes of an element
 const WIDEST: usize = 8;

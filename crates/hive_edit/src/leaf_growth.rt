@@ -2,30 +2,30 @@
 ghost use Rattle.std.specs.Prelude.{◌≡◌, ◌≢◌, ◌≤◌, ◌<◌, ◌+◌, ◌*◌, ℕ, false, OnOk, IfOk, IfErr, IfSome};
 ghost use Rattle.refusals.specs.declared.refusal.Refusal.TheVariants.{NoMemory};
 ghost use Rattle.hive_savepoint.specs.Puts.{HasData};
+ghost use Rattle.hive_edit_laws.specs.Found.{HoldsList};
 ghost use Rattle.hive_edit.specs.SubkeyPlaces.{GrowsList, IsShapeOf};
+ghost use Rattle.hive_edit.specs.LeafChanges.{KeepsSizes};
 
 use crate::key_lists::KeyList;
-use crate::leaf_edit::{LeafShape, leaf_shape, lengthen_leaf};
+use crate::leaf_edit::{ELEMENTS, LeafShape, leaf_shape, lengthen_leaf};
+use crate::leaf_insert::{NewElement, free_moved, insert_element, spare_elements};
 use crate::subkeys::place_in_leaf;
 use hive_cells::Looks;
-use hive_records::{name_hash, put_hashed_head};
+use hive_records::{name_hash, put_hashed_head, u32_at};
 use hive_savepoint::SavepointImage;
 use refusals::Refusal;
 use std::alloc::Global;
 
-// the most elements of a leaf
-const MOST_ELEMENTS: u16 = 500;
+/// The most elements of a leaf.
+pub(crate) const MOST_ELEMENTS: u16 = 500;
 
-// the room that a new leaf has for more elements, at least
-const LEAST_ROOM: usize = 8;
+const _: () = prove!(MOST_ELEMENTS == 500);
 
-// the bytes of an element of a new leaf, and of a list's fields
+// the bytes of an element of a new leaf
 const ELEMENT: usize = 8;
 
-const FIELDS: usize = 4;
-
-/// Puts a subkey of a name into a key's list. Answers the list's offset. None if the list is a list of lists, a full
-/// leaf or one with the first letters of names, or the image has no room.
+/// Puts a subkey of a name into a key's list. Of a list that moves for want of room the old cell is freed. Answers the
+/// list's offset. None if the list is a list of lists or a full leaf, or the image has no room.
 pub(crate) fn grow_list(
     alloc: Global,
     image: &mut SavepointImage,
@@ -34,30 +34,49 @@ pub(crate) fn grow_list(
     name: &[u16],
 ) -> Result<Option<u32>, Refusal>
     ensures grown { IfOk result (λ made. IfSome made (GrowsList image.old.bytes image.new.bytes list subkey)) }
-    ensures sizes { OnOk result ((cell len : ℕ) → HasData image.old.bytes cell len →
-        HasData image.new.bytes cell len) }
+    ensures sizes { OnOk result ((cell len : ℕ) → ¬ HoldsList image.old.bytes cell →
+        HasData image.old.bytes cell len → HasData image.new.bytes cell len) }
     ensures saved { image.new.saved ≡ image.old.saved }
     ensures refused { IfErr result (λ why. why ≡ NoMemory) }
 {
     if list.count == 0 {
         return first_leaf(alloc, image, list, subkey, name);
     }
-    image.tiles(); // for the prover
     let Some(shape) = leaf_shape(image, list.at) else {
         return Ok(None);
     };
-    if shape.is_indirect || MOST_ELEMENTS <= shape.count || has_name_hints(image, list.at) {
+    if shape.is_indirect || MOST_ELEMENTS <= shape.count {
         return Ok(None);
     }
-    let index = place_in_leaf(image, list.at, name).min(shape.count as usize);
-    if FIELDS + shape.stride * (shape.count as usize + 1) <= shape.room {
-        return grow_leaf(image, list, shape, index, subkey, name);
+    let new = new_element(image, list.at, shape.count, subkey, name);
+    grow_leaf(alloc, image, list, shape, new)
+}
+
+/// The element that a leaf of `count` subkeys is to have for another one, if it is sorted.
+pub(crate) fn new_element(
+    image: &SavepointImage,
+    leaf: u32,
+    count: u16,
+    subkey: u32,
+    name: &[u16],
+) -> NewElement
+    ensures index { result.index ≤ count }
+    ensures offset { result.offset ≡ subkey }
+{
+    let hint = if has_letters(image, leaf) {
+        first_letters(name)
+    } else {
+        name_hash(name)
+    };
+    NewElement {
+        index: place_in_leaf(image, leaf, name).min(count as usize),
+        offset: subkey,
+        hint,
     }
-    move_leaf(alloc, image, list, shape, index, subkey, name)
 }
 
 // whether the list at an offset has the first letters of names beside their offsets (lf)
-fn has_name_hints(image: &SavepointImage, leaf: u32) -> bool {
+fn has_letters(image: &SavepointImage, leaf: u32) -> bool {
     let mut looks = Looks::new();
     match image.cell(leaf, &mut looks) {
         Ok(cell) => cell.starts_with(b"lf"),
@@ -65,69 +84,42 @@ fn has_name_hints(image: &SavepointImage, leaf: u32) -> bool {
     }
 }
 
-// puts a subkey into the leaf that is a key's list, which has room
-fn grow_leaf(
-    image: &mut SavepointImage,
-    list: KeyList,
-    shape: LeafShape,
-    index: usize,
-    subkey: u32,
-    name: &[u16],
-) -> Result<Option<u32>, Refusal>
-    requires some { list.count ≢ 0 }
-    requires shape { IsShapeOf image.old.bytes list.at shape }
-    requires direct { shape.is_indirect ≡ false }
-    requires few { shape.count < 500 }
-    requires index { index ≤ shape.count }
-    requires room { 4 + shape.stride * (shape.count + 1) ≤ shape.room }
-    ensures grown { IfOk result (λ made. IfSome made (GrowsList image.old.bytes image.new.bytes list subkey)) }
-    ensures sizes { OnOk result ((cell len : ℕ) → HasData image.old.bytes cell len →
-        HasData image.new.bytes cell len) }
-    ensures saved { image.new.saved ≡ image.old.saved }
-    ensures refused { IfErr result (λ why. why ≡ NoMemory) }
-{
-    image.tiles(); // for the prover
-    lengthen_leaf(image, list.at, shape, index, subkey, name_hash(name))?;
-    Ok(Some(list.at))
+// the first four letters of a name, a byte each; zeros from a letter on that has no byte
+fn first_letters(name: &[u16]) -> u32 {
+    let mut letters = [0; 4];
+    for place in 0..name.len().min(4) {
+        let Ok(letter) = u8::try_from(name[place]) else {
+            break;
+        };
+        letters[place] = letter;
+    }
+    u32_at(&letters, 0)
 }
 
-// puts a subkey into a copy of the leaf that is a key's list, which has room for more
-fn move_leaf(
+// puts a subkey into the leaf that is a key's list
+fn grow_leaf(
     alloc: Global,
     image: &mut SavepointImage,
     list: KeyList,
     shape: LeafShape,
-    index: usize,
-    subkey: u32,
-    name: &[u16],
+    new: NewElement,
 ) -> Result<Option<u32>, Refusal>
     requires some { list.count ≢ 0 }
     requires shape { IsShapeOf image.old.bytes list.at shape }
     requires direct { shape.is_indirect ≡ false }
     requires few { shape.count < 500 }
-    requires index { index ≤ shape.count }
-    ensures grown { IfOk result (λ made. IfSome made (GrowsList image.old.bytes image.new.bytes list subkey)) }
-    ensures sizes { OnOk result ((cell len : ℕ) → HasData image.old.bytes cell len →
-        HasData image.new.bytes cell len) }
+    requires index { new.index ≤ shape.count }
+    ensures grown { IfOk result (λ made. IfSome made (GrowsList image.old.bytes image.new.bytes list new.offset)) }
+    ensures sizes { OnOk result (KeepsSizes image.old.bytes image.new.bytes) }
     ensures saved { image.new.saved ≡ image.old.saved }
     ensures refused { IfErr result (λ why. why ≡ NoMemory) }
 {
     image.tiles(); // for the prover
-    let mut looks = Looks::new();
-    let Ok(cell) = image.cell(list.at, &mut looks) else {
+    let Some(made) = insert_element(alloc, image, list.at, shape, MOST_ELEMENTS, new)? else {
         return Ok(None);
     };
-    let mut text = Vec::new(alloc);
-    text.extend_from_slice(cell)?;
-    let more = (shape.count as usize / 4).max(LEAST_ROOM);
-    let leaf = match image.insert(&text, shape.stride * more) {
-        Ok(leaf) => leaf,
-        Err(Refusal::TooLarge) => return Ok(None),
-        Err(why) => return Err(why),
-    };
-    image.tiles(); // for the prover
-    lengthen_leaf(image, leaf, shape, index, subkey, name_hash(name))?;
-    Ok(Some(leaf))
+    free_moved(image, list.at, made)?;
+    Ok(Some(made))
 }
 
 // puts a subkey into a new leaf
@@ -140,14 +132,13 @@ fn first_leaf(
 ) -> Result<Option<u32>, Refusal>
     requires none { list.count ≡ 0 }
     ensures grown { IfOk result (λ made. IfSome made (GrowsList image.old.bytes image.new.bytes list subkey)) }
-    ensures sizes { OnOk result ((cell len : ℕ) → HasData image.old.bytes cell len →
-        HasData image.new.bytes cell len) }
+    ensures sizes { OnOk result (KeepsSizes image.old.bytes image.new.bytes) }
     ensures saved { image.new.saved ≡ image.old.saved }
     ensures refused { IfErr result (λ why. why ≡ NoMemory) }
 {
     let mut text = Vec::new(alloc);
     put_hashed_head(&mut text, 0)?;
-    let leaf = match image.insert(&text, ELEMENT * LEAST_ROOM) {
+    let leaf = match image.insert(&text, ELEMENT * spare_elements(0, MOST_ELEMENTS)) {
         Ok(leaf) => leaf,
         Err(Refusal::TooLarge) => return Ok(None),
         Err(why) => return Err(why),
@@ -156,7 +147,7 @@ fn first_leaf(
     let Some(shape) = leaf_shape(image, leaf) else {
         return Ok(None);
     };
-    if shape.count != 0 || shape.room < FIELDS + shape.stride {
+    if shape.count != 0 || shape.room < ELEMENTS + shape.stride {
         return Ok(None);
     }
     lengthen_leaf(image, leaf, shape, 0, subkey, name_hash(name))?;

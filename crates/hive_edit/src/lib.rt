@@ -14,6 +14,7 @@ mod key_lists;
 mod keys;
 mod leaf_edit;
 mod leaf_growth;
+mod leaf_insert;
 mod list_room;
 mod new_keys;
 mod node_edit;
