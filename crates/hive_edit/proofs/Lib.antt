@@ -20,6 +20,8 @@ mod KeyAbsences
 mod LeafInserts
 mod BareCells
 mod LeafGrowths
+mod LeavesReplaced
+mod IndirectGrowths
 mod ValueFrees
 mod ValueNodes
 mod ListShifts

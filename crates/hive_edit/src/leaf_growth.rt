@@ -6,6 +6,7 @@ ghost use Rattle.hive_edit_laws.specs.Found.{HoldsList};
 ghost use Rattle.hive_edit.specs.SubkeyPlaces.{GrowsList, IsShapeOf};
 ghost use Rattle.hive_edit.specs.LeafChanges.{KeepsSizes};
 
+use crate::indirect_growth::grow_below;
 use crate::key_lists::KeyList;
 use crate::leaf_edit::{ELEMENTS, LeafShape, leaf_shape, lengthen_leaf};
 use crate::leaf_insert::{NewElement, free_moved, insert_element, spare_elements};
@@ -24,8 +25,8 @@ const _: () = prove!(MOST_ELEMENTS == 500);
 // the bytes of an element of a new leaf
 const ELEMENT: usize = 8;
 
-/// Puts a subkey of a name into a key's list. Of a list that moves for want of room the old cell is freed. Answers the
-/// list's offset. None if the list is a list of lists or a full leaf, or the image has no room.
+/// Puts a subkey of a name into a key's list, or into a leaf of its list of lists. Of a leaf that moves for want of room
+/// the old cell is freed. Answers the list's offset. None if the leaf is full, or the image has no room.
 pub(crate) fn grow_list(
     alloc: Global,
     image: &mut SavepointImage,
@@ -45,7 +46,10 @@ pub(crate) fn grow_list(
     let Some(shape) = leaf_shape(image, list.at) else {
         return Ok(None);
     };
-    if shape.is_indirect || MOST_ELEMENTS <= shape.count {
+    if shape.is_indirect {
+        return grow_below(alloc, image, list, subkey, name);
+    }
+    if MOST_ELEMENTS <= shape.count {
         return Ok(None);
     }
     let new = new_element(image, list.at, shape.count, subkey, name);

@@ -6,6 +6,7 @@
 mod cell_frees;
 mod cell_inserts;
 mod image_edit;
+mod indirect_growth;
 mod key_counts;
 mod key_create;
 mod key_delete;

@@ -1,11 +1,11 @@
 //! A key's subkeys, found in its list by their names.
-ghost use Rattle.std.specs.Prelude.{◌≡◌, ◌<◌, ◌≤◌, ◌*◌, length, IfSome};
+ghost use Rattle.std.specs.Prelude.{◌≡◌, ◌<◌, ◌≤◌, ◌*◌, ◌^◌, length, IfSome};
 ghost use Rattle.reg_names.specs.Names.{folded};
 ghost use Rattle.hive_cells.specs.Tiles.{cell_data};
 ghost use Rattle.hive_records.specs.Heads.{IsSubkeyList};
 ghost use Rattle.hive_edit_laws.specs.Found.{HoldsList};
 ghost use Rattle.hive_edit.specs.declared.search.RecordKind.TheVariants.{Key};
-ghost use Rattle.hive_edit.specs.Searches.{IsLeafSlot, IsNamedAt, IsSlotOf};
+ghost use Rattle.hive_edit.specs.Searches.{IsLeafAt, IsLeafSlot, IsNamedAt, IsSlotOf};
 
 use crate::offsets::Offsets;
 use crate::search::{RecordKind, find, order_at};
@@ -94,6 +94,36 @@ fn likely_leaf(image: &SavepointImage, leaves: &Offsets, name: &[u16]) -> usize
         }
     }
     low
+}
+
+/// A leaf of a list of lists.
+#[derive(Clone, Copy)]
+pub(crate) struct LeafPlace {
+    /// The index of its offset in the list of lists.
+    pub(crate) index: usize,
+    /// The leaf.
+    pub(crate) leaf: u32,
+}
+
+/// The leaf of a list of lists that is to have a name, if leaves are sorted. None if the list at the offset is no list of
+/// lists, or names no leaf.
+pub(crate) fn leaf_for(image: &SavepointImage, list: u32, name: &[u16]) -> Option<LeafPlace>
+    ensures place { IfSome result (λ place. IsLeafAt image.now.bytes list place.index place.leaf) }
+    ensures near { IfSome result (λ place. place.index < 2 ^ 16) }
+{
+    let lists = read_list(image, list)?;
+    if !lists.is_indirect {
+        return None;
+    }
+    let leaves = elements(&lists);
+    if leaves.count == 0 {
+        return None;
+    }
+    let index = likely_leaf(image, &leaves, name);
+    Some(LeafPlace {
+        index,
+        leaf: leaves.get(index),
+    })
 }
 
 // how a leaf's first name is ordered to a name
