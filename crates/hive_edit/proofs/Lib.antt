@@ -19,6 +19,8 @@ mod KeyAdditions
 mod KeyAbsences
 mod LeafInserts
 mod BareCells
+mod KeyLevels
+mod LevelSteps
 mod LeafGrowths
 mod LeavesReplaced
 mod IndirectGrowths

@@ -24,8 +24,8 @@ use refusals::Refusal;
 use reg_names::Name;
 use std::alloc::Global;
 
-/// Creates the keys of a path that aren't there. As many names as `there` lead to the last key that is. More than one
-/// missing key is not done here.
+/// Creates the keys of a path that aren't there, from the top down. As many names as `there` lead to the last key that
+/// is. Each level is found from the root again: at most 32 are missing.
 pub(crate) fn create_key(
     alloc: Global,
     image: &mut SavepointImage,
@@ -43,10 +43,36 @@ pub(crate) fn create_key(
     ensures saved { image.new.saved ≡ image.old.saved }
     ensures refused { IfErr result (λ why. why ≡ NoMemory) }
 {
-    let Some((name, front)) = path.split_last() else {
+    if path.len() <= there {
         return Ok(Edit::Rebuild);
-    };
-    if front.len() != there || !is_new_name(name.units()) {
+    }
+    for depth in there..path.len() {
+        match create_level(alloc, image, root, &path[..depth], &path[depth], moment)? {
+            Edit::Done => {}
+            Edit::Rebuild => return Ok(Edit::Rebuild),
+        }
+    }
+    Ok(Edit::Done)
+}
+
+// creates a key below the one at a path
+fn create_level(
+    alloc: Global,
+    image: &mut SavepointImage,
+    root: u32,
+    front: &[Name],
+    name: &Name,
+    moment: u64,
+) -> Result<Edit, Refusal>
+    ensures done { result ≡ Ok edit.Done → (hive : ℕ) (tree : TreeMap) →
+        BinsEncodeTree image.old.bytes root MINOR_VERSION tree →
+        row tree (folded_path front.now ++ folded name.now ∷ []) ≡ None →
+        BinsEncodeTree image.new.bytes root MINOR_VERSION
+        (tree_after tree (CreateKey hive (front.now ++ name.now ∷ [])) moment) }
+    ensures saved { image.new.saved ≡ image.old.saved }
+    ensures refused { IfErr result (λ why. why ≡ NoMemory) }
+{
+    if !is_new_name(name.units()) {
         return Ok(Edit::Rebuild);
     }
     let Some(home) = find_key(image, root, front) else {
