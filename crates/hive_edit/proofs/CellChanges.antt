@@ -40,3 +40,9 @@ pub if_made : {A E : Type 0} (r : Result (Option A) E) (P Q : A → Type 0) → 
 if_made (Ok (Some x)) P Q f h = f x h
 if_made (Ok None) P Q f h = h
 if_made (Err e) P Q f h = h
+
+-- two things hold of what was made
+pub both_made : {A E : Type 0} (r : Result (Option A) E) (P Q R : A → Type 0) → ((x : A) → P x → Q x → R x) → IfOk r (λ made. IfSome made P) → IfOk r (λ made. IfSome made Q) → IfOk r (λ made. IfSome made R)
+both_made (Ok (Some x)) P Q R f h g = f x h g
+both_made (Ok None) P Q R f h g = h
+both_made (Err e) P Q R f h g = h

@@ -37,3 +37,5 @@ mod KeyCounts
 mod ValueSegments
 mod LoadedTrees
 mod KeyCells
+mod DataInserts
+mod DataReads

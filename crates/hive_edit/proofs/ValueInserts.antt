@@ -1,10 +1,9 @@
 -- A new value's record and data, in new cells.
 use Rattle.std.proofs.Common.{◌≡◌, inl, inr, ℕ, ◌<◌, ◌≤◌, ◌*◌, ◌^◌, Bool, true, false, List, [], ◌∷◌, ◌++◌, length, replicate, None, Some, IsSome, is_some, refl, sym, ap, ◌∙◌, arith}
-use Rattle.hive_tree_model.proofs.Basics.{some_none}
 use Rattle.hive_cells.specs.Bins.{Cells}
-use Rattle.hive_records.specs.ValueEncodings.{ValueIsEncodable, small_value, large_value}
+use Rattle.hive_records.specs.ValueEncodings.{ValueIsEncodable, small_value}
 use Rattle.hive_records.specs.NameEncodings.{is_latin, wide, spelled, name_bytes}
-use Rattle.hive_records.proofs.ValuesAgain.{small_again, large_again}
+use Rattle.hive_records.proofs.ValuesAgain.{small_again}
 use Rattle.hive_edit_laws.proofs.KeyPlaces.{none_there}
 use Rattle.hive_savepoint.specs.Puts.{AddsCell}
 use Rattle.hive_edit.specs.ValueRecords.{AddsRecord}
@@ -26,25 +25,6 @@ small_added old_bytes new_bytes value at fits few adds before shows =
         there = λ cell i. elim i [ inl e ↦ ap is_some (ap s.1 e ∙ s.5) | inr e ↦ absurd e ];
         stays = λ cell is. s.3 cell (new_apart before at cell s.0 is);
         reads = small_again true s.1 at value fits few (replicate s.4 0, s.5);
-      },
-    )
-
-pub large_added : (old_bytes mid_bytes new_bytes : List ℕ) (value : Value) (to at : ℕ) → ValueIsEncodable value → 0 < length value.«data» → length value.«data» ≤ 16_344 → to < 2 ^ 32 → AddsCell old_bytes mid_bytes to value.«data» → AddsCell mid_bytes new_bytes at (large_value value to) → AddsRecord old_bytes new_bytes value at
-large_added old_bytes mid_bytes new_bytes value to at fits some few near puts adds before shows =
-    let s = puts.cells before shows in
-    let t = adds.cells s.1 s.2 in
-    let apart : to ≡ at → ⊥ = λ e. some_none _ (sym t.0 ∙ sym (ap s.1 e) ∙ s.5) in
-    let was_none : before at ≡ None = sym (s.3 at (λ e. apart (sym e))) ∙ t.0 in
-    let here : t.1 to ≡ Some (value.«data» ++ replicate s.4 0) = t.3 to apart ∙ s.5 in (
-      t.1,
-      t.2,
-      record {
-        own = at ∷ to ∷ [];
-        once = ((λ i. elim i [ inl e ↦ apart (sym e) | inr e ↦ e ]), ((λ i. i), tt));
-        fresh = λ cell i. elim i [ inl e ↦ ap before e ∙ was_none | inr h ↦ elim h [ inl e ↦ ap before e ∙ s.0 | inr e ↦ absurd e ] ];
-        there = λ cell i. elim i [ inl e ↦ ap is_some (ap t.1 e ∙ t.5) | inr h ↦ elim h [ inl e ↦ ap is_some (ap t.1 e ∙ here) | inr e ↦ absurd e ] ];
-        stays = λ cell is. t.3 cell (new_apart before at cell was_none is) ∙ s.3 cell (new_apart before to cell s.0 is);
-        reads = large_again true t.1 at to value fits some (omega (arith, few)) (λ _. few) near (replicate t.4 0, t.5) (replicate s.4 0, here);
       },
     )
 

@@ -9,3 +9,4 @@ pub mod ValueRecords
 pub mod SegmentCells
 pub mod OwnCells
 pub mod KeyLosses
+pub mod DataInserts

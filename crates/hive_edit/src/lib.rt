@@ -5,6 +5,7 @@
 
 mod cell_frees;
 mod cell_inserts;
+mod data_inserts;
 mod image_edit;
 mod indirect_growth;
 mod key_counts;

@@ -26,7 +26,7 @@ use reg_names::Name;
 use std::alloc::Global;
 use std::cmp::Ordering;
 
-/// Adds a value to the key at a path, which has none of its name. Data of more than one segment are not done here.
+/// Adds a value to the key at a path, which has none of its name.
 pub(crate) fn add_value(
     alloc: Global,
     image: &mut SavepointImage,

@@ -7,18 +7,22 @@ ghost use Rattle.hive_savepoint.specs.Puts.{HasData};
 ghost use Rattle.hive_edit.specs.ValueRecords.{AddsRecord};
 
 use crate::cell_inserts::insert_cell;
+use crate::data_inserts::insert_data;
 use crate::value_data::{MOST_IN_RECORD, NewValue};
-use hive_records::{SEGMENT_BYTES, put_large_value, put_small_value};
+use hive_records::{put_large_value, put_small_value};
 use hive_savepoint::SavepointImage;
 use refusals::Refusal;
+use refusals::limits::MOST_VALUE_BYTES;
 use reg_tree_parts::{Data, Value};
 use std::alloc::Global;
 
 // the most units of a name, which may take two bytes each
 const MOST_UNITS: usize = 0x7fff;
 
+const _: () = prove!(MOST_VALUE_BYTES == 1_048_576);
+
 /// Puts a new value's record and data into new cells, and answers the record's. None for a name of more than 32,767
-/// units, for data of more than one segment, and if the image has no room.
+/// units, for data over 1 MiB, and if the image has no room.
 pub(crate) fn insert_value(
     alloc: Global,
     image: &mut SavepointImage,
@@ -31,7 +35,7 @@ pub(crate) fn insert_value(
     ensures saved { image.new.saved ≡ image.old.saved }
     ensures refused { IfErr result (λ why. why ≡ NoMemory) }
 {
-    if !is_short(value.name.units()) || SEGMENT_BYTES < value.data.len() {
+    if !is_short(value.name.units()) || MOST_VALUE_BYTES < value.data.len() {
         return Ok(None);
     }
     let name = value.name.clone()?;
@@ -72,7 +76,7 @@ fn insert_small(
     insert_cell(image, &text, 0)
 }
 
-// puts a value whose data are in one cell
+// puts a value whose data are in one cell, or in segments
 fn insert_large(
     alloc: Global,
     image: &mut SavepointImage,
@@ -80,7 +84,7 @@ fn insert_large(
 ) -> Result<Option<u32>, Refusal>
     requires fits { ValueIsEncodable value.now }
     requires some { 0 < length value.now.«data» }
-    requires few { length value.now.«data» ≤ 16_344 }
+    requires few { length value.now.«data» ≤ 1_048_576 }
     ensures added { IfOk result (λ made. IfSome made (AddsRecord image.old.bytes image.new.bytes
         value.now)) }
     ensures sizes { OnOk result ((cell len : ℕ) → HasData image.old.bytes cell len →
@@ -88,7 +92,7 @@ fn insert_large(
     ensures saved { image.new.saved ≡ image.old.saved }
     ensures refused { IfErr result (λ why. why ≡ NoMemory) }
 {
-    let Some(to) = insert_cell(image, value.data.bytes(), 0)? else {
+    let Some(to) = insert_data(alloc, image, value.data.bytes())? else {
         return Ok(None);
     };
     let mut text = Vec::new(alloc);
