@@ -75,30 +75,6 @@ put_here old_bytes new_bytes at text new tiles has change is place some few befo
     case_of : (b : _) → b ≡ true → b ≡ false → ⊥
     case_of b e f = grind (arith, e, f)
 
--- data in a new cell
-pub put_new : (old_bytes new_bytes : List ℕ) (at : ℕ) (old text : List ℕ) (new : NewData) → AddsCell old_bytes new_bytes at text → IsAtOffset text at new → new.in_place ≡ false → 0 < length text → length text ≤ 16_344 → PutsData old_bytes new_bytes old text new
-put_new old_bytes new_bytes at old text new change is place some few before shows =
-    let s = change.cells before shows in (
-      s.1,
-      s.2,
-      record {
-        own = at ∷ [];
-        once = none_twice at;
-        takes = λ cell i. inr (fresh s.0 cell i);
-        in_place = λ e. absurd (case_of new.in_place place e);
-        moved = λ e cell i. fresh s.0 cell i;
-        stays = λ cell there apart. s.3 cell (λ e. apart (inl e));
-        reads = cell_reads s.1 at new text (replicate s.4 0) is some few s.5;
-      },
-    )
-  where
-    case_of : (b : _) → b ≡ false → b ≡ true → ⊥
-    case_of b e f = grind (arith, e, f)
-
-    fresh : before at ≡ None → (cell : ℕ) → IsIn cell (at ∷ []) → before cell ≡ None
-    fresh e cell (inl i) = ap before i ∙ e
-    fresh e cell (inr i) = absurd i
-
 -- data's one cell is there as long as cells keep their sizes
 pub place_stays : (old new : List ℕ) (place : DataPlace) → ((cell len : ℕ) → HasData old cell len → HasData new cell len) → IsPlaceThere old place → IsPlaceThere new place
 place_stays old new InRecord sizes h = h

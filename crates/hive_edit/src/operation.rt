@@ -63,7 +63,7 @@ pub fn edit_in_place(
                 data: data.bytes(),
             };
             if presence.value {
-                set_value(image, root, path.names(), &value, moment)
+                set_value(alloc, image, root, path.names(), &value, moment)
             } else {
                 add_value(alloc, image, root, path.names(), &value, moment)
             }

@@ -5,12 +5,15 @@ ghost use Rattle.hive_cells.specs.Tiles.{cell_data};
 ghost use Rattle.hive_savepoint.specs.Puts.{HasData};
 ghost use Rattle.hive_edit.specs.DataPlaces.{IsDataPlace, IsPlaceThere, IsInRecord, IsAtOffset, PutsData, place_cells};
 
+use crate::data_inserts::insert_data;
 use crate::numbers::u32_bytes;
 use hive_cells::Looks;
 use hive_records::{SEGMENT_BYTES, ValueRec};
 use hive_savepoint::SavepointImage;
 use refusals::Refusal;
+use refusals::limits::MOST_VALUE_BYTES;
 use reg_names::Name;
+use std::alloc::Global;
 
 // set in the size field of data that are in the record
 const IN_RECORD: u32 = 0x8000_0000;
@@ -19,6 +22,8 @@ const IN_RECORD: u32 = 0x8000_0000;
 pub(crate) const MOST_IN_RECORD: usize = 4;
 
 const _: () = prove!(IN_RECORD == 0x8000_0000);
+
+const _: () = prove!(MOST_VALUE_BYTES == 1_048_576);
 
 /// A value to be set.
 #[derive(Drop)]
@@ -79,8 +84,9 @@ pub(crate) fn data_place(image: &SavepointImage, at: u32) -> Option<DataPlace>
 }
 
 /// Puts new data of a value into cells, if they aren't for its record: into the cell of the old data, if that is long
-/// enough, or else into a new one. None for data of more than one segment, and if the image has no room.
+/// enough, or else into new ones. None for data over 1 MiB, and if the image has no room.
 pub(crate) fn put_data(
+    alloc: Global,
     image: &mut SavepointImage,
     old: &DataPlace,
     data: &[u8],
@@ -96,16 +102,17 @@ pub(crate) fn put_data(
     if data.len() <= MOST_IN_RECORD {
         return Ok(Some(in_record(data)));
     }
-    if SEGMENT_BYTES < data.len() {
+    if MOST_VALUE_BYTES < data.len() {
         return Ok(None);
     }
     if let DataPlace::InCell(at, room) = *old
         && data.len() <= room
+        && data.len() <= SEGMENT_BYTES
     {
         let new = put_in_cell(image, at, data)?;
         return Ok(Some(new));
     }
-    put_in_new_cell(image, data)
+    put_in_new_cells(alloc, image, data)
 }
 
 // what a record says of data that are in it: zeros follow them
@@ -122,9 +129,9 @@ fn in_record(data: &[u8]) -> NewData
     }
 }
 
-// what a record says of data that are in one cell
-fn in_cell(at: u32, data: &[u8], in_place: bool) -> NewData
-    requires { length data.now ≤ 16_344 }
+// what a record says of data in cells, to one of which an offset leads
+fn at_offset(at: u32, data: &[u8], in_place: bool) -> NewData
+    requires { length data.now ≤ 1_048_576 }
     ensures is { IsAtOffset data.now at result }
     ensures place { result.in_place ≡ in_place }
 {
@@ -148,13 +155,17 @@ fn put_in_cell(image: &mut SavepointImage, at: u32, data: &[u8]) -> Result<NewDa
 {
     image.tiles(); // for the prover
     image.write(at, 0, data)?;
-    Ok(in_cell(at, data, true))
+    Ok(at_offset(at, data, true))
 }
 
-// puts data into a new cell
-fn put_in_new_cell(image: &mut SavepointImage, data: &[u8]) -> Result<Option<NewData>, Refusal>
+// puts data into new cells
+fn put_in_new_cells(
+    alloc: Global,
+    image: &mut SavepointImage,
+    data: &[u8],
+) -> Result<Option<NewData>, Refusal>
     requires some { 0 < length data.now }
-    requires few { length data.now ≤ 16_344 }
+    requires few { length data.now ≤ 1_048_576 }
     ensures put { IfOk result (λ made. IfSome made (λ new. (old : List ℕ) → PutsData image.old.bytes
         image.new.bytes old data.now new)) }
     ensures moved { IfOk result (λ made. IfSome made (λ new. new.in_place ≡ false)) }
@@ -163,9 +174,8 @@ fn put_in_new_cell(image: &mut SavepointImage, data: &[u8]) -> Result<Option<New
     ensures saved { image.new.saved ≡ image.old.saved }
     ensures refused { IfErr result (λ why. why ≡ NoMemory) }
 {
-    match image.insert(data, 0) {
-        Ok(at) => Ok(Some(in_cell(at, data, false))),
-        Err(Refusal::TooLarge) => Ok(None),
-        Err(why) => Err(why),
-    }
+    let Some(at) = insert_data(alloc, image, data)? else {
+        return Ok(None);
+    };
+    Ok(Some(at_offset(at, data, false)))
 }

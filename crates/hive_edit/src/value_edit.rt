@@ -24,6 +24,7 @@ use hive_records::u32_at;
 use hive_savepoint::SavepointImage;
 use refusals::Refusal;
 use reg_names::Name;
+use std::alloc::Global;
 
 // where a key node has its time, and the bytes of the largest data of its values
 const TIME: usize = 4;
@@ -33,8 +34,9 @@ const LARGEST_DATA: usize = 64;
 // where a value's record has its size field, and its type
 const SIZE: usize = 4;
 
-/// Sets a value that is there. Data of more than one segment are not done here.
+/// Sets a value that is there.
 pub(crate) fn set_value(
+    alloc: Global,
     image: &mut SavepointImage,
     root: u32,
     path: &[Name],
@@ -55,11 +57,12 @@ pub(crate) fn set_value(
     let Some(place) = find_value(image, key, value.name.units()) else {
         return Ok(Edit::Rebuild);
     };
-    set_at(image, &place, value.kind, value.data, moment)
+    set_at(alloc, image, &place, value.kind, value.data, moment)
 }
 
 // sets the value at a place
 fn set_at(
+    alloc: Global,
     image: &mut SavepointImage,
     place: &ValuePlace,
     kind: u32,
@@ -83,7 +86,7 @@ fn set_at(
     if let DataPlace::InSegments(_) = old {
         return Ok(Edit::Rebuild);
     }
-    let Some(new) = put_data(image, &old, data)? else {
+    let Some(new) = put_data(alloc, image, &old, data)? else {
         return Ok(Edit::Rebuild);
     };
     put_fields(image, place, &new, kind, data.len(), moment)?;
