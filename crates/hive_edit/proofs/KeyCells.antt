@@ -58,17 +58,8 @@ module _ (bytes : List ℕ) (root : ℕ) (tree : TreeMap) (path : List (List ℕ
   trail_is : trail_in true f.cells at ≡ b.its.own
   trail_is = keys_trail true f.cells at b.its b.read
 
-  mine : IsIn at b.its.own
-  mine = by (steps_of true at f.cells b.its b.read)
-    where
-      by : Steps true at f.cells b.its → IsIn at b.its.own
-      by s = subst (λ (z : List ℕ). IsIn at z) (sym s.own_is) (inl refl)
-
   not_above : (cell : ℕ) → IsIn cell f.place.parts.own → IsIn cell b.its.own → ⊥
   not_above cell i j = once_apart cell f.place.parts.own (own_cells f.place.below) once_below i (b.within cell j)
-
-  pub node_given : IsIn at (trail_in true f.cells at)
-  node_given = subst (λ (z : List ℕ). IsIn at z) (sym trail_is) mine
 
   -- what is given up is none of the parent's cells
   pub home_kept : IsIn home (trail_in true f.cells at) → ⊥

@@ -1,5 +1,5 @@
 -- A key is taken from its parent's list.
-use Rattle.std.proofs.Common.{◌≡◌, ◌≢◌, inl, inr, ℕ, ◌+◌, ◌-◌, ◌*◌, ◌<◌, ◌≤◌, true, List, [], ◌∷◌, ◌++◌, length, Option, Some, refl, sym, ap, subst, ◌∙◌, arith}
+use Rattle.std.proofs.Common.{◌≡◌, ◌≢◌, inl, inr, ℕ, ◌+◌, ◌-◌, ◌*◌, ◌<◌, ◌≤◌, true, List, [], ◌∷◌, ◌++◌, length, Option, Some, refl, sym, ap, subst, ◌∙◌, arith, if◌then◌else◌}
 use Rattle.std.proofs.Math.Nat.{mul-sub}
 use Rattle.reg_names.specs.Names.{folded, folded_path}
 use Rattle.reg_tree.specs.Maps.{TreeMap}
@@ -7,8 +7,8 @@ use Rattle.reg_tree.specs.Operations.{tree_after}
 use Rattle.reg_tree.specs.declared.op.Op.TheVariants.{DeleteKey}
 use Rattle.hive_tree_model.specs.Lists.{IsIn, Once}
 use Rattle.hive_tree_model.specs.Keys.{offsets}
-use Rattle.hive_tree_model.proofs.Basics.{decided, in_back, once_back}
-use Rattle.hive_cells.specs.Tiles.{Tiles, IsAllocatedCell, u32_at, cell_data, cell_size}
+use Rattle.hive_tree_model.proofs.Basics.{decided, in_back, once_back, yes_if, no_if}
+use Rattle.hive_cells.specs.Tiles.{Tiles, u32_at, cell_data, cell_size}
 use Rattle.hive_cells.specs.Bins.{Cells, Shows}
 use Rattle.hive_records.specs.Readers.{Read}
 use Rattle.hive_records.specs.Numbers.{u16_at}
@@ -18,15 +18,15 @@ use Rattle.hive_records.specs.Images.{splits, BinsEncodeTree}
 use Rattle.hive_records.specs.Lists.{is_indirect, subkeys_at}
 use Rattle.hive_records.specs.KeyNodes.{trail_in}
 use Rattle.hive_records.proofs.WholesAgain.{no_subkeys}
-use Rattle.hive_edit_laws.specs.Found.{KeyFound}
+use Rattle.hive_edit_laws.specs.Found.{KeyFound, list_words}
 use Rattle.hive_edit_laws.specs.KeyCells.{class_cells}
 use Rattle.hive_edit_laws.specs.ValueEdits.{value_cells}
 use Rattle.hive_edit_laws.specs.SubkeyLists.{OneMore, subkey_cells, SubkeysChange}
-use Rattle.hive_edit_laws.proofs.CellsShown.{shown_here}
+use Rattle.hive_edit_laws.proofs.CellsShown.{shown_here, shown_some}
 use Rattle.hive_edit_laws.proofs.CellWrites.{data_long}
 use Rattle.hive_edit_laws.proofs.KeyCells.{own_kinds, own_once}
 use Rattle.hive_edit_laws.proofs.LeafBytes.{list_is_leaf, list_has_leaves}
-use Rattle.hive_edit_laws.proofs.ListSearch.{list_many}
+use Rattle.hive_edit_laws.proofs.ListSearch.{list_many, list_holds}
 use Rattle.hive_edit_laws.proofs.KeySearch.{subkeys_read}
 use Rattle.hive_edit_laws.proofs.KeyRemovals.{deletion_encodes}
 use Rattle.hive_edit_laws.proofs.EachSwaps.{same_reading}
@@ -34,6 +34,7 @@ use Rattle.hive_records.proofs.Keys.{local_subkeys}
 use Rattle.hive_savepoint.specs.Puts.{ChangesCell}
 use Rattle.hive_edit.specs.DataPlaces.{FreesCells}
 use Rattle.hive_edit.specs.OwnCells.{FreesKey}
+use Rattle.hive_edit.specs.ListCells.{lists_at}
 use Rattle.hive_edit.specs.Searches.{IsNamedAt, IsLeafAt, IsLeafOf, IsSlotOf}
 use Rattle.hive_edit.specs.SubkeyPlaces.{IsListOfKey, IsShapeOf, LeafLoses, NodeGetsList}
 use Rattle.hive_edit.specs.declared.search.RecordKind.TheVariants.{Key}
@@ -203,19 +204,25 @@ module _ (bytes : List ℕ) (root : ℕ) (tree : TreeMap) (hive : ℕ) (front : 
         (slot.leaf ∷ []) leaf_gone (λ cell i. elim i [ inl q ↦ subst (λ (z : ℕ). IsIn z r.0) (sym q) l.leaf_own | inr j ↦ absurd j ])
         (λ cell i j. elim j [ inl q ↦ l.apart (subst (λ (z : ℕ). IsIn z l.own_now) q i) | inr k ↦ absurd k ]) key_gone
 
-  -- the list goes with its last one
-  module _ (alone : list.count ≡ 1) (there : IsAllocatedCell bytes list.at) (to : ℕ) (put_bytes mid new_bytes : List ℕ) (new_tiles : Tiles new_bytes) (node_put : ChangesCell bytes put_bytes home (λ its now. NodeGetsList its now 0 to moment)) (lists_gone : FreesCells put_bytes mid (list.at ∷ [])) (key_gone : FreesKey mid new_bytes slot.subkey) where
+  -- the list goes with its last one, and the lists that it names
+  module _ (alone : list.count ≡ 1) (to : ℕ) (put_bytes mid new_bytes : List ℕ) (new_tiles : Tiles new_bytes) (node_put : ChangesCell bytes put_bytes home (λ its now. NodeGetsList its now 0 to moment)) (lists_gone : FreesCells put_bytes mid (lists_at put_bytes list.at)) (key_gone : FreesKey mid new_bytes slot.subkey) where
     some : list.count ≢ 0
     some e = absurd (omega (arith, e, alone))
 
-    list_here : f.cells list.at ≡ Some (cell_data bytes list.at)
-    list_here = shown_here bytes f.cells f.shows list.at there
+    abbrev last_list : List ℕ
+    last_list = cell_data bytes list.at
 
-    list_own : IsIn list.at r.0
-    list_own = elim (decided (is_indirect (cell_data bytes list.at))) [
-      | inl d ↦ subst (λ (z : List ℕ). IsIn list.at z) (sym (list_has_leaves f.cells list.count list.at r.0 [] (offsets f.place.below) (cell_data bytes list.at) reads some list_here d).1) (inl refl)
-      | inr d ↦ subst (λ (z : List ℕ). IsIn list.at z) (sym (list_is_leaf f.cells list.count list.at r.0 [] (offsets f.place.below) (cell_data bytes list.at) reads some list_here d).0) (inl refl)
+    list_here : f.cells list.at ≡ Some last_list
+    list_here = shown_here bytes f.cells f.shows list.at (list_holds bytes f.cells f.shows list.count list.at r.0 [] (offsets f.place.below) reads some).0
+
+    lists_own_all : r.0 ≡ lists_at bytes list.at
+    lists_own_all = elim (decided (is_indirect last_list)) [
+      | inl d ↦ (list_has_leaves f.cells list.count list.at r.0 [] (offsets f.place.below) last_list reads some list_here d).1 ∙ ap (λ (z : List ℕ). list.at ∷ z) (sym (yes_if (is_indirect last_list) (list_words last_list) [] d))
+      | inr d ↦ (list_is_leaf f.cells list.count list.at r.0 [] (offsets f.place.below) last_list reads some list_here d).0 ∙ ap (λ (z : List ℕ). list.at ∷ z) (sym (no_if (is_indirect last_list) (list_words last_list) [] d))
     ]
+
+    last_apart : list.at ≢ home
+    last_apart e = once.0 (subst (λ (z : ℕ). IsIn z r.0) e (subst (λ (z : List ℕ). IsIn list.at z) (sym lists_own_all) (inl refl)))
 
     only : offsets f.place.below ≡ slot.subkey ∷ []
     only = only_one (offsets f.place.below) slot.subkey (list_many bytes f.cells f.shows list.count list.at r.0 [] (offsets f.place.below) reads ∙ alone) (listed some)
@@ -224,5 +231,6 @@ module _ (bytes : List ℕ) (root : ℕ) (tree : TreeMap) (hive : ℕ) (front : 
     emptied =
         let s = node_put.cells f.cells f.shows in
         let d = s.3 (cell_data bytes home) home_here in
+        let same : last_list ≡ cell_data put_bytes list.at = (shown_some put_bytes s.0 s.1 list.at last_list (s.2 list.at last_apart ∙ list_here)).1 in
         taken some 0 to put_bytes mid new_bytes new_tiles s.0 s.1 d.0 d.1 d.2 [] [] (no_subkeys s.0 to) tt (λ cell i. absurd i) (λ cell no not_list. s.2 cell no) (record { first = []; rest = []; fewer_is = refl; more_is = only })
-        (list.at ∷ []) lists_gone (λ cell i. elim i [ inl e ↦ subst (λ (z : ℕ). IsIn z r.0) (sym e) list_own | inr j ↦ absurd j ]) (λ cell i j. absurd i) key_gone
+        (lists_at put_bytes list.at) lists_gone (λ cell i. subst (λ (z : List ℕ). IsIn cell z) (sym (lists_own_all ∙ ap (λ (z : List ℕ). list.at ∷ (if is_indirect z then list_words z else [])) same)) i) (λ cell i j. absurd i) key_gone

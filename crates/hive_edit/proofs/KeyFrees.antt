@@ -20,7 +20,7 @@ use Rattle.hive_edit_laws.proofs.LeafBytes.{words_cut}
 use Rattle.hive_edit_laws.proofs.ValueSearch.{value_there}
 use Rattle.hive_edit.specs.DataPlaces.{IsDataPlace, FreesCells}
 use Rattle.hive_edit.specs.SegmentCells.{data_cells_at}
-use Rattle.hive_edit.specs.OwnCells.{FreesRecord, listed_cells}
+use Rattle.hive_edit.specs.OwnCells.{FreesRecord, list_record_cells}
 use Rattle.hive_edit.specs.ValueLists.{IsListOf}
 use Rattle.hive_edit.specs.declared.node_edit.ValueList.{ValueList}
 use Rattle.hive_edit.specs.declared.value_data.DataPlace.{DataPlace}
@@ -43,7 +43,7 @@ module _ (bytes : List ℕ) (root : ℕ) (tree : TreeMap) (path : List (List ℕ
   list = value_list bytes key
 
   abbrev upto : ℕ → List ℕ
-  upto n = listed_cells bytes f.cells list n
+  upto n = list_record_cells bytes f.cells list n
 
   abbrev values : List ℕ
   values = value_cells true f.cells node
@@ -150,13 +150,13 @@ module _ (bytes : List ℕ) (root : ℕ) (tree : TreeMap) (path : List (List ℕ
 
 -- the same of a list that was read from the node
 module _ (bytes : List ℕ) (root : ℕ) (tree : TreeMap) (path : List (List ℕ)) (key : ℕ) (f : KeyFound bytes root 5 tree path key) (l : ValueList) (is : IsListOf bytes key l) where
-  pub next_freed : (index : ℕ) → index < l.count → (now new : List ℕ) → FreesCells bytes now (listed_cells bytes f.cells l.at index) → FreesRecord now new (u32_at (cell_data now l.at) (4 * index)) → FreesCells bytes new (listed_cells bytes f.cells l.at (index + 1))
-  next_freed index less now new freed step = subst (λ (z : ℕ). FreesCells bytes new (listed_cells bytes f.cells z (index + 1))) (sym is.at)
+  pub next_freed : (index : ℕ) → index < l.count → (now new : List ℕ) → FreesCells bytes now (list_record_cells bytes f.cells l.at index) → FreesRecord now new (u32_at (cell_data now l.at) (4 * index)) → FreesCells bytes new (list_record_cells bytes f.cells l.at (index + 1))
+  next_freed index less now new freed step = subst (λ (z : ℕ). FreesCells bytes new (list_record_cells bytes f.cells z (index + 1))) (sym is.at)
       (record_freed bytes root tree path key f index (subst (λ (z : ℕ). index < z) is.count less) now new
-      (subst (λ (z : ℕ). FreesCells bytes now (listed_cells bytes f.cells z index)) is.at freed)
+      (subst (λ (z : ℕ). FreesCells bytes now (list_record_cells bytes f.cells z index)) is.at freed)
       (subst (λ (z : ℕ). FreesRecord now new (u32_at (cell_data now z) (4 * index))) is.at step))
 
-  pub values_freed : l.count ≢ 0 → (mid new : List ℕ) → FreesCells bytes mid (listed_cells bytes f.cells l.at l.count) → FreesCells mid new (l.at ∷ []) → FreesCells bytes new (value_cells true f.cells (cell_data bytes key))
+  pub values_freed : l.count ≢ 0 → (mid new : List ℕ) → FreesCells bytes mid (list_record_cells bytes f.cells l.at l.count) → FreesCells mid new (l.at ∷ []) → FreesCells bytes new (value_cells true f.cells (cell_data bytes key))
   values_freed some mid new f_records f_list = list_freed bytes root tree path key f (subst (λ (z : ℕ). z ≢ 0) is.count some) mid new
-      (subst (λ (z : ℕ). FreesCells bytes mid (listed_cells bytes f.cells z (value_count bytes key))) is.at (subst (λ (z : ℕ). FreesCells bytes mid (listed_cells bytes f.cells l.at z)) is.count f_records))
+      (subst (λ (z : ℕ). FreesCells bytes mid (list_record_cells bytes f.cells z (value_count bytes key))) is.at (subst (λ (z : ℕ). FreesCells bytes mid (list_record_cells bytes f.cells l.at z)) is.count f_records))
       (subst (λ (z : ℕ). FreesCells mid new (z ∷ [])) is.at f_list)

@@ -89,7 +89,7 @@ module _ (bytes : List ℕ) (before : Cells) (shows : Shows bytes before) (count
   once_left : Once (at ∷ words_left)
   once_left = ((λ i. once_all.0 (in_words at i)), once_without (take place words) leaf (drop (suc place) words) (subst (λ (z : List ℕ). Once z) around once_all.1))
 
-  pub dropped_leaf_own : IsIn leaf own
+  dropped_leaf_own : IsIn leaf own
   dropped_leaf_own = subst (λ (z : List ℕ). IsIn leaf z) (sym own_is) (inr leaf_in)
 
   pub dropped_top_own : IsIn at own

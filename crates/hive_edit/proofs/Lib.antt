@@ -33,6 +33,7 @@ mod ValueInserts
 mod ListInserts
 mod ValueAdds
 mod KeyFrees
+mod ListFrees
 mod KeyCounts
 mod ValueSegments
 mod LoadedTrees

@@ -10,3 +10,4 @@ pub mod SegmentCells
 pub mod OwnCells
 pub mod KeyLosses
 pub mod DataInserts
+pub mod ListCells

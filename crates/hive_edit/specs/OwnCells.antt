@@ -23,8 +23,8 @@ abbrev pub FreesRecord : List ℕ → List ℕ → ℕ → Type 0
 FreesRecord old_bytes new_bytes at = (place : DataPlace) × IsDataPlace (cell_data old_bytes at) place × FreesCells old_bytes new_bytes (at ∷ data_cells_at old_bytes at place)
 
 -- the records whose offsets are the first ones of the list of values at an offset, and the cells of their data
-abbrev pub listed_cells : List ℕ → Cells → ℕ → ℕ → List ℕ
-listed_cells bytes cells list count = flat_map (λ (at : ℕ). record_cells true bytes cells at) (words_from (cell_data bytes list) 0 4 count)
+abbrev pub list_record_cells : List ℕ → Cells → ℕ → ℕ → List ℕ
+list_record_cells bytes cells list count = flat_map (λ (at : ℕ). record_cells true bytes cells at) (words_from (cell_data bytes list) 0 4 count)
 
 -- of two images' cells only those differ that belong alone to the key whose node is at an offset
 abbrev pub FreesKey : List ℕ → List ℕ → ℕ → Type 0

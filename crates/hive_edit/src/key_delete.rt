@@ -21,6 +21,7 @@ use crate::key_frees::free_key;
 use crate::key_lists::{KeyList, list_of_key, put_list};
 use crate::keys::find_key;
 use crate::leaf_edit::{leaf_shape, shorten_leaf};
+use crate::list_losses::free_lists;
 use crate::outcome::Edit;
 use crate::subkeys::{SubkeySlot, find_slot};
 use hive_savepoint::SavepointImage;
@@ -168,7 +169,7 @@ fn drop_leaf(
     }
 }
 
-// takes the last key from a key's list, and the list
+// takes the last key from a key's list, and the list with the lists that it names
 fn drop_list(
     image: &mut SavepointImage,
     home: u32,
@@ -186,14 +187,8 @@ fn drop_list(
     ensures refused { IfErr result (λ why. why ≡ NoMemory) }
 {
     image.tiles(); // for the prover
-    let Some(shape) = leaf_shape(image, list.at) else {
-        return Ok(Edit::Rebuild);
-    };
-    if shape.is_indirect || shape.count == 0 {
-        return Ok(Edit::Rebuild);
-    }
     put_list(image, home, KeyList { count: 0, at: NIL }, moment)?;
-    match free_cells(image, &[list.at])? {
+    match free_lists(image, list.at)? {
         Edit::Rebuild => Ok(Edit::Rebuild),
         Edit::Done => {
             let freed = free_key(image, slot.subkey)?;

@@ -9,7 +9,7 @@ ghost use Rattle.hive_edit_laws.specs.KeyCells.{class_cells};
 ghost use Rattle.hive_edit_laws.specs.ValueEdits.{value_cells};
 ghost use Rattle.hive_edit.specs.DataPlaces.{FreesCells};
 ghost use Rattle.hive_edit.specs.ValueLists.{IsListOf};
-ghost use Rattle.hive_edit.specs.OwnCells.{IsClassOf, FreesKey, FreesRecord, listed_cells};
+ghost use Rattle.hive_edit.specs.OwnCells.{IsClassOf, FreesKey, FreesRecord, list_record_cells};
 ghost use Rattle.hive_edit.specs.declared.outcome.Edit.TheVariants as edit;
 
 use crate::cell_frees::free_cells;
@@ -106,12 +106,12 @@ fn free_records(image: &mut SavepointImage, key: u32, list: &ValueList) -> Resul
     ensures freed { result ≡ Ok edit.Done → (root : ℕ) (tree : TreeMap) (path : List (List ℕ)) →
         (found : KeyFound image.old.bytes root MINOR_VERSION tree path key) →
         FreesCells image.old.bytes image.new.bytes
-        (listed_cells image.old.bytes found.cells list.now.at list.now.count) }
+        (list_record_cells image.old.bytes found.cells list.now.at list.now.count) }
     ensures saved { image.new.saved ≡ image.old.saved }
     ensures refused { IfErr result (λ why. why ≡ NoMemory) }
 {
     for index in 0..list.count {
-        match free_listed(image, list.at, index)? {
+        match free_record_at(image, list.at, index)? {
             Edit::Rebuild => return Ok(Edit::Rebuild),
             Edit::Done => {}
         }
@@ -120,7 +120,7 @@ fn free_records(image: &mut SavepointImage, key: u32, list: &ValueList) -> Resul
 }
 
 // frees the record whose offset is at an index of a list, and the cells of its data
-fn free_listed(image: &mut SavepointImage, list: u32, index: u32) -> Result<Edit, Refusal>
+fn free_record_at(image: &mut SavepointImage, list: u32, index: u32) -> Result<Edit, Refusal>
     ensures freed { result ≡ Ok edit.Done → FreesRecord image.old.bytes image.new.bytes
         (u32_at (cell_data image.old.bytes list) (4 * index)) }
     ensures saved { image.new.saved ≡ image.old.saved }

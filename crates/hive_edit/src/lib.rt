@@ -17,6 +17,7 @@ mod keys;
 mod leaf_edit;
 mod leaf_growth;
 mod leaf_insert;
+mod list_losses;
 mod list_room;
 mod new_keys;
 mod node_edit;

@@ -1,4 +1,4 @@
-use Rattle.std.proofs.Common.{ap, Ok, sym, arith}
+use Rattle.std.proofs.Common.{ap, Ok, arith}
 use Rattle.hive_edit.proofs.KeyDeletions.{leaf_taken}
 use Rattle.hive_edit.proofs.key_delete.drop_leaf.Goals as goal
 
