@@ -31,7 +31,7 @@ use reg_names::Name;
 // the offset that means none
 const NIL: u32 = 0xffff_ffff;
 
-/// Deletes the key at a path, which has no subkeys.
+/// Deletes the key at a path, which has no subkeys. Its cells are freed, but for its security cell.
 pub(crate) fn delete_key(
     image: &mut SavepointImage,
     root: u32,
