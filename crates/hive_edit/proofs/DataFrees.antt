@@ -27,7 +27,7 @@ pub data_placed : (bytes : List ℕ) (cells : Cells) → Shows bytes cells → (
 data_placed bytes cells shows at own lent text reads InRecord (inl h) = none_outside true bytes cells shows (cell_data bytes at) own lent text reads h
 data_placed bytes cells shows at own lent text reads InRecord (inr h) = none_empty true bytes cells shows (cell_data bytes at) own lent text reads h
 data_placed bytes cells shows at own lent text reads (InCell to room) h = one_cell true bytes cells shows (cell_data bytes at) own lent text reads h.1 h.0 (λ _. h.2) ∙ ap (λ z. z ∷ []) h.3
-data_placed bytes cells shows at own lent text reads (InSegments to) h = many_cells true bytes cells shows (cell_data bytes at) own lent text reads refl h.1 h.0
+data_placed bytes cells shows at own lent text reads (InSegments to size) h = many_cells true bytes cells shows (cell_data bytes at) own lent text reads refl h.1 h.0
 
 -- as long as the record and these cells stay
 module _ (bytes mid : List ℕ) (at : ℕ) (own : List ℕ) (same : (cell : ℕ) → IsIn cell (at ∷ own) → cell_data bytes cell ≡ cell_data mid cell) where
@@ -46,4 +46,4 @@ module _ (bytes mid : List ℕ) (at : ℕ) (own : List ℕ) (same : (cell : ℕ)
   pub places_kept : (place : DataPlace) → own ≡ data_cells_at bytes at place → own ≡ data_cells_at mid at place
   places_kept InRecord e = e
   places_kept (InCell to room) e = e
-  places_kept (InSegments to) e = e ∙ segments_kept e
+  places_kept (InSegments to size) e = e ∙ segments_kept e

@@ -1,17 +1,16 @@
 -- New data of a value, inserted in one cell or in segments.
-use Rattle.std.proofs.Common.{◌≡◌, ◌≢◌, inl, inr, ℕ, ◌+◌, ◌*◌, ◌<◌, ◌≤◌, ◌^◌, true, false, List, [], ◌∷◌, ◌++◌, length, replicate, None, Some, IsSome, is_some, refl, sym, ap, subst, ◌∙◌, arith}
+use Rattle.std.proofs.Common.{◌≡◌, inl, inr, ℕ, ◌+◌, ◌*◌, ◌<◌, ◌≤◌, ◌^◌, List, [], ◌∷◌, ◌++◌, length, replicate, is_some, refl, sym, ap, subst, ◌∙◌, arith}
 use Rattle.std.specs.List.{AllByRecursion}
 use Rattle.std.proofs.lemmas.List.{map-append, length-map}
 use Rattle.std.proofs.lemmas.List.Concat.{flat_map_single}
-use Rattle.hive_tree_model.specs.Lists.{IsIn}
 use Rattle.hive_tree_model.specs.Cells.{Grows}
-use Rattle.hive_cells.specs.Bins.{Cells, Shows}
-use Rattle.hive_records.specs.Fields.{Gives, CellHolds, u16_bytes, u32_bytes}
-use Rattle.hive_records.specs.BigDataEncodings.{Segment, big_data_bytes, segment_offsets, joined_segments, AreFull}
+use Rattle.hive_cells.specs.Bins.{Cells}
+use Rattle.hive_records.specs.Fields.{CellHolds, u16_bytes, u32_bytes}
+use Rattle.hive_records.specs.BigDataEncodings.{Segment, segment_offsets, joined_segments, AreFull}
 use Rattle.hive_records.specs.ListEncodings.{offsets_bytes, AreOffsets}
 use Rattle.hive_edit_laws.proofs.KeyPlaces.{none_there}
 use Rattle.hive_emit.specs.CellWrites.{Adds}
-use Rattle.hive_emit.specs.Values.{IsSegment, segment_own, InSegments, InCell, InBig, DataAt}
+use Rattle.hive_emit.specs.Values.{IsSegment, segment_own, InSegments, DataAt}
 use Rattle.hive_emit.proofs.Datas.{AllFull, no_segments}
 use Rattle.hive_emit.proofs.Makings.{grows_on, holds_grown, adds_ahead, all_push, all_as, flat_push, lists_more}
 use Rattle.hive_savepoint.specs.Puts.{AddsCell}

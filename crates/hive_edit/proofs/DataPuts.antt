@@ -1,15 +1,13 @@
 -- New data of a value, put into cells.
-use Rattle.std.proofs.Common.{◌≡◌, inl, inr, ℕ, ◌<◌, ◌≤◌, true, false, List, [], ◌∷◌, ◌++◌, length, drop, replicate, None, Some, refl, ap, ◌∙◌, arith}
-use Rattle.hive_tree_model.specs.Lists.{IsIn, Once}
+use Rattle.std.proofs.Common.{◌≡◌, inl, ℕ, ◌<◌, ◌≤◌, true, false, List, [], ◌∷◌, ◌++◌, length, drop, Some, refl, ap, ◌∙◌, arith}
+use Rattle.hive_tree_model.specs.Lists.{Once}
 use Rattle.hive_cells.specs.Tiles.{Tiles, cell_data}
 use Rattle.hive_cells.specs.Bins.{Cells}
 use Rattle.hive_edit_laws.proofs.CellWrites.{data_long, fields_over, small_over, begins_over}
 use Rattle.hive_edit_laws.proofs.CellsShown.{shown_here}
 use Rattle.hive_edit_laws.proofs.ValueRecords.{in_record, in_cell}
-use Rattle.hive_savepoint.specs.Puts.{HasData, Overlays, ChangesCell, AddsCell}
-use Rattle.hive_edit.specs.DataPlaces.{IsPlaceThere, IsInRecord, IsAtOffset, ReadsData, PutsData}
-use Rattle.hive_edit.specs.declared.value_data.DataPlace.{DataPlace}
-use Rattle.hive_edit.specs.declared.value_data.DataPlace.TheVariants.{InRecord, InCell, InSegments}
+use Rattle.hive_savepoint.specs.Puts.{HasData, Overlays, ChangesCell}
+use Rattle.hive_edit.specs.DataPlaces.{IsInRecord, IsAtOffset, ReadsData, PutsData}
 use Rattle.hive_edit.specs.declared.value_data.NewData.{NewData}
 use Rattle.hive_edit.proofs.Words.{same_word}
 
@@ -74,9 +72,3 @@ put_here old_bytes new_bytes at text new tiles has change is place some few befo
   where
     case_of : (b : _) → b ≡ true → b ≡ false → ⊥
     case_of b e f = grind (arith, e, f)
-
--- data's one cell is there as long as cells keep their sizes
-pub place_stays : (old new : List ℕ) (place : DataPlace) → ((cell len : ℕ) → HasData old cell len → HasData new cell len) → IsPlaceThere old place → IsPlaceThere new place
-place_stays old new InRecord sizes h = h
-place_stays old new (InCell at room) sizes h = sizes at room h
-place_stays old new (InSegments at) sizes h = h

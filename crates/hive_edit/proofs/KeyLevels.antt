@@ -19,7 +19,7 @@ use Rattle.reg_tree.specs.Operations.{touched, depth_there, tree_after}
 use Rattle.reg_tree.specs.declared.op.Op.TheVariants.{CreateKey}
 use Rattle.reg_tree.proofs.Changes.{created_is, one_more, longer_path}
 use Rattle.reg_tree.proofs.Depths.{levels_missing, beginning_there}
-use Rattle.reg_tree.proofs.Paths.{told, eq_is, eq_self, split_begins, begins-append, longer_apart}
+use Rattle.reg_tree.proofs.Paths.{told, eq_is, eq_self, begins-append, longer_apart}
 use Rattle.reg_tree.proofs.TreesAfter.{row-tree_after}
 
 -- rows at paths

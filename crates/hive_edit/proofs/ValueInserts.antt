@@ -1,5 +1,5 @@
 -- A new value's record and data, in new cells.
-use Rattle.std.proofs.Common.{◌≡◌, inl, inr, ℕ, ◌<◌, ◌≤◌, ◌*◌, ◌^◌, Bool, true, false, List, [], ◌∷◌, ◌++◌, length, replicate, None, Some, IsSome, is_some, refl, sym, ap, ◌∙◌, arith}
+use Rattle.std.proofs.Common.{◌≡◌, inl, inr, ℕ, ◌<◌, ◌≤◌, ◌*◌, ◌^◌, Bool, true, false, List, [], ◌∷◌, length, replicate, None, IsSome, is_some, refl, ap, ◌∙◌, arith}
 use Rattle.hive_cells.specs.Bins.{Cells}
 use Rattle.hive_records.specs.ValueEncodings.{ValueIsEncodable, small_value}
 use Rattle.hive_records.specs.NameEncodings.{is_latin, wide, spelled, name_bytes}

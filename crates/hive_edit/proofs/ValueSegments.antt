@@ -34,23 +34,23 @@ one_more old now new list count index word f there is less apart drops before sh
 pub only_frees : (old new cells : List ℕ) (kept : ℕ) → FreesButKeeps old new cells kept → FreesCells old new cells
 only_frees old new cells kept f before shows = let s = f before shows in (s.0, s.1, s.2)
 
-pub all_freed : (old mid new : List ℕ) (at db list : ℕ) (words : List ℕ) → FreesCells old mid words → FreesCells mid new (at ∷ db ∷ list ∷ []) → FreesCells old new (at ∷ db ∷ list ∷ words)
-all_freed old mid new at db list words f g before shows =
-    let s = f before shows in
-    let t = g s.0 s.1 in (t.0, t.1, λ cell no. t.2 cell (λ i. no (front cell i)) ∙ s.2 cell (λ i. no (inr (inr (inr i)))))
+pub big_freed : (old mid new : List ℕ) (db size list : ℕ) → list ≡ u32_at (cell_data old db) 4 → FreesCells old mid (segment_words old list (segments_of size)) → FreesCells mid new (db ∷ list ∷ []) → FreesCells old new (segment_cells old db size)
+big_freed old mid new db size list list_is f g = subst (λ (z : List ℕ). FreesCells old new z) (ap (λ (l : ℕ). db ∷ l ∷ segment_words old l (segments_of size)) list_is) all
   where
-    front : (cell : ℕ) → IsIn cell (at ∷ db ∷ list ∷ []) → IsIn cell (at ∷ db ∷ list ∷ words)
+    front : (cell : ℕ) → IsIn cell (db ∷ list ∷ []) → IsIn cell (db ∷ list ∷ segment_words old list (segments_of size))
     front cell (inl e) = inl e
     front cell (inr (inl e)) = inr (inl e)
-    front cell (inr (inr (inl e))) = inr (inr (inl e))
-    front cell (inr (inr (inr e))) = absurd e
+    front cell (inr (inr e)) = absurd e
 
-pub big_freed : (old mid new : List ℕ) (at size db list : ℕ) → size ≡ u32_at (cell_data old at) 4 → db ≡ u32_at (cell_data old at) 8 → list ≡ u32_at (cell_data old db) 4 → FreesCells old mid (segment_words old list (segments_of size)) → FreesCells mid new (at ∷ db ∷ list ∷ []) →
-    FreesCells old new (at ∷ record_segments old at)
-big_freed old mid new at size db list size_is db_is list_is f g = subst (λ (z : List ℕ). FreesCells old new (at ∷ z)) same (all_freed old mid new at db list (segment_words old list (segments_of size)) f g)
+    all : FreesCells old new (db ∷ list ∷ segment_words old list (segments_of size))
+    all before shows =
+        let s = f before shows in
+        let t = g s.0 s.1 in (t.0, t.1, λ cell no. t.2 cell (λ i. no (front cell i)) ∙ s.2 cell (λ i. no (inr (inr i))))
+
+pub record_freed : (old mid new : List ℕ) (at size db : ℕ) → size ≡ u32_at (cell_data old at) 4 → db ≡ u32_at (cell_data old at) 8 → FreesCells old mid (segment_cells old db size) → FreesCells mid new (at ∷ []) → FreesCells old new (at ∷ record_segments old at)
+record_freed old mid new at size db size_is db_is f g = subst (λ (z : List ℕ). FreesCells old new (at ∷ z)) (λ i. segment_cells old (db_is i) (size_is i)) all
   where
-    first : (db ∷ list ∷ segment_words old list (segments_of size)) ≡ segment_cells old db size
-    first = ap (λ (l : ℕ). db ∷ l ∷ segment_words old l (segments_of size)) list_is
-
-    same : (db ∷ list ∷ segment_words old list (segments_of size)) ≡ record_segments old at
-    same = first ∙ (λ i. segment_cells old (db_is i) (size_is i))
+    all : FreesCells old new (at ∷ segment_cells old db size)
+    all before shows =
+        let s = f before shows in
+        let t = g s.0 s.1 in (t.0, t.1, λ cell no. t.2 cell (λ i. elim i [ inl e ↦ no (inl e) | inr e ↦ e ]) ∙ s.2 cell (λ i. no (inr i)))

@@ -10,28 +10,30 @@ use Rattle.hive_edit.specs.declared.value_data.DataPlace.TheVariants.{InRecord, 
 use Rattle.hive_edit.specs.declared.value_data.NewData.{NewData}
 use Rattle.hive_edit_laws.specs.RecordEdits.{NodeTimeChanges}
 use Rattle.hive_savepoint.specs.Puts.{HasData, Overlays}
+use Rattle.hive_edit.specs.SegmentCells.{segment_cells}
 
--- A value's record says where its data are. They are in the record, or nowhere; in one cell; or in segments, by the db
--- at an offset.
+-- A value's record says where its data are. They are in the record, or nowhere; in one cell; or in segments, of a size,
+-- by the db at an offset.
 abbrev pub IsDataPlace : List ℕ → DataPlace → Type 0
 IsDataPlace fields InRecord = (2 ^ 31 ≤ u32_at fields 4) ⊎ (u32_at fields 4 ≡ 0)
 IsDataPlace fields (InCell at room) = (u32_at fields 4 < 2 ^ 31) × (0 < u32_at fields 4) × (u32_at fields 4 ≤ 16_344) × (u32_at fields 8 ≡ at)
-IsDataPlace fields (InSegments at) = (u32_at fields 4 < 2 ^ 31) × (16_344 < u32_at fields 4) × (u32_at fields 8 ≡ at)
+IsDataPlace fields (InSegments at size) = (u32_at fields 4 < 2 ^ 31) × (16_344 < u32_at fields 4) × (u32_at fields 8 ≡ at) × (u32_at fields 4 ≡ size)
 
 -- the one cell of data is there, and has room for so many bytes
 abbrev pub IsPlaceThere : List ℕ → DataPlace → Type 0
 IsPlaceThere bytes (InCell at room) = HasData bytes at room
 IsPlaceThere bytes _ = Unit {0}
 
--- the cells of data that are in the record or in one cell
-abbrev pub place_cells : DataPlace → List ℕ
-place_cells (InCell at room) = at ∷ []
-place_cells _ = []
+-- the cells of data by their place
+abbrev pub place_cells : List ℕ → DataPlace → List ℕ
+place_cells bytes InRecord = []
+place_cells bytes (InCell at room) = at ∷ []
+place_cells bytes (InSegments db size) = segment_cells bytes db size
 
 -- the cells of old data that are freed: none if the new data are in them
-abbrev pub freed_cells : DataPlace → Bool → List ℕ
-freed_cells old true = []
-freed_cells old false = place_cells old
+abbrev pub freed_cells : List ℕ → DataPlace → Bool → List ℕ
+freed_cells bytes old true = []
+freed_cells bytes old false = place_cells bytes old
 
 -- what a record says of data that are in it
 pub record IsInRecord (text : List ℕ) (new : NewData) : Type 0 where

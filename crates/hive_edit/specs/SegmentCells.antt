@@ -26,6 +26,6 @@ FreesButKeeps old_bytes new_bytes cells kept = (before : Cells) → Shows old_by
 
 -- the cells of the data of the value whose record is at an offset, by the place of the data
 abbrev pub data_cells_at : List ℕ → ℕ → DataPlace → List ℕ
-data_cells_at bytes at (InSegments db) = record_segments bytes at
+data_cells_at bytes at (InSegments db size) = record_segments bytes at
 data_cells_at bytes at InRecord = []
 data_cells_at bytes at (InCell its room) = its ∷ []

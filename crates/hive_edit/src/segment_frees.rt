@@ -4,7 +4,7 @@ ghost use Rattle.refusals.specs.declared.refusal.Refusal.TheVariants.{NoMemory};
 ghost use Rattle.hive_cells.specs.Tiles.{IsAllocatedCell, u32_at, cell_data};
 ghost use Rattle.hive_records.specs.Values.{segments_of};
 ghost use Rattle.hive_edit.specs.DataPlaces.{FreesCells};
-ghost use Rattle.hive_edit.specs.SegmentCells.{segment_words, record_segments};
+ghost use Rattle.hive_edit.specs.SegmentCells.{segment_words, segment_cells, record_segments};
 ghost use Rattle.hive_edit.specs.declared.outcome.Edit.TheVariants as edit;
 
 use crate::cell_frees::{free_cells, is_cell};
@@ -35,12 +35,25 @@ pub(crate) fn free_big_record(image: &mut SavepointImage, at: u32) -> Result<Edi
     let Some(db) = word_at(image, at, DB) else {
         return Ok(Edit::Rebuild);
     };
+    match free_big_data(image, db, size)? {
+        Edit::Rebuild => Ok(Edit::Rebuild),
+        Edit::Done => free_cells(image, &[at]),
+    }
+}
+
+/// Frees data of a size in segments: a db, its list, and the segments.
+pub(crate) fn free_big_data(image: &mut SavepointImage, db: u32, size: u32) -> Result<Edit, Refusal>
+    ensures freed { result ≡ Ok edit.Done → FreesCells image.old.bytes image.new.bytes
+        (segment_cells image.old.bytes db size) }
+    ensures saved { image.new.saved ≡ image.old.saved }
+    ensures refused { IfErr result (λ why. why ≡ NoMemory) }
+{
     let Some(list) = word_at(image, db, LIST) else {
         return Ok(Edit::Rebuild);
     };
     match free_segments(image, list, size)? {
         Edit::Rebuild => Ok(Edit::Rebuild),
-        Edit::Done => free_cells(image, &[at, db, list]),
+        Edit::Done => free_cells(image, &[db, list]),
     }
 }
 

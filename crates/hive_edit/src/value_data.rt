@@ -43,8 +43,8 @@ pub(crate) enum DataPlace {
     InRecord,
     /// In one cell, of which the data have so many bytes.
     InCell(u32, usize),
-    /// In segments, by a db.
-    InSegments(u32),
+    /// In segments, by a db. The data have so many bytes.
+    InSegments(u32, u32),
 }
 
 /// What a value's record is to say of new data.
@@ -75,7 +75,7 @@ pub(crate) fn data_place(image: &SavepointImage, at: u32) -> Option<DataPlace>
         return Some(DataPlace::InRecord);
     }
     if SEGMENT_BYTES < size as usize {
-        return Some(DataPlace::InSegments(value.offset));
+        return Some(DataPlace::InSegments(value.offset, size));
     }
     match image.cell(value.offset, &mut looks) {
         Ok(cell) => Some(DataPlace::InCell(value.offset, cell.len())),
@@ -93,7 +93,7 @@ pub(crate) fn put_data(
 ) -> Result<Option<NewData>, Refusal>
     requires there { IsPlaceThere image.old.bytes old.now }
     ensures put { IfOk result (λ made. IfSome made (PutsData image.old.bytes image.new.bytes
-        (place_cells old.now) data.now)) }
+        (place_cells image.old.bytes old.now) data.now)) }
     ensures sizes { OnOk result ((cell len : ℕ) → HasData image.old.bytes cell len →
         HasData image.new.bytes cell len) }
     ensures saved { image.new.saved ≡ image.old.saved }
@@ -105,6 +105,7 @@ pub(crate) fn put_data(
     if MOST_VALUE_BYTES < data.len() {
         return Ok(None);
     }
+    // longer data are in segments, whatever room the old cell has
     if let DataPlace::InCell(at, room) = *old
         && data.len() <= room
         && data.len() <= SEGMENT_BYTES

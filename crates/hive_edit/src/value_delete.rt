@@ -159,7 +159,7 @@ pub(crate) fn free_record(
 {
     match *data {
         DataPlace::InCell(its, _) => free_cells(image, &[at, its]),
-        DataPlace::InSegments(_) => free_big_record(image, at),
+        DataPlace::InSegments(..) => free_big_record(image, at),
         DataPlace::InRecord => free_cells(image, &[at]),
     }
 }

@@ -14,9 +14,11 @@ ghost use Rattle.hive_edit_laws.specs.RecordEdits.{NodeTimeChanges};
 ghost use Rattle.hive_edit.specs.DataPlaces.{IsPlaceThere, IsRecordText, RecordIsPut, PutsFields, FreesCells, freed_cells};
 ghost use Rattle.hive_edit.specs.declared.outcome.Edit.TheVariants as edit;
 
+use crate::cell_frees::free_cells;
 use crate::keys::find_key;
 use crate::numbers::{u32_bytes, u64_bytes};
 use crate::outcome::Edit;
+use crate::segment_frees::free_big_data;
 use crate::value_data::{DataPlace, NewData, NewValue, data_place, put_data};
 use crate::values::{ValuePlace, find_value};
 use hive_cells::Looks;
@@ -83,16 +85,13 @@ fn set_at(
     let Some(old) = data_place(image, place.value) else {
         return Ok(Edit::Rebuild);
     };
-    if let DataPlace::InSegments(_) = old {
-        return Ok(Edit::Rebuild);
-    }
     let Some(new) = put_data(alloc, image, &old, data)? else {
         return Ok(Edit::Rebuild);
     };
     put_fields(image, place, &new, kind, data.len(), moment)?;
-    free_data(image, &old, &new)?;
+    let freed = free_data(image, &old, &new)?;
     image.tiles(); // for the prover
-    Ok(Edit::Done)
+    Ok(freed)
 }
 
 // writes what the value's record says, and the key's time
@@ -122,17 +121,20 @@ fn put_fields(
     )
 }
 
-// frees the cell of old data that are in one, unless it is the cell of the new
-fn free_data(image: &mut SavepointImage, old: &DataPlace, new: &NewData) -> Result<(), Refusal>
-    requires { IsPlaceThere image.old.bytes old.now }
-    ensures freed { OnOk result (FreesCells image.old.bytes image.new.bytes (freed_cells old.now
-        new.now.in_place)) }
+// frees the cells of old data, unless the new data are in them
+fn free_data(image: &mut SavepointImage, old: &DataPlace, new: &NewData) -> Result<Edit, Refusal>
+    ensures freed { result ≡ Ok edit.Done → FreesCells image.old.bytes image.new.bytes
+        (freed_cells image.old.bytes old.now new.now.in_place) }
     ensures saved { image.new.saved ≡ image.old.saved }
     ensures refused { IfErr result (λ why. why ≡ NoMemory) }
 {
-    match old {
-        DataPlace::InCell(at, _) if !new.in_place => image.free(*at),
-        _ => Ok(()),
+    if new.in_place {
+        return Ok(Edit::Done);
+    }
+    match *old {
+        DataPlace::InRecord => Ok(Edit::Done),
+        DataPlace::InCell(at, _) => free_cells(image, &[at]),
+        DataPlace::InSegments(db, size) => free_big_data(image, db, size),
     }
 }
 

@@ -1,4 +1,4 @@
-use Rattle.std.proofs.Common.{◌≡◌, ℕ, List, ◌<◌, ◌+◌, ◌*◌, ◌++◌, ◌^◌, length, ap, subst, arith}
+use Rattle.std.proofs.Common.{◌≡◌, ℕ, List, ◌<◌, ◌+◌, ◌*◌, ◌++◌, ◌^◌, length, subst, arith}
 use Rattle.hive_records.specs.Fields.{u16_bytes, u32_bytes}
 use Rattle.hive_records.specs.ListEncodings.{offsets_bytes}
 use Rattle.hive_records.specs.BigDataEncodings.{AreFull}

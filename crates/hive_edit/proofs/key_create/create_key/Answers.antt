@@ -1,4 +1,4 @@
-use Rattle.std.proofs.Common.{◌≡◌, ◌+◌, ◌≤◌, ◌<◌, ℕ, [], inl, refl, sym, ◌∙◌, ap, Ok, arith}
+use Rattle.std.proofs.Common.{[], inl, refl, ◌∙◌, ap, Ok, arith}
 use Rattle.std.proofs.lemmas.List.{get_or_default}
 use Rattle.base_block.specs.declared.block.TheConstants.{MINOR_VERSION}
 use Rattle.reg_names.specs.Names.{folded_path}

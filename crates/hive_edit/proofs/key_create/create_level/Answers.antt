@@ -1,4 +1,4 @@
-use Rattle.std.proofs.Common.{◌≡◌, ℕ, List, ◌++◌, ◌∷◌, [], sym, ap, subst, ◌∙◌}
+use Rattle.std.proofs.Common.{ℕ, List, ◌++◌, ◌∷◌, [], ap, subst, ◌∙◌}
 use Rattle.reg_names.specs.Names.{folded, folded_path}
 use Rattle.base_block.specs.declared.block.TheConstants.{MINOR_VERSION}
 use Rattle.hive_records.specs.Images.{BinsEncodeTree}

@@ -1,4 +1,4 @@
-use Rattle.std.proofs.Common.{List, ℕ}
+use Rattle.std.proofs.Common.{ℕ}
 use Rattle.hive_emit.specs.Values.{DataAt}
 use Rattle.hive_edit.specs.DataInserts.{Inserts}
 use Rattle.hive_edit.proofs.CellChanges.{some_says}
