@@ -1,5 +1,5 @@
 -- A key's list of lists after one of its leaves, or a copy of it, got one more.
-use Rattle.std.proofs.Common.{◌≡◌, ◌≢◌, ◌⊎◌, inl, inr, ℕ, zero, suc, ◌+◌, ◌*◌, ◌<◌, ◌≤◌, true, false, List, [], ◌∷◌, ◌++◌, length, take, drop, slice_index, slice_get, is_some, None, Some, IsSome, refl, sym, ap, subst, ◌∙◌, arith}
+use Rattle.std.proofs.Common.{◌≡◌, ◌≢◌, ◌⊎◌, inl, inr, ℕ, zero, suc, ◌+◌, ◌*◌, ◌<◌, ◌≤◌, true, List, [], ◌∷◌, length, slice_get, is_some, None, Some, IsSome, refl, sym, ap, subst, ◌∙◌, arith}
 use Rattle.hive_tree_model.specs.Lists.{IsIn, Once}
 use Rattle.hive_tree_model.proofs.Basics.{some_none}
 use Rattle.hive_cells.specs.Tiles.{Tiles, u32_at, cell_data, cell_size}
@@ -7,9 +7,8 @@ use Rattle.hive_cells.specs.Bins.{Cells, Shows}
 use Rattle.hive_records.specs.Numbers.{u16_at, words_from}
 use Rattle.hive_records.specs.Fields.{Gives}
 use Rattle.hive_records.specs.Lists.{is_indirect, leaf_at, subkeys_at}
-use Rattle.hive_records.specs.Heads.{stride_of}
 use Rattle.hive_edit_laws.specs.Shifts.{with_at, ShiftsIn}
-use Rattle.hive_edit_laws.specs.Found.{LeafHas, LeavesHave, IsListOfLists, list_words}
+use Rattle.hive_edit_laws.specs.Found.{LeafHas, IsListOfLists, list_words}
 use Rattle.hive_edit_laws.proofs.CellsShown.{shown_here}
 use Rattle.hive_edit_laws.proofs.CellWrites.{data_long}
 use Rattle.hive_edit_laws.proofs.KeyPlaces.{none_there}

@@ -1,10 +1,8 @@
 -- A key's list of subkeys after its one leaf got one more, or after it got its first.
-use Rattle.std.proofs.Common.{◌≡◌, ◌≢◌, ◌⊎◌, inl, inr, ℕ, suc, ◌+◌, ◌*◌, ◌<◌, ◌≤◌, false, List, [], ◌∷◌, ◌++◌, length, replicate, slice_index, is_some, None, Some, IsSome, refl, sym, ap, subst, ◌∙◌, arith, append-nil}
-use Rattle.std.proofs.Math.Nat.{mul-add}
-use Rattle.std.proofs.lemmas.List.{get_or_append_left}
+use Rattle.std.proofs.Common.{◌≡◌, ◌≢◌, ◌⊎◌, inl, inr, ℕ, suc, ◌+◌, ◌*◌, ◌≤◌, false, List, [], ◌∷◌, ◌++◌, length, replicate, is_some, None, Some, IsSome, refl, sym, ap, subst, ◌∙◌, arith, append-nil}
 use Rattle.hive_tree_model.specs.Lists.{IsIn, Once}
 use Rattle.hive_cells.specs.Tiles.{Tiles, cell_data, cell_size}
-use Rattle.hive_cells.specs.Bins.{Cells, Shows}
+use Rattle.hive_cells.specs.Bins.{Cells}
 use Rattle.hive_records.specs.Numbers.{u16_at}
 use Rattle.hive_records.specs.Fields.{Gives, CellHolds, u16_bytes}
 use Rattle.hive_records.specs.ListEncodings.{hashed_leaf}
@@ -17,10 +15,9 @@ use Rattle.hive_edit_laws.proofs.CellsShown.{shown_some, shown_here}
 use Rattle.hive_edit_laws.proofs.CellWrites.{data_long}
 use Rattle.hive_edit_laws.proofs.KeyPlaces.{none_there}
 use Rattle.hive_edit_laws.proofs.LeafBytes.{leaf_says, leaf_more, one_leaf, list_is_leaf, list_cells_none}
-use Rattle.hive_edit_laws.proofs.SameBytes.{half_same}
 use Rattle.hive_edit_laws.proofs.ListChanges.{list_with}
 use Rattle.hive_edit_laws.proofs.ListParts.{more_with}
-use Rattle.hive_savepoint.specs.Puts.{HasData, ChangesCell, AddsCell}
+use Rattle.hive_savepoint.specs.Puts.{ChangesCell, AddsCell}
 use Rattle.hive_edit.specs.SubkeyPlaces.{IsShapeOf, LeafGains, ListGrown, GrowsList}
 use Rattle.hive_edit.specs.LeafChanges.{GetsElement, PutsElement, FreesMoved}
 use Rattle.hive_edit.specs.declared.leaf_insert.NewElement.{NewElement}

@@ -1,10 +1,9 @@
 -- A list of subkeys, or a copy of it, after it got an element; and cells that keep their data beside.
-use Rattle.std.proofs.Common.{◌≡◌, ◌≢◌, ◌⊎◌, inl, inr, ℕ, suc, ◌+◌, ◌*◌, ◌<◌, ◌≤◌, List, ◌++◌, length, replicate, slice_index, is_some, None, Some, IsSome, refl, sym, ap, subst, ◌∙◌, arith}
+use Rattle.std.proofs.Common.{◌≡◌, ◌≢◌, inl, inr, ℕ, suc, ◌+◌, ◌*◌, ◌<◌, ◌≤◌, List, ◌++◌, length, replicate, slice_index, is_some, None, Some, IsSome, refl, sym, ap, subst, ◌∙◌, arith}
 use Rattle.std.proofs.Math.Nat.{mul-add}
 use Rattle.std.proofs.lemmas.List.{get_or_append_left}
 use Rattle.hive_cells.specs.Tiles.{Tiles, IsAllocatedCell, cell_data, cell_size}
 use Rattle.hive_cells.specs.Bins.{Cells, Shows}
-use Rattle.hive_records.specs.Numbers.{u16_at}
 use Rattle.hive_records.specs.Heads.{list_fault}
 use Rattle.hive_edit_laws.specs.Found.{HoldsList}
 use Rattle.hive_edit_laws.specs.Shifts.{ShiftsIn}

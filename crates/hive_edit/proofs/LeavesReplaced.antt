@@ -1,6 +1,5 @@
 -- A key's list of lists after one of its leaves was replaced by one or two others.
-use Rattle.std.proofs.Common.{◌≡◌, ◌≢◌, ◌⊎◌, inl, inr, ℕ, zero, suc, ◌+◌, ◌*◌, ◌<◌, ◌≤◌, true, List, [], ◌∷◌, ◌++◌, length, take, drop, flat_map, slice_index, slice_get, is_some, Option, None, Some, IsSome, refl, sym, ap, subst, ◌∙◌, arith, append_assoc}
-use Rattle.std.proofs.Math.Nat.{mul-suc}
+use Rattle.std.proofs.Common.{◌≡◌, ◌≢◌, ◌⊎◌, inl, inr, ℕ, zero, suc, ◌+◌, ◌*◌, ◌<◌, ◌≤◌, true, List, [], ◌∷◌, ◌++◌, length, take, drop, flat_map, slice_index, slice_get, is_some, None, Some, IsSome, refl, sym, ap, subst, ◌∙◌, arith, append_assoc}
 use Rattle.hive_tree_model.specs.Lists.{IsIn, Once}
 use Rattle.hive_tree_model.proofs.Basics.{some_same, some_none, in_front, in_back, in_either, once_front, once_back, once_apart, once_joined}
 use Rattle.hive_cells.specs.Tiles.{u32_at}
@@ -200,6 +199,7 @@ module _ (before : Cells) (count at : ℕ) (own lent its old : List ℕ) (h : Gi
         let e : flat lists_now ≡ its = same swapped.0 swapped.1 ∙ sym its_are in
         record {
           own_now = own_now;
+          lent_now = [];
           reads = subst (λ (z : List ℕ). Gives (subkeys_at count made) after own_now [] z) e (reads count some (ap length e ∙ many));
           once = once_now;
           takes = takes;

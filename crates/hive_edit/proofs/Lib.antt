@@ -24,6 +24,9 @@ mod LevelSteps
 mod LeafGrowths
 mod LeavesReplaced
 mod IndirectGrowths
+mod LeafHalves
+mod LeafSplits
+mod IndirectSplits
 mod ValueFrees
 mod ValueNodes
 mod ListShifts

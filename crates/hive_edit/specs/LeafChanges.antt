@@ -1,5 +1,5 @@
 -- How lists of subkeys change cell by cell, while one of them gets an element or is split.
-use Rattle.std.specs.Prelude.{◌≡◌, ◌≢◌, ◌⊎◌, ℕ, suc, ◌+◌, ◌-◌, ◌*◌, ◌≤◌, ◌<◌, List, [], ◌∷◌, ◌++◌, length, take, drop, slice_get, slice_index, Some, None, IsSome}
+use Rattle.std.specs.Prelude.{◌≡◌, ◌≢◌, ◌⊎◌, ℕ, suc, ◌+◌, ◌-◌, ◌*◌, ◌≤◌, ◌<◌, List, ◌∷◌, ◌++◌, length, take, drop, slice_get, slice_index, Some, None, IsSome}
 use Rattle.hive_tree_model.specs.Lists.{IsIn, Once}
 use Rattle.hive_tree_model.specs.Cells.{SameBut}
 use Rattle.hive_cells.specs.Tiles.{cell_data}
@@ -71,7 +71,8 @@ HalvesLeaf old_bytes new_bytes leaf second = (before : Cells) → Shows old_byte
 -- A key's list has the same subkeys, in cells that were the list's or none. All other cells stay.
 pub record ListKept (before after : Cells) (count made : ℕ) (own its : List ℕ) : Type 0 where
   pub own_now : List ℕ
-  pub reads : Gives (subkeys_at count made) after own_now [] its
+  pub lent_now : List ℕ
+  pub reads : Gives (subkeys_at count made) after own_now lent_now its
   pub once : Once own_now
   pub takes : (cell : ℕ) → IsIn cell own_now → IsIn cell own ⊎ (before cell ≡ None)
   pub stays : (cell : ℕ) → IsSome (before cell) → (IsIn cell own → ⊥) → after cell ≡ before cell

@@ -7,8 +7,8 @@ ghost use Rattle.hive_edit.specs.SubkeyPlaces.{GrowsList, IsShapeOf};
 ghost use Rattle.hive_edit.specs.LeafChanges.{KeepsSizes, SwingsLeaf};
 
 use crate::key_lists::KeyList;
-use crate::leaf_edit::{ELEMENTS, LeafShape, leaf_shape};
-use crate::leaf_growth::{MOST_ELEMENTS, new_element};
+use crate::leaf_edit::{ELEMENTS, LeafShape, MOST_ELEMENTS, leaf_shape};
+use crate::leaf_growth::new_element;
 use crate::leaf_insert::{NewElement, free_moved, insert_element};
 use crate::numbers::u32_bytes;
 use crate::offsets::OFFSET;

@@ -16,6 +16,11 @@ pub(crate) const COUNT: usize = 2;
 /// Where a list has its elements.
 pub(crate) const ELEMENTS: usize = 4;
 
+/// The most elements of a leaf.
+pub(crate) const MOST_ELEMENTS: u16 = 500;
+
+const _: () = prove!(MOST_ELEMENTS == 500);
+
 // the most bytes of an element
 const WIDEST: usize = 8;
 

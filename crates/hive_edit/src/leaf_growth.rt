@@ -8,8 +8,9 @@ ghost use Rattle.hive_edit.specs.LeafChanges.{KeepsSizes};
 
 use crate::indirect_growth::grow_below;
 use crate::key_lists::KeyList;
-use crate::leaf_edit::{ELEMENTS, LeafShape, leaf_shape, lengthen_leaf};
+use crate::leaf_edit::{ELEMENTS, LeafShape, MOST_ELEMENTS, leaf_shape, lengthen_leaf};
 use crate::leaf_insert::{NewElement, free_moved, insert_element, spare_elements};
+use crate::leaf_split::split_full_leaf;
 use crate::subkeys::place_in_leaf;
 use hive_cells::Looks;
 use hive_records::{name_hash, put_hashed_head, u32_at};
@@ -17,16 +18,12 @@ use hive_savepoint::SavepointImage;
 use refusals::Refusal;
 use std::alloc::Global;
 
-/// The most elements of a leaf.
-pub(crate) const MOST_ELEMENTS: u16 = 500;
-
-const _: () = prove!(MOST_ELEMENTS == 500);
-
 // the bytes of an element of a new leaf
 const ELEMENT: usize = 8;
 
-/// Puts a subkey of a name into a key's list, or into a leaf of its list of lists. Of a leaf that moves for want of room
-/// the old cell is freed. Answers the list's offset. None if the leaf is full, or the image has no room.
+/// Puts a subkey of a name into a key's list, or into a leaf of its list of lists. A full leaf is split first. Of a list
+/// that moves for want of room the old cell is freed. Answers the list's offset. None if the leaf has more elements than
+/// a leaf may have, the list of lists can't have one leaf more, or the image has no room.
 pub(crate) fn grow_list(
     alloc: Global,
     image: &mut SavepointImage,
@@ -43,6 +40,27 @@ pub(crate) fn grow_list(
     if list.count == 0 {
         return first_leaf(alloc, image, list, subkey, name);
     }
+    let Some(at) = split_full_leaf(alloc, image, list, name)? else {
+        return Ok(None);
+    };
+    let count = list.count;
+    put_subkey(alloc, image, KeyList { count, at }, subkey, name)
+}
+
+// puts a subkey into a leaf of a key's list, which isn't full
+fn put_subkey(
+    alloc: Global,
+    image: &mut SavepointImage,
+    list: KeyList,
+    subkey: u32,
+    name: &[u16],
+) -> Result<Option<u32>, Refusal>
+    requires some { list.count ≢ 0 }
+    ensures grown { IfOk result (λ made. IfSome made (GrowsList image.old.bytes image.new.bytes list subkey)) }
+    ensures sizes { OnOk result (KeepsSizes image.old.bytes image.new.bytes) }
+    ensures saved { image.new.saved ≡ image.old.saved }
+    ensures refused { IfErr result (λ why. why ≡ NoMemory) }
+{
     let Some(shape) = leaf_shape(image, list.at) else {
         return Ok(None);
     };

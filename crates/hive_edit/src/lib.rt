@@ -18,6 +18,7 @@ mod leaf_edit;
 mod leaf_growth;
 mod leaf_insert;
 mod list_losses;
+mod leaf_split;
 mod list_room;
 mod new_keys;
 mod node_edit;

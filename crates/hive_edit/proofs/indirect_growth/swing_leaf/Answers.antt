@@ -1,4 +1,4 @@
-use Rattle.std.proofs.Common.{List, ℕ, ◌+◌, ◌*◌}
+use Rattle.std.proofs.Common.{◌+◌, ◌*◌}
 use Rattle.hive_savepoint.specs.Puts.{Overlays, ChangesCell}
 use Rattle.hive_edit.specs.LeafChanges.{SwingsLeaf}
 use Rattle.hive_edit.proofs.CellChanges.{on_ok}
