@@ -20,7 +20,7 @@ use Rattle.hive_edit_laws.proofs.SameBytes.{half_same}
 use Rattle.hive_savepoint.specs.Puts.{HasData, Overlays, ChangesCell}
 use Rattle.hive_edit.specs.Searches.{IsLeafAt}
 use Rattle.hive_edit.specs.SubkeyPlaces.{IsShapeOf, ListGrown, GrowsList}
-use Rattle.hive_edit.specs.LeafChanges.{GetsElement, PutsElement, FreesMoved, NamesLeaf, SwingsLeaf}
+use Rattle.hive_edit.specs.LeafChanges.{GetsElement, PutsElement, FreesOldList, NamesLeaf, PutsLeaf}
 use Rattle.hive_edit.specs.declared.key_lists.KeyList.{KeyList}
 use Rattle.hive_edit.specs.declared.leaf_edit.LeafShape.{LeafShape}
 use Rattle.hive_edit.specs.declared.leaf_insert.NewElement.{NewElement}
@@ -53,8 +53,8 @@ word_room bytes at index leaf tiles a = (
     room index count len size less fits is = omega (arith, less, fits, is)
 
 -- another word is written, or the same stays
-pub swung_to : (bytes new_bytes : List ℕ) (at index leaf to : ℕ) (text : List ℕ) → ChangesCell bytes new_bytes at (λ its now. Overlays its now (4 + 4 * index) text) → length text ≡ 4 → u32_at text 0 ≡ to → SwingsLeaf bytes new_bytes at index leaf to
-swung_to bytes new_bytes at index leaf to text put four is before shows =
+pub leaf_put : (bytes new_bytes : List ℕ) (at index leaf to : ℕ) (text : List ℕ) → ChangesCell bytes new_bytes at (λ its now. Overlays its now (4 + 4 * index) text) → length text ≡ 4 → u32_at text 0 ≡ to → PutsLeaf bytes new_bytes at index leaf to
+leaf_put bytes new_bytes at index leaf to text put four is before shows =
     let s = put.cells before shows in (
       s.0,
       s.1,
@@ -72,8 +72,8 @@ swung_to bytes new_bytes at index leaf to text put four is before shows =
           words = ap (λ (n : ℕ). words_from now 4 4 n) count ∙ word_swapped its now 4 (u16_at its 2) index leaf to get (λ j low high. o.before j high) (word_put its now (4 + 4 * index) text o four ∙ is) (λ j low. o.after j (omega (arith, low, four)));
         }
 
-pub swung_same : (bytes : List ℕ) (at index leaf to : ℕ) → leaf ≡ to → SwingsLeaf bytes bytes at index leaf to
-swung_same bytes at index leaf to e before shows = (
+pub leaf_same : (bytes : List ℕ) (at index leaf to : ℕ) → leaf ≡ to → PutsLeaf bytes bytes at index leaf to
+leaf_same bytes at index leaf to e before shows = (
   before,
   shows,
   (λ cell other. refl),
@@ -93,7 +93,7 @@ gets_leaf bytes leaf shape shaped new most before after mine to now has here the
     old = cell_data bytes leaf
 
 module _ (bytes first second new_bytes : List ℕ) (list : KeyList) (some : list.count ≢ 0) (index leaf : ℕ) (a : IsLeafAt bytes list.at index leaf) (shape : LeafShape) (shaped : IsShapeOf bytes leaf shape) (new : NewElement) (most : new.index ≤ shape.count) (to : ℕ)
-    (put : PutsElement bytes first leaf shape new to) (swing : SwingsLeaf first second list.at index leaf to) (frees : FreesMoved second new_bytes leaf to) where
+    (put : PutsElement bytes first leaf shape new to) (writes : PutsLeaf first second list.at index leaf to) (frees : FreesOldList second new_bytes leaf to) where
   abbrev old : List ℕ
   old = cell_data bytes list.at
 
@@ -153,7 +153,7 @@ module _ (bytes first second new_bytes : List ℕ) (list : KeyList) (some : list
       let top_here : before list.at ≡ Some old = here before shows own lent its h once in
       let apart : list.at ≢ leaf = at_leaf before shows own lent its h once in
       let at_to : list.at ≢ to = away list.at (ap is_some top_here) apart in
-      let w = swing p.1 p.2 in
+      let w = writes p.1 p.2 in
       let d = w.3 old (p.3 list.at at_to ∙ top_here) get in
       let f = frees.cells w.0 w.1 in (
         f.0,

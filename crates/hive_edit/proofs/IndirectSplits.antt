@@ -15,7 +15,7 @@ use Rattle.hive_edit_laws.proofs.LeafBytes.{leaf_says, leaf_gives, leaves_one, l
 use Rattle.hive_edit_laws.proofs.Shifts.{words_in}
 use Rattle.hive_edit.specs.Searches.{IsLeafAt}
 use Rattle.hive_edit.specs.SubkeyPlaces.{IsShapeOf}
-use Rattle.hive_edit.specs.LeafChanges.{KeepsSizes, KeepsCells, GetsElement, PutsElement, FreesMoved, AreHalves, HalvesLeaf, ListKept, KeepsList}
+use Rattle.hive_edit.specs.LeafChanges.{KeepsSizes, KeepsCells, GetsElement, PutsElement, FreesOldList, AreHalves, HalvesLeaf, ListKept, KeepsList}
 use Rattle.hive_edit.specs.declared.key_lists.KeyList.{KeyList}
 use Rattle.hive_edit.specs.declared.leaf_edit.LeafShape.{LeafShape}
 use Rattle.hive_edit.specs.declared.leaf_insert.NewElement.{NewElement}
@@ -28,7 +28,7 @@ alone : (x : ℕ) → Once (x ∷ [])
 alone x = ((λ i. i), tt)
 
 module _ (bytes mid next new_bytes : List ℕ) (list : KeyList) (some : list.count ≢ 0) (index leaf : ℕ) (a : IsLeafAt bytes list.at index leaf) (shape : LeafShape) (shaped : IsShapeOf bytes leaf shape) (second : ℕ) (halves : HalvesLeaf bytes mid leaf second)
-    (lists : LeafShape) (lists_shaped : IsShapeOf mid list.at lists) (new : NewElement) (new_index : new.index ≡ suc index) (new_offset : new.offset ≡ second) (most : suc index ≤ lists.count) (made : ℕ) (put : PutsElement mid next list.at lists new made) (frees : FreesMoved next new_bytes list.at made) where
+    (lists : LeafShape) (lists_shaped : IsShapeOf mid list.at lists) (new : NewElement) (new_index : new.index ≡ suc index) (new_offset : new.offset ≡ second) (most : suc index ≤ lists.count) (made : ℕ) (put : PutsElement mid next list.at lists new made) (frees : FreesOldList next new_bytes list.at made) where
   abbrev top : List ℕ
   top = cell_data bytes list.at
 

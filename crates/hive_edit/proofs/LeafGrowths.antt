@@ -19,7 +19,7 @@ use Rattle.hive_edit_laws.proofs.ListChanges.{list_with}
 use Rattle.hive_edit_laws.proofs.ListParts.{more_with}
 use Rattle.hive_savepoint.specs.Puts.{ChangesCell, AddsCell}
 use Rattle.hive_edit.specs.SubkeyPlaces.{IsShapeOf, LeafGains, ListGrown, GrowsList}
-use Rattle.hive_edit.specs.LeafChanges.{GetsElement, PutsElement, FreesMoved}
+use Rattle.hive_edit.specs.LeafChanges.{GetsElement, PutsElement, FreesOldList}
 use Rattle.hive_edit.specs.declared.leaf_insert.NewElement.{NewElement}
 use Rattle.hive_edit.proofs.LeafInserts.{long_enough}
 use Rattle.hive_edit.specs.declared.key_lists.KeyList.{KeyList}
@@ -29,7 +29,7 @@ once_alone : (x : ℕ) → Once (x ∷ [])
 once_alone x = ((λ i. i), tt)
 
 -- in place, or in a copy
-module _ (bytes mid new_bytes : List ℕ) (list : KeyList) (some : list.count ≢ 0) (shape : LeafShape) (shaped : IsShapeOf bytes list.at shape) (direct : shape.is_indirect ≡ false) (new : NewElement) (most : new.index ≤ shape.count) (made : ℕ) (put : PutsElement bytes mid list.at shape new made) (frees : FreesMoved mid new_bytes list.at made) where
+module _ (bytes mid new_bytes : List ℕ) (list : KeyList) (some : list.count ≢ 0) (shape : LeafShape) (shaped : IsShapeOf bytes list.at shape) (direct : shape.is_indirect ≡ false) (new : NewElement) (most : new.index ≤ shape.count) (made : ℕ) (put : PutsElement bytes mid list.at shape new made) (frees : FreesOldList mid new_bytes list.at made) where
   abbrev old : List ℕ
   old = cell_data bytes list.at
 

@@ -12,7 +12,7 @@ use Rattle.hive_edit_laws.proofs.CellWrites.{data_long}
 use Rattle.hive_edit_laws.proofs.SameBytes.{half_same}
 use Rattle.hive_savepoint.specs.Puts.{HasData, ChangesCell, AddsCell}
 use Rattle.hive_edit.specs.SubkeyPlaces.{IsShapeOf, LeafGains}
-use Rattle.hive_edit.specs.LeafChanges.{KeepsSizes, KeepsCells, GetsElement, PutsElement, FreesMoved}
+use Rattle.hive_edit.specs.LeafChanges.{KeepsSizes, KeepsCells, GetsElement, PutsElement, FreesOldList}
 use Rattle.hive_edit.specs.declared.leaf_edit.LeafShape.{LeafShape}
 use Rattle.hive_edit.specs.declared.leaf_insert.NewElement.{NewElement}
 
@@ -101,15 +101,15 @@ pub apart_from : (bytes : List ℕ) (at cell : ℕ) → HoldsList bytes at → �
 apart_from bytes at cell holds bare e = bare (subst (λ (z : ℕ). HoldsList bytes z) (sym e) holds)
 
 -- a list that moves has no part in cells without lists
-pub freed_sizes : (bytes mid new_bytes : List ℕ) (at made : ℕ) → HoldsList bytes at → KeepsSizes bytes mid → FreesMoved mid new_bytes at made → KeepsSizes bytes new_bytes
+pub freed_sizes : (bytes mid new_bytes : List ℕ) (at made : ℕ) → HoldsList bytes at → KeepsSizes bytes mid → FreesOldList mid new_bytes at made → KeepsSizes bytes new_bytes
 freed_sizes bytes mid new_bytes at made holds sizes frees cell len bare has = frees.sizes cell len (apart_from bytes at cell holds bare) (sizes cell len bare has)
 
 -- a cell that holds no list holds none after it kept its data
-pub bare_still : (bytes new_bytes : List ℕ) (cell : ℕ) → IsAllocatedCell bytes cell → ¬ HoldsList bytes cell → cell_data new_bytes cell ≡ cell_data bytes cell → ¬ HoldsList new_bytes cell
-bare_still bytes new_bytes cell is bare same holds = bare (is, subst (λ (z : List ℕ). list_fault z ≡ None) same holds.1)
+pub no_list_still : (bytes new_bytes : List ℕ) (cell : ℕ) → IsAllocatedCell bytes cell → ¬ HoldsList bytes cell → cell_data new_bytes cell ≡ cell_data bytes cell → ¬ HoldsList new_bytes cell
+no_list_still bytes new_bytes cell is bare same holds = bare (is, subst (λ (z : List ℕ). list_fault z ≡ None) same holds.1)
 
 -- one step after another
 pub sizes_on : (bytes mid new_bytes : List ℕ) → KeepsCells bytes mid → KeepsSizes mid new_bytes → KeepsSizes bytes new_bytes
 sizes_on bytes mid new_bytes first then cell len bare has =
     let f = first cell len bare has in
-    then cell len (bare_still bytes mid cell has.0 bare f.1) f.0
+    then cell len (no_list_still bytes mid cell has.0 bare f.1) f.0

@@ -21,6 +21,7 @@ mod LeafInserts
 mod BareCells
 mod KeyLevels
 mod LevelSteps
+mod NoLists
 mod LeafGrowths
 mod LeavesReplaced
 mod IndirectGrowths

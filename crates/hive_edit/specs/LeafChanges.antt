@@ -34,7 +34,7 @@ PutsElement old_bytes new_bytes list shape new made = (before : Cells) → Shows
     × (now : List ℕ) × (after made ≡ Some now) × GetsElement (cell_data old_bytes list) now shape.stride shape.count new.index new.offset
 
 -- a cell may be freed if it isn't the other one; all other cells stay and keep their sizes
-pub record FreesMoved (old_bytes new_bytes : List ℕ) (old new : ℕ) : Type 0 where
+pub record FreesOldList (old_bytes new_bytes : List ℕ) (old new : ℕ) : Type 0 where
   pub cells : (before : Cells) → Shows old_bytes before → (after : Cells) × Shows new_bytes after × ((cell : ℕ) → (cell ≢ old) ⊎ (old ≡ new) → after cell ≡ before cell)
   pub sizes : (cell len : ℕ) → cell ≢ old → HasData old_bytes cell len → HasData new_bytes cell len
 
@@ -46,8 +46,8 @@ pub record NamesLeaf (old new : List ℕ) (index to : ℕ) : Type 0 where
   pub words : list_words new ≡ take index (list_words old) ++ to ∷ drop (suc index) (list_words old)
 
 -- A list of lists names a leaf at an index, where it named another. All other cells stay.
-abbrev pub SwingsLeaf : List ℕ → List ℕ → ℕ → ℕ → ℕ → ℕ → Type 0
-SwingsLeaf old_bytes new_bytes at index leaf to = (before : Cells) → Shows old_bytes before → (after : Cells) × Shows new_bytes after × SameBut at before after
+abbrev pub PutsLeaf : List ℕ → List ℕ → ℕ → ℕ → ℕ → ℕ → Type 0
+PutsLeaf old_bytes new_bytes at index leaf to = (before : Cells) → Shows old_bytes before → (after : Cells) × Shows new_bytes after × SameBut at before after
     × ((its : List ℕ) → before at ≡ Some its → slice_get (list_words its) index ≡ Some leaf → (now : List ℕ) × (after at ≡ Some now) × NamesLeaf its now index to)
 
 -- data of a leaf that has the elements of another leaf from an index on

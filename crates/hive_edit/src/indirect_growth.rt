@@ -4,12 +4,12 @@ ghost use Rattle.refusals.specs.declared.refusal.Refusal.TheVariants.{NoMemory};
 ghost use Rattle.hive_savepoint.specs.Puts.{HasData};
 ghost use Rattle.hive_edit.specs.Searches.{IsLeafAt};
 ghost use Rattle.hive_edit.specs.SubkeyPlaces.{GrowsList, IsShapeOf};
-ghost use Rattle.hive_edit.specs.LeafChanges.{KeepsSizes, SwingsLeaf};
+ghost use Rattle.hive_edit.specs.LeafChanges.{KeepsSizes, PutsLeaf};
 
 use crate::key_lists::KeyList;
 use crate::leaf_edit::{ELEMENTS, LeafShape, MOST_ELEMENTS, leaf_shape};
 use crate::leaf_growth::new_element;
-use crate::leaf_insert::{NewElement, free_moved, insert_element};
+use crate::leaf_insert::{NewElement, free_old_list, insert_element};
 use crate::numbers::u32_bytes;
 use crate::offsets::OFFSET;
 use crate::subkeys::{LeafPlace, leaf_for};
@@ -70,13 +70,13 @@ fn grow_leaf_below(
     let Some(leaf) = insert_element(alloc, image, place.leaf, shape, MOST_ELEMENTS, new)? else {
         return Ok(None);
     };
-    swing_leaf(image, list.at, place, leaf)?;
-    free_moved(image, place.leaf, leaf)?;
+    put_leaf(image, list.at, place, leaf)?;
+    free_old_list(image, place.leaf, leaf)?;
     Ok(Some(list.at))
 }
 
-// lets a list of lists name another leaf at a place, if it is another
-fn swing_leaf(
+// writes the offset of a leaf into a list of lists at a place, if another leaf is there
+fn put_leaf(
     image: &mut SavepointImage,
     list: u32,
     place: LeafPlace,
@@ -84,7 +84,7 @@ fn swing_leaf(
 ) -> Result<(), Refusal>
     requires near { place.index < 2 ^ 16 }
     requires room { HasData image.old.bytes list (4 + 4 * (place.index + 1)) }
-    ensures swung { OnOk result (SwingsLeaf image.old.bytes image.new.bytes list place.index place.leaf leaf) }
+    ensures put { OnOk result (PutsLeaf image.old.bytes image.new.bytes list place.index place.leaf leaf) }
     ensures sizes { OnOk result ((cell len : ℕ) → HasData image.old.bytes cell len →
         HasData image.new.bytes cell len) }
     ensures saved { image.new.saved ≡ image.old.saved }

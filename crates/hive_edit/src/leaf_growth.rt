@@ -9,7 +9,7 @@ ghost use Rattle.hive_edit.specs.LeafChanges.{KeepsSizes};
 use crate::indirect_growth::grow_below;
 use crate::key_lists::KeyList;
 use crate::leaf_edit::{ELEMENTS, LeafShape, MOST_ELEMENTS, leaf_shape, lengthen_leaf};
-use crate::leaf_insert::{NewElement, free_moved, insert_element, spare_elements};
+use crate::leaf_insert::{NewElement, free_old_list, insert_element, spare_elements};
 use crate::leaf_split::split_full_leaf;
 use crate::subkeys::place_in_leaf;
 use hive_cells::Looks;
@@ -21,9 +21,11 @@ use std::alloc::Global;
 // the bytes of an element of a new leaf
 const ELEMENT: usize = 8;
 
-/// Puts a subkey of a name into a key's list, or into a leaf of its list of lists. A full leaf is split first. Of a list
-/// that moves for want of room the old cell is freed. Answers the list's offset. None if the leaf has more elements than
-/// a leaf may have, the list of lists can't have one leaf more, or the image has no room.
+/// Puts a subkey of a name into a key's list, or into a leaf of its list of lists. A full leaf is split first. A list
+/// without room moves, and its old cell is freed. Cells that hold no list keep their sizes. Answers the list's offset.
+///
+/// None if the leaf has more elements than a leaf may have, the list of lists can't have one leaf more, the image has no
+/// room, or a list breaks the rules.
 pub(crate) fn grow_list(
     alloc: Global,
     image: &mut SavepointImage,
@@ -140,7 +142,7 @@ fn grow_leaf(
     let Some(made) = insert_element(alloc, image, list.at, shape, MOST_ELEMENTS, new)? else {
         return Ok(None);
     };
-    free_moved(image, list.at, made)?;
+    free_old_list(image, list.at, made)?;
     Ok(Some(made))
 }
 

@@ -4,7 +4,7 @@ ghost use Rattle.refusals.specs.declared.refusal.Refusal.TheVariants.{NoMemory};
 ghost use Rattle.hive_cells.specs.Tiles.{IsAllocatedCell, cell_data};
 ghost use Rattle.hive_savepoint.specs.Puts.{HasData, AddsCell};
 ghost use Rattle.hive_edit.specs.SubkeyPlaces.{IsShapeOf};
-ghost use Rattle.hive_edit.specs.LeafChanges.{PutsElement, FreesMoved};
+ghost use Rattle.hive_edit.specs.LeafChanges.{PutsElement, FreesOldList};
 
 use crate::cell_inserts::insert_cell;
 use crate::leaf_edit::{ELEMENTS, LeafShape, lengthen_leaf};
@@ -101,9 +101,9 @@ fn copy_list(
 }
 
 /// Frees the old cell of a list that is in a new cell, if it is.
-pub(crate) fn free_moved(image: &mut SavepointImage, old: u32, new: u32) -> Result<(), Refusal>
+pub(crate) fn free_old_list(image: &mut SavepointImage, old: u32, new: u32) -> Result<(), Refusal>
     requires there { IsAllocatedCell image.old.bytes old }
-    ensures freed { OnOk result (FreesMoved image.old.bytes image.new.bytes old new) }
+    ensures freed { OnOk result (FreesOldList image.old.bytes image.new.bytes old new) }
     ensures saved { image.new.saved ≡ image.old.saved }
     ensures refused { IfErr result (λ why. why ≡ NoMemory) }
 {

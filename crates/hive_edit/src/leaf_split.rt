@@ -11,7 +11,7 @@ ghost use Rattle.hive_edit.specs.LeafChanges.{KeepsSizes, KeepsCells, KeepsList,
 use crate::cell_inserts::insert_cell;
 use crate::key_lists::KeyList;
 use crate::leaf_edit::{COUNT, ELEMENTS, LeafShape, MOST_ELEMENTS, leaf_shape};
-use crate::leaf_insert::{NewElement, free_moved, insert_element, spare_elements};
+use crate::leaf_insert::{NewElement, free_old_list, insert_element, spare_elements};
 use crate::numbers::u16_bytes;
 use crate::offsets::OFFSET;
 use crate::subkeys::{LeafPlace, leaf_for};
@@ -155,7 +155,7 @@ fn split_leaf_below(
     let Some(made) = insert_element(alloc, image, list.at, lists, MOST_LEAVES, new)? else {
         return Ok(None);
     };
-    free_moved(image, list.at, made)?;
+    free_old_list(image, list.at, made)?;
     Ok(Some(made))
 }
 

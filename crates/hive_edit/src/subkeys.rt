@@ -106,7 +106,7 @@ pub(crate) struct LeafPlace {
 }
 
 /// The leaf of a list of lists that is to have a name, if leaves are sorted. None if the list at the offset is no list of
-/// lists, or names no leaf. None also if the leaf behind it has no first name: then nothing tells which one it is.
+/// lists, or names no leaf. None also if the leaf behind that one is empty: it can't tell where the name belongs.
 pub(crate) fn leaf_for(image: &SavepointImage, list: u32, name: &[u16]) -> Option<LeafPlace>
     ensures place { IfSome result (λ place. IsLeafAt image.now.bytes list place.index place.leaf) }
     ensures near { IfSome result (λ place. place.index < 2 ^ 16) }

@@ -3,7 +3,7 @@ use Rattle.hive_records.specs.NameEncodings.{name_bytes}
 use Rattle.hive_records.proofs.Sizes.{name_most}
 use Rattle.hive_edit.specs.SubkeyPlaces.{GrowsList}
 use Rattle.hive_edit.proofs.CellChanges.{some_says}
-use Rattle.hive_edit.proofs.BareCells.{home_bare}
+use Rattle.hive_edit.proofs.NoLists.{home_no_list}
 use Rattle.hive_edit.proofs.KeyAdditions.{key_added}
 use Rattle.hive_edit.proofs.key_create.add_key.Goals as goal
 
@@ -16,7 +16,7 @@ node_text-requires c =
 pub put_longer_list-requires : goal.put_longer_list-requires
 put_longer_list-requires c = record {
   node = c.in_ok-made.ensures.sizes c.args.home 76
-      (home_bare c.args.image.now.bytes c.insert.new.self.bytes c.tiles.ensures.shown.0 c.tiles.ensures.shown.1 c.args.home c.in-Ok.at c.deref.result.now c.in-Some.ensures.holds c.in-Ok.ensures.added)
+      (home_no_list c.args.image.now.bytes c.insert.new.self.bytes c.tiles.ensures.shown.0 c.tiles.ensures.shown.1 c.args.home c.in-Ok.at c.deref.result.now c.in-Some.ensures.holds c.in-Ok.ensures.added)
       (c.in-Ok.ensures.added.sizes c.args.home 76 c.in-Some.ensures.long);
 }
 

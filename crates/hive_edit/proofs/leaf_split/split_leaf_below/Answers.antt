@@ -18,11 +18,11 @@ returns-then-lists-clause-sizes c = λ cell len bare has. c.in_ok-second.ensures
 pub returns-in_default-2-clause-sizes : goal.returns-in_default-2-clause-sizes
 returns-in_default-2-clause-sizes c = λ cell len bare has. c.in_ok-made.ensures.sizes cell len (c.in_ok-second.ensures.sizes cell len has)
 
-pub free_moved-requires : goal.free_moved-requires
-free_moved-requires c = record { there = (c.in_ok-made.ensures.sizes c.args.list.at (4 + c.in-Some-leaf_shape.lists.stride * c.in-Some-leaf_shape.lists.count) c.in-Some-leaf_shape.ensures.long).0 }
+pub free_old_list-requires : goal.free_old_list-requires
+free_old_list-requires c = record { there = (c.in_ok-made.ensures.sizes c.args.list.at (4 + c.in-Some-leaf_shape.lists.stride * c.in-Some-leaf_shape.lists.count) c.in-Some-leaf_shape.ensures.long).0 }
 
 pub returns-clause-sizes : goal.returns-clause-sizes
-returns-clause-sizes c = freed_sizes c.args.image.now.bytes c.insert_element.new.image.bytes c.free_moved.new.image.bytes c.args.list.at c.in-Some-2.made c.requires.place.holds (λ cell len bare has. c.in_ok-made.ensures.sizes cell len (c.in_ok-second.ensures.sizes cell len has)) c.in_ok-free_moved.ensures.freed
+returns-clause-sizes c = freed_sizes c.args.image.now.bytes c.insert_element.new.image.bytes c.free_old_list.new.image.bytes c.args.list.at c.in-Some-2.made c.requires.place.holds (λ cell len bare has. c.in_ok-made.ensures.sizes cell len (c.in_ok-second.ensures.sizes cell len has)) c.in_ok-free_old_list.ensures.freed
 
 pub returns-clause-kept : goal.returns-clause-kept
 returns-clause-kept c =
@@ -33,10 +33,10 @@ returns-clause-kept c =
     let made = c.in-Some-2.made in
     let lists = c.in-Some-leaf_shape.lists in
     let new : NewElement = record { index = c.args.place.index + 1; offset = second; hint = 0 } in
-    below_kept old mid next c.free_moved.new.image.bytes c.args.list c.requires.some c.args.place.index c.args.place.leaf c.requires.place c.args.shape c.requires.shape second
+    below_kept old mid next c.free_old_list.new.image.bytes c.args.list c.requires.some c.args.place.index c.args.place.leaf c.requires.place c.args.shape c.requires.shape second
     (some_says c.in_ok-second.field-0 second (HalvesLeaf old mid c.args.place.leaf) c.in-Some.is c.in_ok-second.ensures.halved)
     lists c.in-Some-leaf_shape.ensures new (omega arith) refl (let l = c.if-lists-place.false in omega (arith, l)) made
-    (some_says c.in_ok-made.field-0 made (PutsElement mid next c.args.list.at lists new) c.in-Some-2.is c.in_ok-made.ensures.put) c.in_ok-free_moved.ensures.freed
+    (some_says c.in_ok-made.field-0 made (PutsElement mid next c.args.list.at lists new) c.in-Some-2.is c.in_ok-made.ensures.put) c.in_ok-free_old_list.ensures.freed
 
 pub returns-clause-cells : goal.returns-clause-cells
 returns-clause-cells c =
@@ -47,9 +47,9 @@ returns-clause-cells c =
     let made = c.in-Some-2.made in
     let lists = c.in-Some-leaf_shape.lists in
     let new : NewElement = record { index = c.args.place.index + 1; offset = second; hint = 0 } in
-    below_cells old mid next c.free_moved.new.image.bytes c.args.list c.requires.some c.args.place.index c.args.place.leaf c.requires.place c.args.shape c.requires.shape second
+    below_cells old mid next c.free_old_list.new.image.bytes c.args.list c.requires.some c.args.place.index c.args.place.leaf c.requires.place c.args.shape c.requires.shape second
     (some_says c.in_ok-second.field-0 second (HalvesLeaf old mid c.args.place.leaf) c.in-Some.is c.in_ok-second.ensures.halved)
     lists c.in-Some-leaf_shape.ensures new (omega arith) refl (let l = c.if-lists-place.false in omega (arith, l)) made
-    (some_says c.in_ok-made.field-0 made (PutsElement mid next c.args.list.at lists new) c.in-Some-2.is c.in_ok-made.ensures.put) c.in_ok-free_moved.ensures.freed
+    (some_says c.in_ok-made.field-0 made (PutsElement mid next c.args.list.at lists new) c.in-Some-2.is c.in_ok-made.ensures.put) c.in_ok-free_old_list.ensures.freed
     c.tiles.ensures.shown.0 c.tiles.ensures.shown.1 (apart_kinds old c.args.list.at c.args.place.index c.args.place.leaf c.args.shape c.requires.place c.requires.shape c.requires.direct)
-    (freed_sizes old next c.free_moved.new.image.bytes c.args.list.at made c.requires.place.holds (λ cell len bare has. c.in_ok-made.ensures.sizes cell len (c.in_ok-second.ensures.sizes cell len has)) c.in_ok-free_moved.ensures.freed)
+    (freed_sizes old next c.free_old_list.new.image.bytes c.args.list.at made c.requires.place.holds (λ cell len bare has. c.in_ok-made.ensures.sizes cell len (c.in_ok-second.ensures.sizes cell len has)) c.in_ok-free_old_list.ensures.freed)

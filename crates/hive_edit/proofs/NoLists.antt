@@ -15,7 +15,7 @@ use Rattle.hive_edit_laws.proofs.CellsShown.{shown_some, shown_here}
 use Rattle.hive_edit_laws.proofs.KeyPlaces.{none_there}
 use Rattle.hive_edit_laws.proofs.RecordRooms.{list_long}
 use Rattle.hive_savepoint.specs.Puts.{AddsCell}
-use Rattle.hive_edit.proofs.LeafInserts.{bare_still}
+use Rattle.hive_edit.proofs.LeafInserts.{no_list_still}
 
 rule_kept : (b : Bool) (r : Refusal) (rest : Option Refusal) → (if b then rest else Some r) ≡ None → b ≡ true
 rule_kept true r rest e = refl
@@ -32,10 +32,10 @@ node_no_list bytes is list = clash (is_plain bytes || (is_hinted bytes || is_ind
     other : (l : ℕ) → 0x6b6e ≢ l → begins_with bytes l 4 ≡ false
     other l apart = second_not (nat_le 4 (length bytes)) (u16_at bytes 0 == l) (ne_eqb (u16_at bytes 0) l (λ e. apart (sym letters ∙ e)))
 
-pub home_bare : (bytes mid : List ℕ) (cells : Cells) → Shows bytes cells → (home at : ℕ) (text : List ℕ) → HoldsNode bytes home → AddsCell bytes mid at text → HoldsList mid home → ⊥
-home_bare bytes mid cells shows home at text holds adds =
+pub home_no_list : (bytes mid : List ℕ) (cells : Cells) → Shows bytes cells → (home at : ℕ) (text : List ℕ) → HoldsNode bytes home → AddsCell bytes mid at text → HoldsList mid home → ⊥
+home_no_list bytes mid cells shows home at text holds adds =
     let a = adds.cells cells shows in
     let here : cells home ≡ Some (cell_data bytes home) = shown_here bytes cells shows home holds.0 in
     let apart : home ≢ at = λ e. none_there (cells home) (ap is_some here) (ap cells e ∙ a.0) in
     let same : cell_data mid home ≡ cell_data bytes home = sym (shown_some mid a.1 a.2 home (cell_data bytes home) (a.3 home apart ∙ here)).1 in
-    bare_still bytes mid home holds.0 (λ h. node_no_list (cell_data bytes home) holds.1 h.1) same
+    no_list_still bytes mid home holds.0 (λ h. node_no_list (cell_data bytes home) holds.1 h.1) same
