@@ -25,6 +25,7 @@ use Rattle.hive_edit.specs.declared.key_lists.KeyList.{KeyList}
 use Rattle.hive_edit.specs.declared.leaf_edit.LeafShape.{LeafShape}
 use Rattle.hive_edit.specs.declared.leaf_insert.NewElement.{NewElement}
 use Rattle.hive_edit.proofs.KeyListWrites.{word_put}
+use Rattle.hive_edit.proofs.LeafInserts.{once_alone}
 use Rattle.hive_edit.proofs.LeafLosses.{indirect_stride, elements_words}
 use Rattle.hive_edit.proofs.LeavesReplaced.{word_swapped, top_is, leaf_apart, leaf_has, grown_by}
 
@@ -144,7 +145,7 @@ module _ (bytes first second new_bytes : List ℕ) (list : KeyList) (some : list
       grown : ListGrown before after list.count list.at list.at new.offset own its
       grown = grown_by before list.count list.at own lent its old h some here indirect once index leaf get after list.at top (to ∷ []) (with_at new.index new.offset mine.0 ∷ []) top_there (top_like top names) names.words
           (leaves_one after to (with_at new.index new.offset mine.0) (to ∷ [], [], gets_leaf bytes leaf shape shaped new most before after mine.0 to now mine.1 leaf_here there gets))
-          others (inl refl) (to_places place) ((λ i. elim i [ inl e ↦ at_to e | inr j ↦ j ]), ((λ j. j), tt)) new.offset (λ us ws. more_in_leaf new.offset us ws mine.0 (with_at new.index new.offset mine.0) (more_with mine.0 new.index new.offset))
+          others (inl refl) (to_places place) ((λ i. elim i [ inl e ↦ at_to e | inr j ↦ j ]), once_alone to) new.offset (λ us ws. more_in_leaf new.offset us ws mine.0 (with_at new.index new.offset mine.0) (more_with mine.0 new.index new.offset))
 
   pub grown_below : GrowsList bytes new_bytes list new.offset list.at
   grown_below before shows own lent its h once =

@@ -20,12 +20,9 @@ use Rattle.hive_edit.specs.declared.key_lists.KeyList.{KeyList}
 use Rattle.hive_edit.specs.declared.leaf_edit.LeafShape.{LeafShape}
 use Rattle.hive_edit.specs.declared.leaf_insert.NewElement.{NewElement}
 use Rattle.hive_edit.proofs.IndirectGrowths.{get_word}
-use Rattle.hive_edit.proofs.LeafInserts.{keeps_by, apart_from}
+use Rattle.hive_edit.proofs.LeafInserts.{once_alone, keeps_by, apart_from}
 use Rattle.hive_edit.proofs.LeafLosses.{indirect_stride}
 use Rattle.hive_edit.proofs.LeavesReplaced.{flat_two, with_next, top_is, leaf_apart, leaf_has, kept_by}
-
-alone : (x : ℕ) → Once (x ∷ [])
-alone x = ((λ i. i), tt)
 
 module _ (bytes mid next new_bytes : List ℕ) (list : KeyList) (some : list.count ≢ 0) (index leaf : ℕ) (a : IsLeafAt bytes list.at index leaf) (shape : LeafShape) (shaped : IsShapeOf bytes leaf shape) (second : ℕ) (halves : HalvesLeaf bytes mid leaf second)
     (lists : LeafShape) (lists_shaped : IsShapeOf mid list.at lists) (new : NewElement) (new_index : new.index ≡ suc index) (new_offset : new.offset ≡ second) (most : suc index ≤ lists.count) (made : ℕ) (put : PutsElement mid next list.at lists new made) (frees : FreesOldList next new_bytes list.at made) where
@@ -123,7 +120,7 @@ module _ (bytes mid next new_bytes : List ℕ) (list : KeyList) (some : list.cou
             (leaves_join after (leaf ∷ []) (second ∷ []) (leaf_words front ∷ []) (leaf_words back ∷ []) (leaves_one after leaf (leaf_words front) (leaf ∷ [], [], leaf_gives front after leaf front_now both.first_is)) (leaves_one after second (leaf_words back) (second ∷ [], [], leaf_gives back after second back_now both.second_is)))
             below_stays made_place
             (λ cell i. elim i [ inl e ↦ inl e | inr j ↦ elim j [ inl e ↦ inr (ap before e ∙ second_new) | inr k ↦ absurd k ] ])
-            ((λ i. elim i [ inl e ↦ leaf_made (sym e) | inr j ↦ elim j [ inl e ↦ second_made (sym e) | inr k ↦ k ] ]), ((λ i. elim i [ inl e ↦ leaf_second e | inr j ↦ j ]), alone second))
+            ((λ i. elim i [ inl e ↦ leaf_made (sym e) | inr j ↦ elim j [ inl e ↦ second_made (sym e) | inr k ↦ k ] ]), ((λ i. elim i [ inl e ↦ leaf_second e | inr j ↦ j ]), once_alone second))
             (λ us ws. flat_two us ws (leaf_words front) (leaf_words back) ∙ ap (λ (z : List ℕ). flat_map (λ (l : List ℕ). l) (us ++ z ∷ ws)) (sym (says.1 ∙ both.words)))
 
   pub below_kept : KeepsList bytes new_bytes list made

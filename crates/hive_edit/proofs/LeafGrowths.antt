@@ -1,6 +1,6 @@
 -- A key's list of subkeys after its one leaf got one more, or after it got its first.
 use Rattle.std.proofs.Common.{◌≡◌, ◌≢◌, ◌⊎◌, inl, inr, ℕ, suc, ◌+◌, ◌*◌, ◌≤◌, false, List, [], ◌∷◌, ◌++◌, length, replicate, is_some, None, Some, IsSome, refl, sym, ap, subst, ◌∙◌, arith, append-nil}
-use Rattle.hive_tree_model.specs.Lists.{IsIn, Once}
+use Rattle.hive_tree_model.specs.Lists.{IsIn}
 use Rattle.hive_cells.specs.Tiles.{Tiles, cell_data, cell_size}
 use Rattle.hive_cells.specs.Bins.{Cells}
 use Rattle.hive_records.specs.Numbers.{u16_at}
@@ -21,12 +21,9 @@ use Rattle.hive_savepoint.specs.Puts.{ChangesCell, AddsCell}
 use Rattle.hive_edit.specs.SubkeyPlaces.{IsShapeOf, LeafGains, ListGrown, GrowsList}
 use Rattle.hive_edit.specs.LeafChanges.{GetsElement, PutsElement, FreesOldList}
 use Rattle.hive_edit.specs.declared.leaf_insert.NewElement.{NewElement}
-use Rattle.hive_edit.proofs.LeafInserts.{long_enough}
+use Rattle.hive_edit.proofs.LeafInserts.{once_alone, long_enough}
 use Rattle.hive_edit.specs.declared.key_lists.KeyList.{KeyList}
 use Rattle.hive_edit.specs.declared.leaf_edit.LeafShape.{LeafShape}
-
-once_alone : (x : ℕ) → Once (x ∷ [])
-once_alone x = ((λ i. i), tt)
 
 -- in place, or in a copy
 module _ (bytes mid new_bytes : List ℕ) (list : KeyList) (some : list.count ≢ 0) (shape : LeafShape) (shaped : IsShapeOf bytes list.at shape) (direct : shape.is_indirect ≡ false) (new : NewElement) (most : new.index ≤ shape.count) (made : ℕ) (put : PutsElement bytes mid list.at shape new made) (frees : FreesOldList mid new_bytes list.at made) where

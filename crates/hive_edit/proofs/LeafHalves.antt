@@ -21,7 +21,8 @@ use Rattle.hive_edit.specs.SubkeyPlaces.{IsShapeOf, ListGrown, GrowsList}
 use Rattle.hive_edit.specs.LeafChanges.{HasBack, AreHalves, HalvesLeaf, ListKept, KeepsList}
 use Rattle.hive_edit.specs.declared.key_lists.KeyList.{KeyList}
 use Rattle.hive_edit.specs.declared.leaf_edit.LeafShape.{LeafShape}
-use Rattle.hive_edit.proofs.LeafInserts.{front_same}
+use Rattle.hive_edit.proofs.LeafWrites.{same_half}
+use Rattle.hive_edit.proofs.LeafInserts.{index_within, front_same}
 
 -- whether a number is in a list
 is_listed : (x : ℕ) (xs : List ℕ) → IsIn x xs ⊎ (IsIn x xs → ⊥)
@@ -67,9 +68,6 @@ kept_then_grown bytes mid new_bytes list next subkey made same keeps grows befor
 
 -- ---- a leaf in two halves
 
-within : (stride a b : ℕ) → a ≤ b → stride * a ≤ stride * b
-within stride a b most = search (arith, most)
-
 halves_cut : (half count : ℕ) → half ≤ count → count ≡ half + (count - half)
 halves_cut half count most = omega (arith, most)
 
@@ -78,7 +76,7 @@ are_halves : (old front back : List ℕ) (stride count half : ℕ) → stride �
     → u16_at front 0 ≡ u16_at old 0 → u16_at front 2 ≡ half → length front ≡ length old → ((j : ℕ) → 4 ≤ j → slice_index front j ≡ slice_index old j)
     → u16_at back 0 ≡ u16_at old 0 → u16_at back 2 ≡ count - half → 4 + stride * (count - half) ≤ length back → ((j : ℕ) → j < stride * (count - half) → slice_index back (4 + j) ≡ slice_index old (4 + stride * half + j)) → AreHalves old front back
 are_halves old front back stride count half stride_is count_is most wide is front_letters front_count front_len front_same back_letters back_count back_len back_same =
-    let f = leaf_like old front is front_letters half front_count (subst (λ (k : ℕ). 4 + k * half ≤ length front) stride_is (front_long stride count half (length front) (length old) (within stride half count most) front_len old_long)) in
+    let f = leaf_like old front is front_letters half front_count (subst (λ (k : ℕ). 4 + k * half ≤ length front) stride_is (front_long stride count half (length front) (length old) (index_within stride count half most) front_len old_long)) in
     let b = leaf_like old back is back_letters (count - half) back_count (subst (λ (k : ℕ). 4 + k * (count - half) ≤ length back) stride_is back_len) in
     record {
       first_is = f.0;
@@ -102,15 +100,11 @@ are_halves old front back stride count half stride_is count_is most wide is fron
     back_words : words_from old (4 + stride * half) stride (count - half) ≡ words_from back 4 stride (count - half)
     back_words = sym (words_copied old back (4 + stride * half) 4 stride (count - half) wide back_same)
 
-half_like : (xs ys : List ℕ) (a b : ℕ) → slice_index xs a ≡ slice_index ys b → slice_index xs (a + 1) ≡ slice_index ys (b + 1) → u16_at xs a ≡ u16_at ys b
-unfolding u16_at
-half_like xs ys a b e f = λ i. e i + 0x100 * f i
-
 -- the text of the new leaf
 pub back_is : (old head counts elements text : List ℕ) (stride count half : ℕ) → head ≡ take 2 old → length counts ≡ 2 → u16_at counts 0 ≡ count - half → elements ≡ slice_range old (4 + stride * half) (4 + stride * count) → 4 + stride * count ≤ length old → half ≤ count → text ≡ (head ++ counts) ++ elements → HasBack old text stride count half
 back_is old head counts elements text stride count half head_is two counts_is elements_are long most text_is = record {
   letters = half_same old text 0 (early 0 (omega arith)) (early 1 (omega arith));
-  count_is = half_like text counts 2 0 (counted 0 (omega arith)) (counted 1 (omega arith)) ∙ counts_is;
+  count_is = same_half text counts 2 0 (counted 0 (omega arith)) (counted 1 (omega arith)) ∙ counts_is;
   len = ap length text_is ∙ length-append (head ++ counts) elements ∙ all (length (head ++ counts)) (length elements) four elements_long_is;
   elements = λ j l. at_text (4 + j) ∙ ap (slice_index ((head ++ counts) ++ elements)) (spot j) ∙ get_or-append-add (head ++ counts) elements j 0 ∙ ap (λ (z : List ℕ). slice_index z j) elements_are ∙ range_index old (4 + stride * half) (4 + stride * count) j (omega (arith, l, size, less));
 }
@@ -119,7 +113,7 @@ back_is old head counts elements text stride count half head_is two counts_is el
     size = mul-sub stride count half
 
     less : stride * half ≤ stride * count
-    less = within stride half count most
+    less = index_within stride count half most
 
     head_long : length head ≡ 2
     head_long = ap length head_is ∙ (let t = length-take 2 old in omega (arith, t, long))
@@ -184,4 +178,4 @@ halved bytes mid new_bytes leaf second shape half text count_text tiles shaped m
         (λ j l. same (4 + j) (omega (arith, l)) ∙ back.elements j l)
       where
         put_half : (front : List ℕ) → Overlays old front 2 count_text → u16_at front 2 ≡ half
-        put_half front o = half_like front count_text 2 0 (o.its 0 (omega (arith, two))) (o.its 1 (omega (arith, two))) ∙ is
+        put_half front o = same_half front count_text 2 0 (o.its 0 (omega (arith, two))) (o.its 1 (omega (arith, two))) ∙ is

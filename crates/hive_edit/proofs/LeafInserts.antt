@@ -1,7 +1,8 @@
 -- A list of subkeys, or a copy of it, after it got an element; and cells that keep their data beside.
-use Rattle.std.proofs.Common.{◌≡◌, ◌≢◌, inl, inr, ℕ, suc, ◌+◌, ◌*◌, ◌<◌, ◌≤◌, List, ◌++◌, length, replicate, slice_index, is_some, None, Some, IsSome, refl, sym, ap, subst, ◌∙◌, arith}
+use Rattle.std.proofs.Common.{◌≡◌, ◌≢◌, inl, inr, ℕ, suc, ◌+◌, ◌*◌, ◌<◌, ◌≤◌, List, [], ◌∷◌, ◌++◌, length, replicate, slice_index, is_some, None, Some, IsSome, refl, sym, ap, subst, ◌∙◌, arith}
 use Rattle.std.proofs.Math.Nat.{mul-add}
 use Rattle.std.proofs.lemmas.List.{get_or_append_left}
+use Rattle.hive_tree_model.specs.Lists.{Once}
 use Rattle.hive_cells.specs.Tiles.{Tiles, IsAllocatedCell, cell_data, cell_size}
 use Rattle.hive_cells.specs.Bins.{Cells, Shows}
 use Rattle.hive_records.specs.Heads.{list_fault}
@@ -16,12 +17,15 @@ use Rattle.hive_edit.specs.LeafChanges.{KeepsSizes, KeepsCells, GetsElement, Put
 use Rattle.hive_edit.specs.declared.leaf_edit.LeafShape.{LeafShape}
 use Rattle.hive_edit.specs.declared.leaf_insert.NewElement.{NewElement}
 
+pub once_alone : (x : ℕ) → Once (x ∷ [])
+once_alone x = ((λ i. i), tt)
+
 pub long_enough : (stride count room len size : ℕ) → 4 + stride * (count + 1) ≤ room → 4 + room ≤ size → len + 4 ≡ size → 4 + stride * suc count ≤ len
 long_enough stride count room len size fits has is =
     let s : stride * suc count ≡ stride * (count + 1) = ap (λ (n : ℕ). stride * n) (omega arith) in
     omega (arith, fits, has, is, s)
 
-index_within : (stride count index : ℕ) → index ≤ count → stride * index ≤ stride * count
+pub index_within : (stride count index : ℕ) → index ≤ count → stride * index ≤ stride * count
 index_within stride count index most = search (arith, most)
 
 -- data that begin like others, and get an element

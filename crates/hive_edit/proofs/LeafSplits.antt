@@ -1,6 +1,6 @@
 -- A key's list of subkeys after its one leaf was split.
 use Rattle.std.proofs.Common.{◌≡◌, ◌≢◌, inl, inr, ℕ, zero, suc, ◌<◌, false, List, [], ◌∷◌, ◌++◌, length, replicate, is_some, None, Some, IsSome, refl, sym, ap, subst, ◌∙◌, arith, append-nil}
-use Rattle.hive_tree_model.specs.Lists.{IsIn, Once}
+use Rattle.hive_tree_model.specs.Lists.{IsIn}
 use Rattle.hive_cells.specs.Tiles.{cell_data}
 use Rattle.hive_cells.specs.Bins.{Cells, Shows}
 use Rattle.hive_records.specs.Fields.{Gives}
@@ -17,14 +17,11 @@ use Rattle.hive_edit.specs.SubkeyPlaces.{IsShapeOf}
 use Rattle.hive_edit.specs.LeafChanges.{KeepsSizes, KeepsCells, AreHalves, HalvesLeaf, ListKept, KeepsList}
 use Rattle.hive_edit.specs.declared.key_lists.KeyList.{KeyList}
 use Rattle.hive_edit.specs.declared.leaf_edit.LeafShape.{LeafShape}
-use Rattle.hive_edit.proofs.LeafInserts.{keeps_by, apart_from}
+use Rattle.hive_edit.proofs.LeafInserts.{once_alone, keeps_by, apart_from}
 
 some_more : (n : ℕ) → n ≢ 0 → 0 < n
 some_more zero some = absurd (some refl)
 some_more (suc n) some = omega arith
-
-alone : (x : ℕ) → Once (x ∷ [])
-alone x = ((λ i. i), tt)
 
 module _ (bytes mid new_bytes : List ℕ) (list : KeyList) (some : list.count ≢ 0) (shape : LeafShape) (shaped : IsShapeOf bytes list.at shape) (direct : shape.is_indirect ≡ false) (second made : ℕ) (text : List ℕ) (halves : HalvesLeaf bytes mid list.at second) (adds : AddsCell mid new_bytes made text) where
   abbrev old : List ℕ
@@ -81,7 +78,7 @@ module _ (bytes mid new_bytes : List ℕ) (list : KeyList) (some : list.count �
           own_now = made ∷ list.at ∷ second ∷ [];
           lent_now = [];
           reads = subst (λ (n : ℕ). Gives (subkeys_at n made) after (made ∷ list.at ∷ second ∷ []) [] its) many (subst (λ (z : List ℕ). Gives (subkeys_at (length (leaf_words front ++ (leaf_words back ++ []))) made) after (made ∷ list.at ∷ second ∷ []) [] z) same read);
-          once = ((λ i. elim i [ inl e ↦ at_made (sym e) | inr j ↦ elim j [ inl e ↦ second_made (sym e) | inr k ↦ k ] ]), ((λ i. elim i [ inl e ↦ at_second e | inr j ↦ j ]), alone second));
+          once = ((λ i. elim i [ inl e ↦ at_made (sym e) | inr j ↦ elim j [ inl e ↦ second_made (sym e) | inr k ↦ k ] ]), ((λ i. elim i [ inl e ↦ at_second e | inr j ↦ j ]), once_alone second));
           takes = λ cell i. elim i [
             | inl e ↦ inr (ap before e ∙ made_none)
             | inr j ↦ elim j [

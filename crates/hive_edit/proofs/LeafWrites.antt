@@ -7,7 +7,7 @@ use Rattle.hive_savepoint.specs.Puts.{Overlays, Moves}
 use Rattle.hive_edit.proofs.KeyListWrites.{word_kept, word_put}
 use Rattle.hive_edit.specs.SubkeyPlaces.{LeafLoses, LeafGains}
 
-same_half : (xs ys : List ℕ) (a b : ℕ) → slice_index xs a ≡ slice_index ys b → slice_index xs (a + 1) ≡ slice_index ys (b + 1) → u16_at xs a ≡ u16_at ys b
+pub same_half : (xs ys : List ℕ) (a b : ℕ) → slice_index xs a ≡ slice_index ys b → slice_index xs (a + 1) ≡ slice_index ys (b + 1) → u16_at xs a ≡ u16_at ys b
 unfolding u16_at
 same_half xs ys a b e f = λ i. e i + 0x100 * f i
 
