@@ -18,7 +18,6 @@ mod KeyCreations
 mod KeyAdditions
 mod KeyAbsences
 mod LeafInserts
-mod BareCells
 mod KeyLevels
 mod LevelSteps
 mod NoLists
