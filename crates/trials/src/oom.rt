@@ -3,11 +3,14 @@
 //! `tools/failalloc each` runs them once for each allocation, which is refused, and once for each with all later ones
 //! refused too. A call that is refused has to answer want of memory and nothing else, and has to leave all as it was:
 //! it is made again.
+mod absorbs;
 mod cells;
+mod edits;
 mod engine_driver;
 mod engine_life;
 mod hive;
 mod opening;
+mod operations;
 mod without_memory;
 
 use disk_model::{MemDisk, Plan};
@@ -26,9 +29,11 @@ const CALLS: usize = 128;
 /// Makes all calls: whether one was refused memory.
 pub(crate) fn run(alloc: Global) -> Result<bool, Fault> {
     let of_cells = cells::run(alloc)?;
+    let of_edits = edits::run(alloc)?;
+    let of_absorbs = absorbs::run(alloc)?;
     let of_hive = hive::run(alloc)?;
     let of_engine = engine_life::run(alloc)?;
-    Ok(of_cells || of_hive || of_engine)
+    Ok(of_cells || of_edits || of_absorbs || of_hive || of_engine)
 }
 
 // a disk on which the calls of such a store take no memory
