@@ -2,6 +2,7 @@
 mod emits;
 mod engine_works;
 mod flushes;
+mod growths;
 mod loads;
 mod openings;
 mod stores;
@@ -23,7 +24,12 @@ pub(crate) fn time<R: Print + Files + CpuClock + AllocGlobal>(
     match work {
         Work::Load { file } => loads::time(rt, file),
         Work::Emit { keys } => emits::time(rt, alloc, keys),
-        Work::Flush { values, bytes } => flushes::time(rt, alloc, values, bytes),
+        Work::Flush {
+            values,
+            bytes,
+            changes,
+        } => flushes::time(rt, alloc, values, bytes, changes),
+        Work::Grow { what, count } => growths::time(rt, alloc, what, count),
         Work::Opening { changes, bytes } => openings::time(rt, alloc, changes, bytes),
         Work::Engine { kind, count } => engine_works::time(rt, alloc, kind, count),
     }

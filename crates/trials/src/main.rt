@@ -5,7 +5,8 @@
 //! | `oom` | makes calls that may be refused memory, for `tools/failalloc each` |
 //! | `bench load FILE` | loads the bins data of a primary file |
 //! | `bench emit KEYS` | makes the image of a tree of KEYS keys, each with a value of 16 bytes |
-//! | `bench flush VALUES BYTES` | flushes a change of one value in a hive of VALUES values of 16,000 bytes each, with at least BYTES bytes of bins data |
+//! | `bench flush VALUES BYTES CHANGES` | flushes changes of CHANGES values in a hive of VALUES values of 16,000 bytes each, with at least BYTES bytes of bins data |
+//! | `bench grow values N`, `bench grow keys N` | absorbs N changes one by one, each a new value or a new subkey of one key |
 //! | `bench writes N`, `commits N`, `reads N`, `held N` | does a work of an engine N times |
 //! | `bench opening N BYTES` | opens a store of 16 hives whose journal decodes to N changes, each of a value of BYTES bytes |
 //!

@@ -2,7 +2,7 @@
 
 /// What is printed at other words.
 pub(crate) const USAGE: &str =
-    "usage: trials oom | bench load FILE | bench emit KEYS | bench flush VALUES BYTES\n       | bench writes N | bench commits N | bench reads N | bench held N | bench opening N BYTES";
+    "usage: trials oom | bench load FILE | bench emit KEYS | bench flush VALUES BYTES CHANGES\n       | bench grow values N | bench grow keys N\n       | bench writes N | bench commits N | bench reads N | bench held N | bench opening N BYTES";
 
 /// What the words ask for.
 #[derive(Clone, Copy)]
@@ -17,15 +17,43 @@ pub(crate) enum Task<'a> {
 #[derive(Clone, Copy)]
 pub(crate) enum Work<'a> {
     /// A primary file's bins data are loaded.
-    Load { file: &'a str },
+    Load {
+        file: &'a str,
+    },
     /// The image of a tree of keys is made.
-    Emit { keys: u32 },
-    /// A change is flushed, in a hive of so many values and bytes.
-    Flush { values: u32, bytes: u32 },
+    Emit {
+        keys: u32,
+    },
+    /// Changes of so many values are flushed, in a hive of so many values and bytes.
+    Flush {
+        values: u32,
+        bytes: u32,
+        changes: u32,
+    },
+    /// A key of a hive gets so many values or subkeys, one by one.
+    Grow {
+        what: Growth,
+        count: u32,
+    },
     /// A store is opened whose journal has so many changes of so many bytes.
-    Opening { changes: u32, bytes: u32 },
+    Opening {
+        changes: u32,
+        bytes: u32,
+    },
     /// Something is asked of an engine again and again.
-    Engine { kind: EngineWork, count: u32 },
+    Engine {
+        kind: EngineWork,
+        count: u32,
+    },
+}
+
+/// What a key gets.
+#[derive(Clone, Copy)]
+pub(crate) enum Growth {
+    /// Values of four bytes.
+    Values,
+    /// Subkeys.
+    Keys,
 }
 
 /// What is asked of an engine again and again.
@@ -56,9 +84,14 @@ fn work_of<'a>(words: &[&'a str]) -> Option<Work<'a>> {
         ["emit", keys] => Some(Work::Emit {
             keys: number(keys)?,
         }),
-        ["flush", values, bytes] => Some(Work::Flush {
+        ["flush", values, bytes, changes] => Some(Work::Flush {
             values: number(values)?,
             bytes: number(bytes)?,
+            changes: number(changes)?,
+        }),
+        ["grow", what, count] => Some(Work::Grow {
+            what: growth_of(what)?,
+            count: number(count)?,
         }),
         ["opening", changes, bytes] => Some(Work::Opening {
             changes: number(changes)?,
@@ -68,6 +101,14 @@ fn work_of<'a>(words: &[&'a str]) -> Option<Work<'a>> {
             kind: engine_work_of(kind)?,
             count: number(count)?,
         }),
+        _ => None,
+    }
+}
+
+fn growth_of(word: &str) -> Option<Growth> {
+    match word {
+        "values" => Some(Growth::Values),
+        "keys" => Some(Growth::Keys),
         _ => None,
     }
 }

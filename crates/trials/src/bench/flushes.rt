@@ -40,12 +40,16 @@ pub(crate) fn time<R: Print + CpuClock>(
     alloc: Global,
     values: u32,
     bytes: u32,
+    changes: u32,
 ) -> Result<(), Fault> {
     let mut disk = MemDisk::new(alloc, Arc::new(alloc, Plan::new())?);
     make(alloc, &mut disk, values, bytes)?;
     let mut file = HiveFile::open(alloc, &mut disk, 0, Uuid::nil())?;
-    let change = change(alloc, values / 2)?;
-    time_on(rt, alloc, &mut disk, &mut file, &[change])
+    let mut made = Vec::new(alloc);
+    for number in 0..changes.min(values) {
+        made.push(change(alloc, setting(alloc, number, 2)?)?)?;
+    }
+    time_on(rt, alloc, &mut disk, &mut file, &made)
 }
 
 fn time_on<R: Print + CpuClock>(
@@ -89,11 +93,19 @@ fn bytes_written(log: u64, pages: usize) -> u64 {
         .saturating_add(pages.saturating_mul(PAGE_BYTES) as u64)
 }
 
-fn absorb(alloc: Global, file: &mut HiveFile, changes: &[EncodedChange]) -> Result<(), Fault> {
-    if !file.is_at_rest() || file.number() != 0 {
+/// Absorbs changes into a hive that has absorbed so many.
+pub(super) fn absorb(
+    alloc: Global,
+    file: &mut HiveFile,
+    changes: &[EncodedChange],
+) -> Result<(), Fault> {
+    let Some(upto) = file.number().checked_add(changes.len() as u64) else {
+        return Err(Fault::Otherwise("too many changes"));
+    };
+    if !file.is_at_rest() {
         return Err(Fault::Otherwise("a hive that is busy"));
     }
-    file.absorb(alloc, changes, &[], 1)?;
+    file.absorb(alloc, changes, &[], upto)?;
     Ok(())
 }
 
@@ -125,9 +137,9 @@ fn setting(alloc: Global, number: u32, tells: u8) -> Result<Op, Fault> {
     })
 }
 
-// the change of the value of a number, as it is kept
-fn change(alloc: Global, number: u32) -> Result<EncodedChange, Fault> {
-    let ops = Ops::one(alloc, setting(alloc, number, 2)?)?;
+/// A change of one operation, as it is kept.
+pub(super) fn change(alloc: Global, op: Op) -> Result<EncodedChange, Fault> {
+    let ops = Ops::one(alloc, op)?;
     let element = Element { moment: 7, ops };
     if element.text_len() >= u64::from(u32::MAX) {
         return Err(Fault::Otherwise("a change that is too long"));
