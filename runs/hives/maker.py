@@ -23,10 +23,10 @@ def u64(number):
     return struct.pack("<Q", number)
 
 
-def latin(name):
+def latin(name, wide=False):
     """A name's bytes, and whether they are Latin-1 and not UTF-16."""
     units = name.encode("utf-16-le")
-    if all(units[at + 1] == 0 for at in range(0, len(units), 2)):
+    if not wide and all(units[at + 1] == 0 for at in range(0, len(units), 2)):
         return units[::2], True
     return units, False
 
@@ -37,6 +37,7 @@ class Value:
     kind: int = 0
     data: bytes = b""
     record: bytes = None     # its whole record, in place of what the other fields ask
+    wide: bool = False       # its name is in UTF-16, even if Latin-1 could spell it
 
 
 @dataclass
@@ -50,6 +51,8 @@ class Key:
     class_bytes: bytes = b""
     leaf: bytes = b"lh"      # the letters of its list of subkeys; several are those of its leaves by turns
     many: int = 0            # so many subkeys a leaf, below an `ri`; 0 for one leaf
+    gaps: bool = False       # an empty leaf before each leaf below an `ri`, and behind the last one
+    wide: bool = False       # its name is in UTF-16, even if Latin-1 could spell it
     patch: dict = field(default_factory=dict)    # bytes of its record by their offset
 
 
@@ -92,7 +95,7 @@ def value_of(cells, value):
     """The cell of a value's record."""
     if value.record is not None:
         return cells.put(value.record)
-    name, is_latin = latin(value.name)
+    name, is_latin = latin(value.name, value.wide)
     size, where = len(value.data), 0
     if size <= 4:
         size, where = size | 1 << 31, struct.unpack("<I", value.data.ljust(4, b"\0"))[0]
@@ -116,6 +119,8 @@ def list_of(cells, key, offsets):
         return leaf_of(cells, key.leaf, offsets)
     kinds = [key.leaf[at:at + 2] for at in range(0, len(key.leaf), 2)]
     parts = [offsets[at:at + key.many] for at in range(0, len(offsets), key.many)]
+    if key.gaps:
+        parts = [part for some in parts for part in ([], some)] + [[]]
     return leaf_of(cells, b"ri", [leaf_of(cells, kinds[number % len(kinds)], part) for number, part in enumerate(parts)])
 
 
@@ -132,7 +137,7 @@ def key_of(cells, key, securities):
             securities[key.descriptor] = cells.put(b"sk" + u16(0) + u32(at, at, 1, len(key.descriptor)) + key.descriptor)
         security = securities[key.descriptor]
     its_class = cells.put(key.class_bytes) if key.class_bytes else NONE
-    name, is_latin = latin(key.name)
+    name, is_latin = latin(key.name, key.wide)
     record = bytearray(b"nk" + u16(key.flags | is_latin << 5) + u64(key.time) + u32(0, 0, len(offsets), 0, subkeys, NONE)
                        + u32(len(records), values, security, its_class) + bytes(20)
                        + u16(len(name), len(key.class_bytes)) + name)
