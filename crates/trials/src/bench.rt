@@ -1,7 +1,7 @@
 //! Work that is timed, for the programs of `bench/`. Each prints a line of numbers, the time first.
 mod emits;
 mod engine_works;
-mod flushes;
+pub(crate) mod flushes;
 mod growths;
 mod loads;
 mod openings;

@@ -22,9 +22,9 @@ use test_support::Fault;
 // the files of a store of two hives, and how many bytes longer each gets in how many calls
 const FILES: u32 = 5;
 
-const ROOM: usize = 65_536;
+const ROOM: usize = 262_144;
 
-const CALLS: usize = 128;
+const CALLS: usize = 512;
 
 /// Makes all calls: whether one was refused memory.
 pub(crate) fn run(alloc: Global) -> Result<bool, Fault> {

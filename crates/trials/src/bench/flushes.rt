@@ -109,8 +109,8 @@ pub(super) fn absorb(
     Ok(())
 }
 
-// makes steps until the flush is done
-fn flush(disk: &mut MemDisk, file: &mut HiveFile) -> Result<(), Fault> {
+/// Makes steps until the flush is done.
+pub(crate) fn flush(disk: &mut MemDisk, file: &mut HiveFile) -> Result<(), Fault> {
     for _step in 0..MANY {
         if !file.is_whole() {
             return Err(Fault::Otherwise("a repair"));
@@ -138,7 +138,7 @@ fn setting(alloc: Global, number: u32, tells: u8) -> Result<Op, Fault> {
 }
 
 /// A change of one operation, as it is kept.
-pub(super) fn change(alloc: Global, op: Op) -> Result<EncodedChange, Fault> {
+pub(crate) fn change(alloc: Global, op: Op) -> Result<EncodedChange, Fault> {
     let ops = Ops::one(alloc, op)?;
     let element = Element { moment: 7, ops };
     if element.text_len() >= u64::from(u32::MAX) {

@@ -1,44 +1,31 @@
 //! Changes that a hive absorbs: if that is refused memory, it is as before. So it is made again, and the hive's file
 //! gets the same bytes as one to which nothing was refused.
-use crate::oom::expect_no_memory;
-use crate::oom::operations::{AFTER, operations, small_tree};
+use crate::bench::flushes::{change, flush};
+use crate::oom::operations::{operations, small_tree};
+use crate::oom::{expect_no_memory, roomy_disk};
 use change_codec::EncodedChange;
-use disk_model::{Disk, MemDisk, Plan, Progress};
+use disk_model::{Disk, MemDisk};
 use hive_flush::HiveFile;
-use reg_tree::{Element, Op, Ops, Tree};
+use reg_tree::Tree;
 use std::alloc::Global;
-use std::sync::Arc;
 use test_support::Fault;
 use uuid::Uuid;
 
 // hive 0's primary file
 const PRIMARY: u32 = 1;
 
-// the files of a store of one hive, how many bytes longer each gets, and in how many calls
-const FILES: u32 = 3;
-
-const ROOM: usize = 262_144;
-
-const CALLS: usize = 512;
-
 /// Absorbs changes twice, each time in a hive of its own: whether one of them was refused memory.
 pub(crate) fn run(alloc: Global) -> Result<bool, Fault> {
     let tree = small_tree(alloc)?;
     let changes = changes(alloc)?;
-    let mut one = roomy(alloc)?;
-    let mut other = roomy(alloc)?;
+    let mut one = roomy_disk(alloc)?;
+    let mut other = roomy_disk(alloc)?;
     let first = change_hive(alloc, &mut one, &tree, &changes)?;
     let second = change_hive(alloc, &mut other, &tree, &changes)?;
     if primary(alloc, &mut one)? != primary(alloc, &mut other)? {
         return Err(Fault::Otherwise("files of other bytes"));
     }
     Ok(first || second)
-}
-
-fn roomy(alloc: Global) -> Result<MemDisk, Fault> {
-    let mut disk = MemDisk::new(alloc, Arc::new(alloc, Plan::new())?);
-    disk.room(FILES, ROOM, CALLS)?;
-    Ok(disk)
 }
 
 // a change for each operation
@@ -48,15 +35,6 @@ fn changes(alloc: Global) -> Result<Vec<EncodedChange>, Fault> {
         changes.push(change(alloc, op)?)?;
     }
     Ok(changes)
-}
-
-fn change(alloc: Global, op: Op) -> Result<EncodedChange, Fault> {
-    let ops = Ops::one(alloc, op)?;
-    let element = Element { moment: AFTER, ops };
-    if element.text_len() >= u64::from(u32::MAX) {
-        return Err(Fault::Otherwise("a change that is too long"));
-    }
-    Ok(EncodedChange::of(alloc, &element)?)
 }
 
 // makes a hive, changes it and flushes it: whether it was refused memory for the changes
@@ -100,19 +78,6 @@ fn absorb_once(
             Ok(false)
         }
     }
-}
-
-// makes steps until the flush is done
-fn flush(disk: &mut MemDisk, file: &mut HiveFile) -> Result<(), Fault> {
-    for _step in 0..CALLS {
-        if !file.is_whole() {
-            return Err(Fault::Otherwise("a repair"));
-        }
-        if file.step(disk)? == Progress::Done {
-            return Ok(());
-        }
-    }
-    Err(Fault::Otherwise("more steps"))
 }
 
 // the bytes of the primary file
