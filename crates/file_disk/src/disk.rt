@@ -2,7 +2,7 @@
 ghost use Rattle.std.specs.Prelude.{◌≡◌, ◌∷◌, IsErr};
 ghost use Rattle.file_disk.specs.Records.{calls_in};
 
-use crate::folder::{Denial, FileName, Folder, LockError, MOST_FILES};
+use crate::folder::{Access, Denial, FileName, Folder, LockError, MOST_FILES};
 use crate::record::{Call, Record, noted};
 use crate::world::World;
 use disk_model::{Disk, Failed};
@@ -33,8 +33,23 @@ impl<R: Files<File = File> + Drop, W: World> FileDisk<R, W> {
     ///
     /// Refused if another program has it, if it is no folder, if the system refuses it, and for want of memory.
     pub fn open_locked(rt: R, alloc: Global, folder: &str) -> Result<FileDisk<R, W>, LockError> {
+        FileDisk::open(rt, alloc, folder, Access::ReadWrite)
+    }
+
+    /// The same for a folder whose files are only read: none is written or made, and each write and cut fails. The files
+    /// may be such as this program isn't allowed to write, or lie on a medium that takes no writes.
+    pub fn open_read_only(rt: R, alloc: Global, folder: &str) -> Result<FileDisk<R, W>, LockError> {
+        FileDisk::open(rt, alloc, folder, Access::ReadOnly)
+    }
+
+    fn open(
+        rt: R,
+        alloc: Global,
+        folder: &str,
+        access: Access,
+    ) -> Result<FileDisk<R, W>, LockError> {
         Ok(FileDisk {
-            folder: Folder::open_locked(rt, alloc, folder)?,
+            folder: Folder::open_locked(rt, alloc, folder, access)?,
             calls: Record::Begun,
             world: PhantomData,
         })

@@ -75,6 +75,16 @@ impl From<io::Error> for LockError {
     }
 }
 
+/// What the files of a folder are opened for.
+#[derive(Clone, Copy, PartialEq, Eq)]
+pub(crate) enum Access {
+    /// They are read and written, and made by the first write.
+    ReadWrite,
+    /// They are only read, so that they may be those of somebody else, or lie on a medium that takes no writes. A write
+    /// or a cut fails.
+    ReadOnly,
+}
+
 /// A folder whose files are opened as they are first asked for and stay open. A file that isn't there reads as empty,
 /// and is made by the first write.
 ///
@@ -82,6 +92,7 @@ impl From<io::Error> for LockError {
 #[derive(Drop)]
 pub(crate) struct Folder<R: Files<File = File> + Drop> {
     rt: R,
+    access: Access,
     // the folder's path, and the path of a file that is being opened, for which there is room
     folder: String,
     path: String,
@@ -100,7 +111,12 @@ pub(crate) struct Folder<R: Files<File = File> + Drop> {
 impl<R: Files<File = File> + Drop> Folder<R> {
     /// Locks a folder. One that isn't there has no files, and none can be made in it, also if somebody makes the folder
     /// later: nothing locks it. What isn't a folder is refused.
-    pub(crate) fn open_locked(rt: R, alloc: Global, folder: &str) -> Result<Folder<R>, LockError> {
+    pub(crate) fn open_locked(
+        rt: R,
+        alloc: Global,
+        folder: &str,
+        access: Access,
+    ) -> Result<Folder<R>, LockError> {
         let path = String::with_capacity(alloc, folder.len().saturating_add(LONGEST_NAME))?;
         let handle = match File::open(&rt, folder) {
             Ok(handle) => Some(handle),
@@ -119,6 +135,7 @@ impl<R: Files<File = File> + Drop> Folder<R> {
         }
         Ok(Folder {
             rt,
+            access,
             folder: String::from_str(alloc, folder)?,
             path,
             handle,
@@ -222,9 +239,10 @@ impl<R: Files<File = File> + Drop> Folder<R> {
 
     // syncs a file's bytes; answers whether the file is there
     fn sync_bytes(&mut self, number: u32) -> io::Result<bool> {
+        let access = self.access;
         match self.find(number)? {
             Some(file) => {
-                file.sync_data()?;
+                synced(access, file.sync_data())?;
                 Ok(true)
             }
             None => Ok(false),
@@ -235,7 +253,7 @@ impl<R: Files<File = File> + Drop> Folder<R> {
     fn sync_names(&mut self) -> io::Result<()> {
         if let Some(handle) = &self.handle {
             if self.has_news {
-                handle.sync_all()?;
+                synced(self.access, handle.sync_all())?;
                 self.has_news = false;
             }
         }
@@ -277,6 +295,9 @@ impl<R: Files<File = File> + Drop> Folder<R> {
 
     // the file of a number, which is made if it isn't there
     fn make(&mut self, number: u32) -> io::Result<&File> {
+        if self.access == Access::ReadOnly {
+            return Err(ErrorKind::ReadOnlyFilesystem.into());
+        }
         if self.find(number)?.is_none() {
             let mut how = File::options();
             how.create(true);
@@ -297,14 +318,14 @@ impl<R: Files<File = File> + Drop> Folder<R> {
         }
     }
 
-    // opens a file to read and to write, if it is there or is made; there is none after the last one, and none in a
-    // folder that isn't locked
+    // opens a file to read and, if the access allows it, to write, if it is there or is made; there is none after the
+    // last one, and none in a folder that isn't locked
     fn open(&mut self, number: u32, how: OpenOptions) -> io::Result<()> {
         if number >= MOST_FILES || self.handle.is_none() {
             return Ok(());
         }
         let mut how = how;
-        how.read(true).write(true);
+        how.read(true).write(self.access == Access::ReadWrite);
         self.name(number)?;
         match how.open(&self.rt, self.path.as_str()) {
             Ok(file) => {
@@ -325,6 +346,22 @@ impl<R: Files<File = File> + Drop> Folder<R> {
         write!(self.path, "/{}", FileName { number })?;
         Ok(())
     }
+}
+
+// what a sync of a file or a folder answered; a medium that takes no writes has nothing to sync, and may say so
+fn synced(access: Access, told: io::Result<()>) -> io::Result<()> {
+    match told {
+        Err(error) if access == Access::ReadOnly && has_no_sync(error.kind()) => Ok(()),
+        told => told,
+    }
+}
+
+// whether this is the answer of a medium that takes no writes to a sync
+fn has_no_sync(kind: ErrorKind) -> bool {
+    matches!(
+        kind,
+        ErrorKind::ReadOnlyFilesystem | ErrorKind::InvalidInput
+    )
 }
 
 // takes the lock on a folder, if no other program has it

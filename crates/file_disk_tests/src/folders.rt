@@ -154,3 +154,25 @@ fn a_folder_that_is_made_later_is_not_locked_and_stays_empty(rt: HostRuntime) ->
     fs::remove_dir_all(&rt, folder)?;
     Ok(())
 }
+
+#[test]
+fn a_folder_that_is_only_read_stays_as_it_was(rt: HostRuntime) -> Result<(), Fail> {
+    let folder = "/tmp/regtx_tests_files_read";
+    fresh(&rt, folder)?;
+    fs::write(&rt, "/tmp/regtx_tests_files_read/journal", [3, 4])?;
+    let mut disk: Held<'_> = FileDisk::open_read_only(&rt, rt.alloc(), folder)?;
+    assert!(&rt; matches!(held(&rt, folder), Err(LockError::InUse)));
+    assert_eq!(&rt;
+        bytes(&mut disk, JOURNAL),
+        Ok(([3, 4, 0, 0, 0, 0, 0, 0], 2))
+    );
+    assert_eq!(&rt; disk.sync(JOURNAL), Ok(()));
+    assert_eq!(&rt; disk.write_at(JOURNAL, 0, &[1]), Err(Failed));
+    assert_eq!(&rt; disk.cut(JOURNAL, 0), Err(Failed));
+    assert_eq!(&rt; disk.write_at(PRIMARY, 0, &[1]), Err(Failed));
+    let journal = fs::read(&rt, "/tmp/regtx_tests_files_read/journal")?;
+    assert_eq!(&rt; &journal[..], &[3, 4][..]);
+    assert!(&rt; fs::metadata(&rt, "/tmp/regtx_tests_files_read/hive00.dat").is_err());
+    fs::remove_dir_all(&rt, folder)?;
+    Ok(())
+}
