@@ -1,0 +1,5 @@
+pub mod Sequences
+pub mod Deletions
+pub mod Refused
+pub mod Answered
+pub mod Removed

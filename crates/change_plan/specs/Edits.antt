@@ -1,0 +1,58 @@
+-- Which operations an edit asks for on trees, and why it is refused.
+use Rattle.std.specs.Prelude.{◌≡◌, ◌⊎◌, ℕ, true, false, List, [], ◌∷◌, None, IsSome, Ok, Err, length}
+use Rattle.std.specs.List.{All}
+use Rattle.refusals.specs.declared.refusal.Refusal.{Refusal}
+use Rattle.refusals.specs.declared.refusal.Refusal.TheVariants.{BadName, Fixed, TooDeep}
+use Rattle.refusals.specs.declared.limits.TheConstants.{MOST_PATH_NAMES}
+use Rattle.reg_names.specs.Names.{folded_path, is_key_name}
+use Rattle.reg_tree_parts.specs.Nodes.{begins_path}
+use Rattle.reg_tree.specs.Maps.{TreeMap}
+use Rattle.reg_tree.specs.Judgement.{applied, legal}
+use Rattle.reg_tree.specs.TreeLists.{info_in, value_in}
+use Rattle.reg_tree.specs.declared.op.Op.{Op}
+use Rattle.reg_tree.specs.declared.op.Op.TheVariants.{DeleteKey, DeleteValue}
+use Rattle.reg_tree.specs.declared.op.Legality.TheVariants.{Legal, Opened}
+use Rattle.store_model.specs.Invariant.{AreLegalChanges}
+use Rattle.change_plan.specs.declared.edit.Edit.{Edit}
+use Rattle.change_plan.specs.declared.edit.Edit.TheVariants.{Operation, RemoveValue, RemoveKey}
+
+-- an operation asks for itself, if it is legal; for nothing, if it creates a key that is there
+abbrev pub OperationAsks : List TreeMap → Op → List Op → Type 0
+OperationAsks trees op ops = ((legal trees op ≡ Ok Legal) × (ops ≡ op ∷ [])) ⊎ ((legal trees op ≡ Ok Opened) × (ops ≡ []))
+
+-- an operation deletes a key at a path or below it
+abbrev pub DeletesBelow : ℕ → List (List ℕ) → Op → Type 0
+DeletesBelow hive path op = (deleted : List (List ℕ)) × (op ≡ DeleteKey hive deleted) × (begins_path (folded_path path) (folded_path deleted) ≡ true)
+
+-- Operations remove a key with all keys below it: each is legal on the trees after those before it, and deletes the key
+-- or one below it; and then the key isn't there.
+pub record RemovesKey (trees : List TreeMap) (moment hive : ℕ) (path : List (List ℕ)) (ops : List Op) : Type 0 where
+  pub legal : AreLegalChanges trees ops moment
+  pub below : All (DeletesBelow hive path) ops
+  pub gone : info_in (applied trees ops moment) hive (folded_path path) ≡ None
+
+-- the operations that an edit asks for, on trees at a moment
+abbrev pub EditAsks : List TreeMap → ℕ → Edit → List Op → Type 0
+EditAsks trees moment (Operation op) ops = OperationAsks trees op ops
+EditAsks trees moment (RemoveValue hive path name) ops =
+    ((value_in trees hive (folded_path path) name ≡ None) × (ops ≡ []))
+    ⊎ (IsSome (value_in trees hive (folded_path path) name) × OperationAsks trees (DeleteValue hive path name) ops)
+EditAsks trees moment (RemoveKey hive path) ops = RemovesKey trees moment hive path ops
+
+-- Why a key isn't removed with all keys below it.
+pub data RemovalRefused (trees : List TreeMap) (moment hive : ℕ) (path : List (List ℕ)) : Refusal → Type 0 where
+  -- it is the root
+  is_root : path ≡ [] → RemovalRefused trees moment hive path Fixed
+  -- after legal deletions of others the deletion of a key, at the path or below it, isn't legal
+  is_kept : (why : Refusal) (ops : List Op) (kept : List (List ℕ)) → AreLegalChanges trees ops moment → All (DeletesBelow hive path) ops
+      → begins_path (folded_path path) (folded_path kept) ≡ true → legal (applied trees ops moment) (DeleteKey hive kept) ≡ Err why → RemovalRefused trees moment hive path why
+  -- a key below it has a name that no call may name
+  is_unnamed : (name : List ℕ) → is_key_name name ≡ false → RemovalRefused trees moment hive path BadName
+  -- a key below it lies deeper than any path leads
+  is_deep : (way : List (List ℕ)) → begins_path (folded_path path) (folded_path way) ≡ true → length way ≡ MOST_PATH_NAMES → RemovalRefused trees moment hive path TooDeep
+
+-- why an edit is refused
+abbrev pub EditRefused : List TreeMap → ℕ → Edit → Refusal → Type 0
+EditRefused trees moment (Operation op) why = legal trees op ≡ Err why
+EditRefused trees moment (RemoveValue hive path name) why = legal trees (DeleteValue hive path name) ≡ Err why
+EditRefused trees moment (RemoveKey hive path) why = RemovalRefused trees moment hive path why
