@@ -14,7 +14,7 @@ use store_model::{Event, Reply};
 
 /// Makes steps of the journal until there is a receipt of the change of this number, which was accepted. Refused with
 /// the refusal of the first question or step that is refused.
-pub(crate) fn wait<D: Disk>(engine: &mut Engine<D>, number: u64) -> Result<(), Refusal>
+pub fn wait<D: Disk>(engine: &mut Engine<D>, number: u64) -> Result<(), Refusal>
     requires { number ≤ last_number engine.old.machine }
     ensures later { IsLater D.faithful D.failures engine.old engine.new }
     ensures waited { MatchResult result (λ _. IsWaited engine.old.machine number None engine.new.machine)

@@ -9,7 +9,7 @@ use engine::Engine;
 use store_model::{Event, Reply};
 
 /// Asks a store one event. It promises only the part of the store's promises that the run of a script relies on.
-pub(crate) fn ask<D: Disk>(engine: &mut Engine<D>, event: Event) -> Reply
+pub fn ask<D: Disk>(engine: &mut Engine<D>, event: Event) -> Reply
     ensures step { Step engine.old.machine event result engine.new.machine }
     ensures nears_durable { event ≡ Event.JournalStep → IsNotRefused result → HasPending engine.old.machine →
         NearsDurable engine.old.machine engine.old.left engine.new.machine engine.new.left }

@@ -25,7 +25,9 @@ mod store_setup;
 pub use background_work::{
     BUSY_ROOM, FlushPolicy, frees_room, next_step, run_until_idle, waits_for_disk,
 };
+pub use durable_wait::wait;
 pub use end_of_script::EndOfScript;
+pub use engine_call::ask;
 pub use interpreter::Interpreter;
 pub use labels::Labels;
 pub use operation::{Operation, operation_of};
