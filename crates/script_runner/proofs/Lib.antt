@@ -6,5 +6,5 @@ mod LineEnds
 pub mod Runs
 mod Waited
 mod Worked
-mod Later
+pub mod Later
 mod Ran
