@@ -1,0 +1,3 @@
+mod Scans
+mod Digits
+mod Values

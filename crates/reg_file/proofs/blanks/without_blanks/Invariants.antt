@@ -1,0 +1,9 @@
+use Rattle.std.proofs.Common.{◌≡◌, length, reverse}
+use Rattle.reg_file.specs.Scanning.{skip_blanks}
+use Rattle.reg_file.proofs.blanks.without_blanks.Given as goal
+
+abbrev pub invariant-loop-unit : goal.invariant-loop-unit
+invariant-loop-unit l = skip_blanks (reverse l.front) ≡ skip_blanks (reverse l.line)
+
+abbrev pub decreases-loop-unit : goal.decreases-loop-unit
+decreases-loop-unit l = length l.front

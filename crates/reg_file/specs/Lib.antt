@@ -1,0 +1,5 @@
+pub mod Scanning
+pub mod Views
+pub mod Reading
+pub mod Lines
+pub mod Faults

@@ -1,0 +1,19 @@
+//! Registration files.
+#![tactic(auto)]
+
+mod blanks;
+mod fault;
+mod hex;
+mod key_line;
+mod line_scan;
+mod lines;
+mod list;
+mod quote;
+mod scan;
+mod statement;
+mod text;
+mod value_line;
+
+pub use fault::{Fault, FaultKind};
+pub use statement::{NumberedStatement, Statement};
+pub use text::{Utf16Text, ValueData};
