@@ -1,3 +1,4 @@
 mod Scans
 mod Digits
 mod Values
+mod Texts

@@ -1,7 +1,7 @@
 -- What is scanned of a line, step by step.
 use Rattle.std.proofs.Common.{◌≡◌, ◌≢◌, ℕ, ◌+◌, ◌-◌, ◌*◌, ◌==◌, Bool, true, false, cond, ◌||◌, List, [], ◌∷◌, ◌++◌, Option, Some, None, refl, sym, ◌∙◌, ap, append_assoc}
 use Rattle.std.proofs.lemmas.Bool.Decides.{Decides-eqb}
-use Rattle.reg_file.specs.Scanning.{QuoteScan, QuoteCloses, QuoteStaysOpen, NoQuote, quote_at, onto_quote, is_blank, ends_line, digits_from, digit_of, pair_from, pair_at, onto_pair, Place, Before, Within, Behind, list_at, ListScan, ListEnds, ListGoesOn, NoList, onto_list}
+use Rattle.reg_file.specs.Scanning.{QuoteScan, QuoteCloses, QuoteStaysOpen, NoQuote, quote_at, onto_quote, is_blank, ends_line, digits_from, digit_of, pair_from, pair_at, onto_pair, Before, Within, Behind, list_at, ListScan, ListEnds, ListGoesOn, NoList, onto_list}
 
 pub other_than : (a b : ℕ) → a ≢ b → (a == b) ≡ false
 other_than a b h = test (a == b) refl

@@ -2,4 +2,5 @@ pub mod Scanning
 pub mod Views
 pub mod Reading
 pub mod Lines
+pub mod Files
 pub mod Faults

@@ -3,6 +3,7 @@
 
 mod blanks;
 mod fault;
+mod file;
 mod hex;
 mod key_line;
 mod line_scan;
@@ -12,8 +13,10 @@ mod quote;
 mod scan;
 mod statement;
 mod text;
+mod turn;
 mod value_line;
 
 pub use fault::{Fault, FaultKind};
+pub use file::{RegFile, Statements, parse};
 pub use statement::{NumberedStatement, Statement};
 pub use text::{Utf16Text, ValueData};

@@ -1,7 +1,7 @@
 //! The lines of a file in units of UTF-16.
-ghost use Rattle.std.specs.Prelude.{◌≡◌, ◌∷◌, ◌+◌, ◌*◌, ◌==◌, ◌<◌, ◌≤◌, ◌++◌, [], Some, None, length, IfOk, OnOk, ◌⊎◌, flat_map, chars};
+ghost use Rattle.std.specs.Prelude.{◌≡◌, ◌∷◌, ◌+◌, ◌*◌, ◌==◌, ◌<◌, ◌≤◌, ◌++◌, [], Some, None, length, IfOk, OnOk, ◌⊎◌, flat_map, chars, map};
 ghost use Rattle.std.specs.Option.{option_copied};
-ghost use Rattle.std.specs.List.{slice_split};
+ghost use Rattle.std.specs.List.{slice_split, position};
 ghost use Rattle.std.specs.Char.Escape.{encode_utf16};
 ghost use Rattle.reg_file.specs.Lines.{lines_left, file_lines, unit_of, utf16_lines, utf8_line, onto_lines};
 ghost use Rattle.reg_file.specs.Views.{LineGives, bytes_left};
@@ -91,10 +91,7 @@ fn read_utf8<'a>(
     ensures line { IfOk result (λ read. LineGives read.0 (lines_left Encoding.Utf8 (Some bytes.now)) line.new.items (lines_left Encoding.Utf8 (option_copied read.1))) }
     ensures left { IfOk result (λ read. bytes_left (option_copied read.1) ≤ length bytes.now) }
 {
-    let (first, rest) = match bytes.iter().position(|byte| *byte == LINE_FEED) {
-        Some(at) => (&bytes[..at], Some(&bytes[at + 1..])),
-        None => (bytes, None),
-    };
+    let (first, rest) = first_line(bytes);
     match str::from_utf8(first) {
         Ok(text) => {
             push_text(line, text)?;
@@ -102,6 +99,25 @@ fn read_utf8<'a>(
         }
         Err(_) => Ok((NextLine::NotText, rest)),
     }
+}
+
+// the bytes before the first line feed, and those behind it, if there is one
+fn first_line(bytes: &[u8]) -> (&[u8], Option<&[u8]>)
+    ensures lines { map utf8_line (slice_split (λ byte. byte == 10) bytes.now)
+        ≡ utf8_line result.0.now ∷ lines_left Encoding.Utf8 (option_copied result.1) }
+    ensures left { bytes_left (option_copied result.1) ≤ length bytes.now }
+{
+    match line_feed_in(bytes) {
+        Some(at) => (&bytes[..at], Some(&bytes[at + 1..])),
+        None => (bytes, None),
+    }
+}
+
+// the index of the first line feed
+fn line_feed_in(bytes: &[u8]) -> Option<usize>
+    ensures { result ≡ position (λ byte. byte == 10) bytes.now }
+{
+    bytes.iter().position(|byte| *byte == LINE_FEED)
 }
 
 // a text in units of UTF-16

@@ -1,4 +1,6 @@
 //! The statements of a registration file.
+ghost use Rattle.std.specs.Prelude.{◌≡◌};
+ghost use Rattle.reg_file.specs.Files.{wants_key, key_after};
 
 use crate::text::{Utf16Text, ValueData};
 
@@ -29,6 +31,29 @@ pub enum Statement {
         /// The value's name; `@` is the empty one.
         name: Utf16Text,
     },
+}
+
+impl Statement {
+    /// Whether it is of a value, so that a key has to be current.
+    pub(crate) fn wants_key(&self) -> bool
+        ensures { result ≡ wants_key self.now }
+    {
+        match self {
+            Statement::CreateKey { .. } | Statement::DeleteKey { .. } => false,
+            Statement::SetValue { .. } | Statement::DeleteValue { .. } => true,
+        }
+    }
+
+    /// Whether a key is current behind it.
+    pub(crate) fn key_after(&self, has_key: bool) -> bool
+        ensures { result ≡ key_after self.now has_key }
+    {
+        match self {
+            Statement::CreateKey { .. } => true,
+            Statement::DeleteKey { .. } => false,
+            Statement::SetValue { .. } | Statement::DeleteValue { .. } => has_key,
+        }
+    }
 }
 
 /// A statement and where it stands.

@@ -1,5 +1,4 @@
-use Rattle.std.proofs.Common.{◌≡◌, ◌<◌, arith, ◌∙◌, sym, ap, Some, subst}
-use Rattle.std.specs.Prelude.{IfSome}
+use Rattle.std.proofs.Common.{◌<◌, arith, ◌∙◌, sym, ap, Some}
 use Rattle.reg_file.proofs.Digits.{one_digit_more}
 use Rattle.reg_file.proofs.Scans.{digits_more}
 use Rattle.reg_file.proofs.hex.digits_behind.Goals as goal

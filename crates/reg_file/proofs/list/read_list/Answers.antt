@@ -1,4 +1,4 @@
-use Rattle.std.proofs.Common.{◌≡◌, ◌∙◌, sym, ap, ◌∷◌, false}
+use Rattle.std.proofs.Common.{◌∙◌, sym, ap, ◌∷◌, false}
 use Rattle.reg_file.proofs.Scans.{list_more, list_behind}
 use Rattle.reg_file.proofs.list.read_list.Goals as goal
 

@@ -1,4 +1,4 @@
-use Rattle.std.proofs.Common.{◌≡◌, ◌∙◌}
+use Rattle.std.proofs.Common.{◌∙◌}
 use Rattle.std.proofs.lemmas.Result.{IfOk-weaker}
 use Rattle.reg_file.proofs.Values.{data_quote}
 use Rattle.reg_file.proofs.value_line.scan_data.Goals as goal

@@ -1,0 +1,197 @@
+//! Registration files.
+ghost use Rattle.std.specs.Prelude.{◌≡◌, ◌+◌, ◌<◌, ◌≤◌, ◌^◌, [], ◌∷◌, ◌++◌, IfOk, OnOk, Some, None, false, length};
+ghost use Rattle.std.specs.Option.{option_copied};
+ghost use Rattle.reg_file.specs.Files.{reg_file_of, lines_file, file_from, header_of, is_header, ends_behind, onto_file, first_of, end_fault};
+ghost use Rattle.reg_file.specs.Lines.{lines_left};
+ghost use Rattle.reg_file.specs.Views.{bytes_left};
+
+use crate::blanks::{ends_line, skip_blanks, strip};
+use crate::fault::{Fault, FaultKind};
+use crate::lines::{Lines, NextLine};
+use crate::statement::NumberedStatement;
+use crate::turn::{Item, Turn, take_line};
+use std::alloc::{AllocError, Global};
+use std::marker::Model;
+
+/// Statements in the order of the file.
+#[derive(Drop)]
+pub struct Statements {
+    statements: Vec<NumberedStatement>,
+}
+
+impl Model for Statements {
+    ghost use Rattle.std.specs.Prelude.{List};
+    ghost use Rattle.reg_file.specs.declared.statement.NumberedStatement.{NumberedStatement};
+
+    ghost Value = { List NumberedStatement };
+
+    ghost view = { λ inside. inside.statements.items };
+}
+
+impl Statements {
+    fn new(alloc: Global) -> Statements
+        ensures { result ≡ [] }
+    {
+        Statements {
+            statements: Vec::new(alloc),
+        }
+    }
+
+    fn push(&mut self, statement: NumberedStatement) -> Result<(), AllocError>
+        ensures { OnOk result (self.new ≡ self.old ++ statement ∷ []) }
+    {
+        self.statements.push(statement)?;
+        Ok(())
+    }
+
+    /// The statements in order.
+    pub fn as_slice(&self) -> &[NumberedStatement]
+        ensures { result.now ≡ self.now }
+    {
+        &self.statements
+    }
+
+    /// The statements as a vector, without taking memory.
+    pub fn into_vec(self) -> Vec<NumberedStatement>
+        ensures { result.items ≡ self }
+    {
+        self.statements
+    }
+}
+
+/// What a registration file has.
+#[derive(Drop)]
+pub struct RegFile {
+    /// The statements before the first fault, or all.
+    pub statements: Statements,
+    /// The first fault, if there is one.
+    pub fault: Option<Fault>,
+}
+
+/// The statements of a file's bytes in order, up to its first fault, and that fault.
+pub fn parse(alloc: Global, bytes: &[u8]) -> Result<RegFile, AllocError>
+    ensures { IfOk result (λ file. file ≡ reg_file_of bytes.now) }
+{
+    let mut lines = Lines::new(bytes);
+    let mut line = Vec::new(alloc);
+    match lines.next_line(&mut line)? {
+        NextLine::Text => match header(&line) {
+            Some(old) => read_statements(alloc, lines, old),
+            None => Ok(stopped(alloc, 1, FaultKind::NoHeader)),
+        },
+        NextLine::NotText => Ok(stopped(alloc, 1, FaultKind::NotText)),
+        NextLine::End => Ok(stopped(alloc, 1, FaultKind::NoHeader)),
+    }
+}
+
+// a file that a fault ends
+fn stopped(alloc: Global, line: u64, kind: FaultKind) -> RegFile
+    ensures { result ≡ record { statements = []; fault = Some (record { line = line; kind = kind }) } }
+{
+    let fault = Fault { line, kind };
+    RegFile {
+        statements: Statements::new(alloc),
+        fault: Some(fault),
+    }
+}
+
+// whether a line is a header, and if it is that of the old form
+fn header(line: &[u16]) -> Option<bool>
+    ensures { result ≡ header_of line.now }
+{
+    if is_header(b"REGEDIT4".as_slice(), line) {
+        Some(true)
+    } else if is_header(b"Windows Registry Editor Version 5.00".as_slice(), line) {
+        Some(false)
+    } else {
+        None
+    }
+}
+
+fn is_header(text: &[u8], line: &[u16]) -> bool
+    ensures { result ≡ is_header text.now line.now }
+{
+    match strip(text, skip_blanks(line)) {
+        Some(rest) => ends_line(rest),
+        None => false,
+    }
+}
+
+// the statements of the lines behind the header
+fn read_statements(alloc: Global, lines: Lines, old: bool) -> Result<RegFile, AllocError>
+    requires { bytes_left (option_copied lines.rest) + 2 < 2 ^ 64 }
+    ensures { IfOk result (λ file. file ≡ file_from old false 2 None (lines_left lines.entry.encoding (option_copied lines.entry.rest))) }
+{
+    let mut lines = lines;
+    let mut statements = Statements::new(alloc);
+    let mut line = Vec::new(alloc);
+    let mut number = 2;
+    let mut has_key = false;
+    let mut item = None;
+    'lines: loop {
+        match lines.next_line(&mut line)? {
+            NextLine::Text => {}
+            NextLine::NotText => {
+                return Ok(RegFile {
+                    statements,
+                    fault: Some(not_text(number, item)),
+                });
+            }
+            NextLine::End => {
+                return Ok(RegFile {
+                    statements,
+                    fault: unfinished(item),
+                });
+            }
+        }
+        match take_line(alloc, old, has_key, number, item, &line)? {
+            Turn::Next {
+                has_key: key,
+                item: pending,
+            } => {
+                has_key = key;
+                item = pending;
+            }
+            Turn::Done {
+                has_key: key,
+                statement,
+            } => {
+                statements.push(statement)?;
+                has_key = key;
+                item = None;
+            }
+            Turn::Stop { fault } => {
+                return Ok(RegFile {
+                    statements,
+                    fault: Some(fault),
+                });
+            }
+        }
+        number += 1;
+    }
+}
+
+// a line that is no text, in the statement that goes on, if one does
+fn not_text(number: u64, item: Option<Item>) -> Fault
+    ensures { result ≡ record { line = first_of number item; kind = FaultKind.NotText } }
+{
+    let line = match item {
+        None => number,
+        Some(item) => item.first_line,
+    };
+    let kind = FaultKind::NotText;
+    Fault { line, kind }
+}
+
+// the fault of a file that ends within a statement
+fn unfinished(item: Option<Item>) -> Option<Fault>
+    ensures { result ≡ end_fault item }
+{
+    match item {
+        None => None,
+        Some(item) => Some(Fault {
+            line: item.first_line,
+            kind: FaultKind::NotUnderstood,
+        }),
+    }
+}
