@@ -10,7 +10,7 @@ pub(crate) const SEPARATOR: u16 = 0x5c;
 const _: () = prove!(SEPARATOR == 0x5c);
 
 /// Whether a path's text is the prefix, or begins with the prefix and a backslash.
-pub(crate) fn begins(prefix: &[u16], text: &[u16]) -> bool
+pub(crate) fn begins(prefix: &[u8], text: &[u16]) -> bool
     ensures { result ≡ begins prefix.now text.now }
 {
     let mut rest = text;
@@ -18,7 +18,7 @@ pub(crate) fn begins(prefix: &[u16], text: &[u16]) -> bool
         let [next, more @ ..] = rest else {
             return false;
         };
-        if folded_unit(*unit) != folded_unit(*next) {
+        if folded_unit(u16::from(*unit)) != folded_unit(*next) {
             return false;
         }
         rest = more;
@@ -34,4 +34,13 @@ fn is_parted(rest: &[u16]) -> bool
         Some(unit) => *unit == SEPARATOR,
         None => true,
     }
+}
+
+/// Whether a prefix is another one, or begins it before a backslash.
+pub(crate) fn begins_prefix(prefix: &[u8], other: &[u8]) -> bool {
+    if other.len() < prefix.len() {
+        return false;
+    }
+    let (front, rest) = other.split_at(prefix.len());
+    prefix.eq_ignore_ascii_case(front) && rest.first().is_none_or(|byte| *byte == b'\\')
 }

@@ -10,8 +10,8 @@ const _: () = prove!(LAST_HIVE == 15);
 /// The text with which the paths of a hive begin.
 #[derive(Drop)]
 pub struct Prefix {
-    /// The text's units: names joined by one backslash each.
-    pub text: Vec<u16>,
+    /// The text's units, each of which is a byte from 0x20 to 0x7e: names joined by one backslash each.
+    pub text: Vec<u8>,
     /// The hive's number.
     pub hive: u8,
 }
@@ -48,7 +48,7 @@ impl Prefix {
         if !is_prefix_name(name) {
             return Err(WordError::NotUnderstood);
         }
-        let text = widened(alloc, name)?;
+        let text = name.to_vec(alloc)?;
         Ok(Prefix { text, hive })
     }
 }
@@ -56,11 +56,11 @@ impl Prefix {
 impl Prefix {
     /// The prefix that each hive has, `HIVE` with its number.
     pub(crate) fn of_hive(alloc: Global, hive: u8) -> Result<Prefix, AllocError> {
-        let mut text = widened(alloc, b"HIVE")?;
+        let mut text = b"HIVE".to_vec(alloc)?;
         if hive >= 10 {
-            text.push(u16::from(b'0' + hive / 10 % 10))?;
+            text.push(b'0' + hive / 10 % 10)?;
         }
-        text.push(u16::from(b'0' + hive % 10))?;
+        text.push(b'0' + hive % 10)?;
         Ok(Prefix { text, hive })
     }
 }
@@ -106,13 +106,4 @@ fn is_prefix_name(name: &[u8]) -> bool {
         && name
             .split(|byte| *byte == b'\\')
             .all(|part| !part.is_empty())
-}
-
-// each byte as the unit of its number
-fn widened(alloc: Global, bytes: &[u8]) -> Result<Vec<u16>, AllocError> {
-    let mut units = Vec::with_capacity(alloc, bytes.len())?;
-    for byte in bytes {
-        units.push(u16::from(*byte))?;
-    }
-    Ok(units)
 }

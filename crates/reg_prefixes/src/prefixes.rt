@@ -3,7 +3,7 @@ ghost use Rattle.std.specs.Prelude.{◌≡◌};
 ghost use Rattle.std.specs.Option.{option_map};
 ghost use Rattle.reg_prefixes.specs.Places.{place_in, shown_in};
 
-use crate::matching::begins;
+use crate::matching::{begins, begins_prefix};
 use crate::prefix::{Prefix, WordError};
 use refusals::limits::MOST_HIVES;
 use std::alloc::{AllocError, Global};
@@ -68,7 +68,7 @@ impl Prefixes {
     }
 
     /// The prefix by which a hive is shown, its first one. None if no hive has this number.
-    pub fn shown(&self, hive: u8) -> Option<&[u16]>
+    pub fn shown(&self, hive: u8) -> Option<&[u8]>
         ensures { option_map (λ text. text.now) result ≡ shown_in self.now hive }
     {
         for prefix in &self.list {
@@ -92,7 +92,7 @@ fn push_defaults(alloc: Global, list: &mut Vec<Prefix>) -> Result<(), AllocError
 fn are_apart(list: &[Prefix]) -> bool {
     for at in 0..list.len() {
         for other in 0..list.len() {
-            if at != other && begins(&list[at].text, &list[other].text) {
+            if at != other && begins_prefix(&list[at].text, &list[other].text) {
                 return false;
             }
         }
