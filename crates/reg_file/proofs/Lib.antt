@@ -2,3 +2,7 @@ mod Scans
 mod Digits
 mod Values
 mod Texts
+mod BlankRuns
+mod QuotedText
+mod HexNumbers
+mod ListLines

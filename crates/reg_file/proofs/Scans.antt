@@ -10,7 +10,7 @@ other_than a b h = test (a == b) refl
     test true e = absurd (h ((Decides-eqb a b).0 e))
     test false e = refl
 
-pair_same : (a b : ℕ) (x y : List ℕ) → ◌≡◌ {A = Option (ℕ × List ℕ)} (Some (a, x)) (Some (b, y)) → (a ≡ b) × (x ≡ y)
+pub pair_same : (a b : ℕ) (x y : List ℕ) → ◌≡◌ {A = Option (ℕ × List ℕ)} (Some (a, x)) (Some (b, y)) → (a ≡ b) × (x ≡ y)
 pair_same a b x y e = let same : ◌≡◌ {A = ℕ × List ℕ} (a, x) (b, y) = cc in (ap (λ p. p.0) same, ap (λ p. p.1) same)
 
 -- a unit more in front
@@ -47,7 +47,7 @@ no_pair unit (low ∷ rest) e = none (digit_of unit) (digit_of low) rest e
     none None second rest e = refl
 
 -- a unit that is no blank and no backslash begins a pair
-at_pair : (unit : ℕ) (others : List ℕ) → is_blank unit ≡ false → (unit ≢ 92) → list_at Before (unit ∷ others) ≡ list_at (Within (digit_of unit)) others
+pub at_pair : (unit : ℕ) (others : List ℕ) → is_blank unit ≡ false → (unit ≢ 92) → list_at Before (unit ∷ others) ≡ list_at (Within (digit_of unit)) others
 at_pair unit others blank backslash = rw (blank, other_than unit 92 backslash) refl
 
 pub list_pair : (units : List ℕ) (unit : ℕ) (others : List ℕ) (byte : ℕ) (behind : List ℕ) → units ≡ unit ∷ others → is_blank unit ≡ false → (unit ≢ 92) → pair_at units ≡ Some (byte, behind) → list_at Before units ≡ onto_list (byte ∷ []) (list_at Behind behind)
@@ -76,12 +76,13 @@ quote_escaped front new unit others rest e f escaped =
     at_unit : quote_at true (unit ∷ others) ≡ onto_quote (unit ∷ []) (quote_at false others)
     at_unit = rw escaped refl
 
+-- a digit of a number
+pub digit_step : (left number unit digit : ℕ) (others : List ℕ) → digit_of unit ≡ Some digit → left ≢ 0 → digits_from left number (unit ∷ others) ≡ digits_from (left - 1) (16 * number + digit) others
+digit_step left number unit digit others d some = rw (d, other_than left 0 some) refl
+
 -- one more digit of a number
 pub digits_more : (left number unit digit : ℕ) (others rest : List ℕ) → rest ≡ unit ∷ others → digit_of unit ≡ Some digit → left ≢ 0 → digits_from (left - 1) (16 * number + digit) others ≡ digits_from left number rest
-digits_more left number unit digit others rest e d some = sym (ap (digits_from left number) e ∙ at_digit)
-  where
-    at_digit : digits_from left number (unit ∷ others) ≡ digits_from (left - 1) (16 * number + digit) others
-    at_digit = rw (d, other_than left 0 some) refl
+digits_more left number unit digit others rest e d some = sym (ap (digits_from left number) e ∙ digit_step left number unit digit others d some)
 
 -- a line of a list that goes on behind a pair and a comma
 pub list_more : (front new : List ℕ) (unit byte : ℕ) (others rest behind more : List ℕ) → rest ≡ unit ∷ others → is_blank unit ≡ false → unit ≢ 92 → pair_at rest ≡ Some (byte, behind) → new ≡ front ++ byte ∷ [] → behind ≡ 44 ∷ more → onto_list new (list_at Before more) ≡ onto_list front (list_at Before rest)

@@ -4,3 +4,4 @@ pub mod Reading
 pub mod Lines
 pub mod Files
 pub mod Faults
+pub mod Grammar

@@ -1,0 +1,147 @@
+-- Which lines are which statement, stated as relations. A line has no line feed; what parts two lines is one.
+use Rattle.std.specs.Prelude.{◌≡◌, ◌≢◌, ℕ, ◌+◌, ◌*◌, ◌==◌, ◌<◌, ◌≤◌, not, ◌⊎◌, ◌||◌, Bool, true, false, if◌then◌else◌, List, [], ◌∷◌, ◌++◌, length, Option, Some, None, codes, flat_map, map, option_map, option_to_list}
+use Rattle.std.specs.List.{list_all, list_any, AllByRecursion}
+use Rattle.std.specs.Int.{w16, w32, to_le_bytes}
+use Rattle.refusals.specs.declared.limits.TheConstants.{MOST_ELEMENT_BYTES}
+use Rattle.reg_file.specs.Scanning.{is_blank, digit_of}
+use Rattle.reg_file.specs.Reading.{text_data, is_text_kind}
+use Rattle.reg_file.specs.Files.{key_after, wants_key, has_high}
+use Rattle.reg_file.specs.declared.statement.Statement.{Statement}
+use Rattle.reg_file.specs.declared.statement.Statement.TheVariants.{CreateKey, DeleteKey, SetValue, DeleteValue}
+use Rattle.reg_file.specs.declared.statement.NumberedStatement.{NumberedStatement}
+
+-- blanks and tabs
+abbrev pub AreBlanks : List ℕ → Type 0
+AreBlanks units = AllByRecursion (λ unit. is_blank unit ≡ true) units
+
+-- what may stand at the end of a line: blanks, and a carriage return behind them
+pub record IsLineEnd (units : List ℕ) : Type 0 where
+  pub blanks : List ℕ
+  pub are_blanks : AreBlanks blanks
+  pub parsed : (units ≡ blanks) ⊎ (units ≡ blanks ++ 13 ∷ [])
+
+-- text in quotes: a quote and a backslash have a backslash before them, and no unit is 0
+abbrev pub quoted_unit : ℕ → List ℕ
+quoted_unit unit = if unit == 34 || unit == 92 then 92 ∷ unit ∷ [] else unit ∷ []
+
+abbrev pub quoted : List ℕ → List ℕ
+quoted text = flat_map quoted_unit text
+
+abbrev pub HasNoZero : List ℕ → Type 0
+HasNoZero text = AllByRecursion (λ unit. unit ≢ 0) text
+
+-- a line begins with a value's name: `@` is the empty one, any other stands in quotes
+abbrev pub IsNamed : List ℕ → List ℕ → List ℕ → Type 0
+IsNamed line name rest = ((line ≡ 64 ∷ rest) × (name ≡ [])) ⊎ ((line ≡ 34 ∷ (quoted name ++ 34 ∷ rest)) × HasNoZero name)
+
+-- a line begins with a name and an equals sign, and goes on with the data
+pub record IsHead (line name rest : List ℕ) : Type 0 where
+  pub before : List ℕ
+  pub between : List ℕ
+  pub behind : List ℕ
+  pub word : List ℕ
+  pub parsed : line ≡ before ++ word
+  pub before_blanks : AreBlanks before
+  pub between_blanks : AreBlanks between
+  pub behind_blanks : AreBlanks behind
+  pub named : IsNamed word name (between ++ 61 ∷ (behind ++ rest))
+
+-- the lines of a text behind its opening quote: line ends within it are line feeds of the text
+abbrev pub IsText : List (List ℕ) → List ℕ → Type 0
+IsText [] text = ⊥
+IsText (line ∷ []) text = (end : List ℕ) × (line ≡ quoted text ++ 34 ∷ end) × HasNoZero text × IsLineEnd end
+IsText (line ∷ next ∷ lines) text = (front : List ℕ) × (back : List ℕ) × (line ≡ quoted front) × HasNoZero front × IsText (next ∷ lines) back × (text ≡ front ++ 10 ∷ back)
+
+-- hex digits in either case go on a number
+abbrev pub GoOn : ℕ → List ℕ → ℕ → Type 0
+GoOn front [] number = number ≡ front
+GoOn front (unit ∷ units) number = (digit : ℕ) × (digit_of unit ≡ Some digit) × GoOn (16 * front + digit) units number
+
+-- a number of 1 to 8 hex digits
+pub record IsNumber (digits : List ℕ) (number : ℕ) : Type 0 where
+  pub some : 0 < length digits
+  pub few : length digits ≤ 8
+  pub value : GoOn 0 digits number
+
+-- a byte as two hex digits
+pub record IsPair (pair : List ℕ) (byte : ℕ) : Type 0 where
+  pub first : ℕ
+  pub second : ℕ
+  pub high : ℕ
+  pub low : ℕ
+  pub parsed : pair ≡ first ∷ second ∷ []
+  pub high_is : digit_of first ≡ Some high
+  pub low_is : digit_of second ≡ Some low
+  pub value : byte ≡ 16 * high + low
+
+-- the last line of a list: bytes with commas between them, and blanks before any of them
+abbrev pub IsLastLine : List ℕ → List ℕ → Type 0
+IsLastLine line [] = ⊥
+IsLastLine line (byte ∷ []) = (blanks : List ℕ) × (pair : List ℕ) × (end : List ℕ) × (line ≡ blanks ++ (pair ++ end)) × AreBlanks blanks × IsPair pair byte × IsLineEnd end
+IsLastLine line (byte ∷ next ∷ bytes) = (blanks : List ℕ) × (pair : List ℕ) × (rest : List ℕ) × (line ≡ blanks ++ (pair ++ 44 ∷ rest)) × AreBlanks blanks × IsPair pair byte × IsLastLine rest (next ∷ bytes)
+
+-- any other line of a list: a comma behind each byte, and a backslash at the end
+abbrev pub IsBrokenLine : List ℕ → List ℕ → Type 0
+IsBrokenLine line [] = (blanks : List ℕ) × (end : List ℕ) × (line ≡ blanks ++ 92 ∷ end) × AreBlanks blanks × IsLineEnd end
+IsBrokenLine line (byte ∷ bytes) = (blanks : List ℕ) × (pair : List ℕ) × (rest : List ℕ) × (line ≡ blanks ++ (pair ++ 44 ∷ rest)) × AreBlanks blanks × IsPair pair byte × IsBrokenLine rest bytes
+
+-- the lines of a list with at least one byte
+abbrev pub AreBytes : List (List ℕ) → List ℕ → Type 0
+AreBytes [] bytes = ⊥
+AreBytes (line ∷ []) bytes = IsLastLine line bytes
+AreBytes (line ∷ next ∷ lines) bytes = (front : List ℕ) × (back : List ℕ) × IsBrokenLine line front × AreBytes (next ∷ lines) back × (bytes ≡ front ++ back)
+
+-- the lines of a list
+abbrev pub IsList : List (List ℕ) → List ℕ → Type 0
+IsList lines bytes = ((line : List ℕ) × (lines ≡ line ∷ []) × IsLineEnd line × (bytes ≡ [])) ⊎ AreBytes lines bytes
+
+-- the type of a list: `hex:` is 3, `hex(N):` is N
+abbrev pub IsType : List ℕ → ℕ → Type 0
+IsType word kind = ((word ≡ codes "hex:") × (kind ≡ 3)) ⊎ ((digits : List ℕ) × (word ≡ codes "hex(" ++ (digits ++ codes "):")) × IsNumber digits kind)
+
+-- the lines of a value's data behind the equals sign: a text, a number, or a list. In the old form no list has a type of text
+abbrev pub IsTextData : List ℕ → List (List ℕ) → ℕ → List ℕ → Type 0
+IsTextData line lines kind bytes = (rest : List ℕ) × (text : List ℕ) × (line ≡ 34 ∷ rest) × IsText (rest ∷ lines) text × (kind ≡ 1) × (bytes ≡ text_data text)
+
+abbrev pub IsNumberData : List ℕ → List (List ℕ) → ℕ → List ℕ → Type 0
+IsNumberData line lines kind bytes =
+    (digits : List ℕ) × (number : ℕ) × (end : List ℕ) × (line ≡ codes "dword:" ++ (digits ++ end)) × (lines ≡ []) × IsNumber digits number × IsLineEnd end × (kind ≡ 4) × (bytes ≡ to_le_bytes w32 number)
+
+abbrev pub IsListData : Bool → List ℕ → List (List ℕ) → ℕ → List ℕ → Type 0
+IsListData old line lines kind bytes = (word : List ℕ) × (rest : List ℕ) × (line ≡ word ++ rest) × IsType word kind × IsList (rest ∷ lines) bytes × (old ≡ true → is_text_kind kind ≡ false)
+
+abbrev pub IsData : Bool → List ℕ → List (List ℕ) → ℕ → List ℕ → Type 0
+IsData old line lines kind bytes = IsTextData line lines kind bytes ⊎ IsNumberData line lines kind bytes ⊎ IsListData old line lines kind bytes
+
+-- a path loses one backslash at its end
+abbrev pub IsPath : List ℕ → List ℕ → Type 0
+IsPath written path = (written ≡ path ++ 92 ∷ []) ⊎ ((written ≡ path) × ((front : List ℕ) → path ≢ front ++ 92 ∷ []))
+
+-- a line names a key: what stands between an opening bracket and the last closing one
+pub record IsKeyLine (line inside : List ℕ) : Type 0 where
+  pub before : List ℕ
+  pub end : List ℕ
+  pub parsed : line ≡ before ++ 91 ∷ (inside ++ 93 ∷ end)
+  pub before_blanks : AreBlanks before
+  pub is_end : IsLineEnd end
+
+-- the lines of a statement
+abbrev pub IsStatement : Bool → List (List ℕ) → Statement → Type 0
+IsStatement old lines (CreateKey path) = (line : List ℕ) × (written : List ℕ) × (lines ≡ line ∷ []) × IsKeyLine line written × ((rest : List ℕ) → written ≢ 45 ∷ rest) × IsPath written path
+IsStatement old lines (DeleteKey path) = (line : List ℕ) × (written : List ℕ) × (lines ≡ line ∷ []) × IsKeyLine line (45 ∷ written) × IsPath written path
+IsStatement old lines (SetValue name kind bytes) =
+    (line : List ℕ) × (rest : List ℕ) × (more : List (List ℕ)) × (lines ≡ line ∷ more) × IsHead line name rest × IsData old rest more kind bytes
+IsStatement old lines (DeleteValue name) = (line : List ℕ) × (end : List ℕ) × (lines ≡ line ∷ []) × IsHead line name (45 ∷ end) × IsLineEnd end
+
+-- a line that is empty or a comment
+abbrev pub IsBlankLine : List ℕ → Type 0
+IsBlankLine line = IsLineEnd line ⊎ ((blanks : List ℕ) × (rest : List ℕ) × (line ≡ blanks ++ 59 ∷ rest) × AreBlanks blanks)
+
+-- an entry of a file: the lines of a statement, or one line of none
+pub record Entry : Type 0 where
+  pub lines : List (List ℕ)
+  pub statement : Option Statement
+
+abbrev pub IsEntry : Bool → List (List ℕ) → Option Statement → Type 0
+IsEntry old lines None = (line : List ℕ) × (lines ≡ line ∷ []) × IsBlankLine line
+IsEntry old lines (Some statement) = IsStatement old lines statement
