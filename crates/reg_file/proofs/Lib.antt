@@ -6,3 +6,4 @@ mod BlankRuns
 mod QuotedText
 mod HexNumbers
 mod ListLines
+mod KeyLines
