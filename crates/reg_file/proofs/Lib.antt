@@ -7,3 +7,4 @@ mod QuotedText
 mod HexNumbers
 mod ListLines
 mod KeyLines
+mod Meanings

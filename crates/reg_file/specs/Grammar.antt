@@ -99,7 +99,7 @@ IsList lines bytes = ((line : List ℕ) × (lines ≡ line ∷ []) × IsLineEnd 
 abbrev pub IsType : List ℕ → ℕ → Type 0
 IsType word kind = ((word ≡ codes "hex:") × (kind ≡ 3)) ⊎ ((digits : List ℕ) × (word ≡ codes "hex(" ++ (digits ++ codes "):")) × IsNumber digits kind)
 
--- the lines of a value's data behind the equals sign: a text, a number, or a list. In the old form no list has a type of text
+-- the lines of a value's data behind the equals sign: a text, a number, or a list
 abbrev pub IsTextData : List ℕ → List (List ℕ) → ℕ → List ℕ → Type 0
 IsTextData line lines kind bytes = (rest : List ℕ) × (text : List ℕ) × (line ≡ 34 ∷ rest) × IsText (rest ∷ lines) text × (kind ≡ 1) × (bytes ≡ text_data text)
 
@@ -107,11 +107,20 @@ abbrev pub IsNumberData : List ℕ → List (List ℕ) → ℕ → List ℕ → 
 IsNumberData line lines kind bytes =
     (digits : List ℕ) × (number : ℕ) × (end : List ℕ) × (line ≡ codes "dword:" ++ (digits ++ end)) × (lines ≡ []) × IsNumber digits number × IsLineEnd end × (kind ≡ 4) × (bytes ≡ to_le_bytes w32 number)
 
-abbrev pub IsListData : Bool → List ℕ → List (List ℕ) → ℕ → List ℕ → Type 0
-IsListData old line lines kind bytes = (word : List ℕ) × (rest : List ℕ) × (line ≡ word ++ rest) × IsType word kind × IsList (rest ∷ lines) bytes × (old ≡ true → is_text_kind kind ≡ false)
+abbrev pub IsListData : List ℕ → List (List ℕ) → ℕ → List ℕ → Type 0
+IsListData line lines kind bytes = (word : List ℕ) × (rest : List ℕ) × (line ≡ word ++ rest) × IsType word kind × IsList (rest ∷ lines) bytes
 
-abbrev pub IsData : Bool → List ℕ → List (List ℕ) → ℕ → List ℕ → Type 0
-IsData old line lines kind bytes = IsTextData line lines kind bytes ⊎ IsNumberData line lines kind bytes ⊎ IsListData old line lines kind bytes
+-- the lines of a value whose data are a list
+abbrev pub IsListValue : List (List ℕ) → List ℕ → ℕ → List ℕ → Type 0
+IsListValue lines name kind bytes = (line : List ℕ) × (rest : List ℕ) × (more : List (List ℕ)) × (lines ≡ line ∷ more) × IsHead line name rest × IsListData rest more kind bytes
+
+-- the lines of a value; in the old form no list has a type of text
+abbrev pub IsPlainValue : List (List ℕ) → List ℕ → ℕ → List ℕ → Type 0
+IsPlainValue lines name kind bytes =
+    (line : List ℕ) × (rest : List ℕ) × (more : List (List ℕ)) × (lines ≡ line ∷ more) × IsHead line name rest × (IsTextData rest more kind bytes ⊎ IsNumberData rest more kind bytes)
+
+abbrev pub IsValue : Bool → List (List ℕ) → List ℕ → ℕ → List ℕ → Type 0
+IsValue old lines name kind bytes = IsPlainValue lines name kind bytes ⊎ (IsListValue lines name kind bytes × (old ≡ true → is_text_kind kind ≡ false))
 
 -- a path loses one backslash at its end
 abbrev pub IsPath : List ℕ → List ℕ → Type 0
@@ -129,8 +138,7 @@ pub record IsKeyLine (line inside : List ℕ) : Type 0 where
 abbrev pub IsStatement : Bool → List (List ℕ) → Statement → Type 0
 IsStatement old lines (CreateKey path) = (line : List ℕ) × (written : List ℕ) × (lines ≡ line ∷ []) × IsKeyLine line written × ((rest : List ℕ) → written ≢ 45 ∷ rest) × IsPath written path
 IsStatement old lines (DeleteKey path) = (line : List ℕ) × (written : List ℕ) × (lines ≡ line ∷ []) × IsKeyLine line (45 ∷ written) × IsPath written path
-IsStatement old lines (SetValue name kind bytes) =
-    (line : List ℕ) × (rest : List ℕ) × (more : List (List ℕ)) × (lines ≡ line ∷ more) × IsHead line name rest × IsData old rest more kind bytes
+IsStatement old lines (SetValue name kind bytes) = IsValue old lines name kind bytes
 IsStatement old lines (DeleteValue name) = (line : List ℕ) × (end : List ℕ) × (lines ≡ line ∷ []) × IsHead line name (45 ∷ end) × IsLineEnd end
 
 -- a line that is empty or a comment
