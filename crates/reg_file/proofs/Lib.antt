@@ -8,3 +8,4 @@ mod HexNumbers
 mod ListLines
 mod KeyLines
 mod Meanings
+mod Comings

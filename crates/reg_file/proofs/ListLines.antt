@@ -23,7 +23,7 @@ digit_no_backslash : (unit digit : ℕ) → digit_of unit ≡ Some digit → uni
 digit_no_backslash unit digit d e = no_digit unit digit d (ap digit_of e)
 
 -- blanks before a byte
-blanks_before : (blanks rest : List ℕ) → AreBlanks blanks → list_at Before (blanks ++ rest) ≡ list_at Before rest
+pub blanks_before : (blanks rest : List ℕ) → AreBlanks blanks → list_at Before (blanks ++ rest) ≡ list_at Before rest
 blanks_before [] rest h = refl
 blanks_before (unit ∷ units) rest h =
     ap (λ test. cond test (list_at Before (units ++ rest)) (cond (unit == 92) (cond (ends_line (units ++ rest)) (ListGoesOn []) NoList) (list_at (Within (digit_of unit)) (units ++ rest)))) h.0
