@@ -9,3 +9,4 @@ mod ListLines
 mod KeyLines
 mod Meanings
 mod Comings
+mod Runs

@@ -153,3 +153,68 @@ pub record Entry : Type 0 where
 abbrev pub IsEntry : Bool → List (List ℕ) → Option Statement → Type 0
 IsEntry old lines None = (line : List ℕ) × (lines ≡ line ∷ []) × IsBlankLine line
 IsEntry old lines (Some statement) = IsStatement old lines statement
+
+-- in the old form no unit is above 0x7e
+abbrev pub IsInForm : Bool → List (List ℕ) → Type 0
+IsInForm old lines = old ≡ true → AllByRecursion (λ line. has_high line ≡ false) lines
+
+-- how many units lines have, with the line feeds between them
+abbrev pub units_of : List (List ℕ) → ℕ
+units_of [] = 0
+units_of (line ∷ []) = length line
+units_of (line ∷ next ∷ lines) = length line + 1 + units_of (next ∷ lines)
+
+-- a value stands where a key is current, and no statement is too large
+abbrev pub IsPlaced : Bool → List (List ℕ) → Option Statement → Type 0
+IsPlaced has_key lines None = Unit {0}
+IsPlaced has_key lines (Some statement) = (wants_key statement ≡ true → has_key ≡ true) × (units_of lines ≤ MOST_ELEMENT_BYTES)
+
+abbrev pub key_behind_entry : Option Statement → Bool → Bool
+key_behind_entry None has_key = has_key
+key_behind_entry (Some statement) has_key = key_after statement has_key
+
+-- entries one after another, and whether a key is current behind them
+abbrev pub AreEntries : Bool → Bool → List Entry → Type 0
+AreEntries old has_key [] = Unit {0}
+AreEntries old has_key (entry ∷ entries) =
+    IsEntry old entry.lines entry.statement × IsInForm old entry.lines × IsPlaced has_key entry.lines entry.statement × AreEntries old (key_behind_entry entry.statement has_key) entries
+
+abbrev pub key_behind : Bool → List Entry → Bool
+key_behind has_key [] = has_key
+key_behind has_key (entry ∷ entries) = key_behind (key_behind_entry entry.statement has_key) entries
+
+-- their lines
+abbrev pub entry_lines : List Entry → List (List ℕ)
+entry_lines [] = []
+entry_lines (entry ∷ entries) = entry.lines ++ entry_lines entries
+
+-- their statements, each with the number of its first line
+abbrev pub one_numbered : ℕ → Option Statement → List NumberedStatement
+one_numbered number None = []
+one_numbered number (Some statement) = record { line = number; statement = statement } ∷ []
+
+abbrev pub numbered : ℕ → List Entry → List NumberedStatement
+numbered number [] = []
+numbered number (entry ∷ entries) = one_numbered number entry.statement ++ numbered (number + length entry.lines) entries
+
+-- the first line of a file, in the old form and in the new one
+abbrev pub header_text : Bool → List ℕ
+header_text true = codes "REGEDIT4"
+header_text false = codes "Windows Registry Editor Version 5.00"
+
+pub record IsHeader (old : Bool) (line : List ℕ) : Type 0 where
+  pub blanks : List ℕ
+  pub end : List ℕ
+  pub parsed : line ≡ blanks ++ (header_text old ++ end)
+  pub are_blanks : AreBlanks blanks
+  pub is_end : IsLineEnd end
+
+-- lines are a file with these statements: a header, and entries
+pub record IsFile (lines : List (List ℕ)) (statements : List NumberedStatement) : Type 0 where
+  pub old : Bool
+  pub header : List ℕ
+  pub entries : List Entry
+  pub parsed : lines ≡ header ∷ entry_lines entries
+  pub is_header : IsHeader old header
+  pub are_entries : AreEntries old false entries
+  pub spelled : statements ≡ numbered 2 entries
