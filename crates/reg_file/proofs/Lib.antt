@@ -10,3 +10,4 @@ mod KeyLines
 mod Meanings
 mod Comings
 mod Runs
+mod Walks

@@ -9,6 +9,9 @@ use Rattle.reg_file.specs.Files.{key_after, wants_key, has_high}
 use Rattle.reg_file.specs.declared.statement.Statement.{Statement}
 use Rattle.reg_file.specs.declared.statement.Statement.TheVariants.{CreateKey, DeleteKey, SetValue, DeleteValue}
 use Rattle.reg_file.specs.declared.statement.NumberedStatement.{NumberedStatement}
+use Rattle.reg_file.specs.declared.fault.Fault.{Fault}
+use Rattle.reg_file.specs.declared.fault.FaultKind.{FaultKind}
+use Rattle.reg_file.specs.declared.fault.FaultKind.TheVariants.{NoHeader, NotText, CodePage, NotUnderstood, NoKey, TooLarge}
 
 -- blanks and tabs
 abbrev pub AreBlanks : List ℕ → Type 0
@@ -218,3 +221,55 @@ pub record IsFile (lines : List (List ℕ)) (statements : List NumberedStatement
   pub is_header : IsHeader old header
   pub are_entries : AreEntries old false entries
   pub spelled : statements ≡ numbered 2 entries
+
+-- what stands at a fault: lines that are left, where a key is current or none is
+abbrev pub BeginsNoEntry : List (Option (List ℕ)) → Type 0
+BeginsNoEntry left = (lines : List (List ℕ)) (statement : Option Statement) (more : List (Option (List ℕ))) → left ≡ map Some lines ++ more → IsEntry false lines statement → ⊥
+
+-- a line that isn't well formed is behind lines that are
+abbrev pub HasNoText : List (Option (List ℕ)) → Type 0
+HasNoText left = (lines : List (List ℕ)) × (more : List (Option (List ℕ))) × (left ≡ map Some lines ++ None ∷ more)
+
+-- a unit above 0x7e
+abbrev pub HasHigh : List (Option (List ℕ)) → Type 0
+HasHigh left = (lines : List (List ℕ)) × (line : List ℕ) × (more : List (Option (List ℕ))) × (left ≡ map Some lines ++ Some line ∷ more) × (has_high line ≡ true)
+
+-- a list with a type of text begins here
+abbrev pub BeginsTextList : List (Option (List ℕ)) → Type 0
+BeginsTextList left =
+    (lines : List (List ℕ)) × (more : List (Option (List ℕ))) × (name : List ℕ) × (kind : ℕ) × (bytes : List ℕ) × (left ≡ map Some lines ++ more) × IsListValue lines name kind bytes × (is_text_kind kind ≡ true)
+
+-- a statement begins here for which a fact holds
+abbrev pub BeginsStatement : Bool → (List (List ℕ) → Statement → Type 0) → List (Option (List ℕ)) → Type 0
+BeginsStatement old Holds left =
+    (lines : List (List ℕ)) × (statement : Statement) × (more : List (Option (List ℕ))) × (left ≡ map Some lines ++ more) × IsStatement old lines statement × Holds lines statement
+
+abbrev pub Stands : Bool → Bool → List (Option (List ℕ)) → FaultKind → Type 0
+Stands old has_key left NoHeader = ⊥
+Stands old has_key left NotText = HasNoText left × BeginsNoEntry left
+Stands old has_key left CodePage = (old ≡ true) × (HasHigh left ⊎ BeginsTextList left)
+Stands old has_key left NotUnderstood = BeginsNoEntry left
+Stands old has_key left NoKey = (has_key ≡ false) × BeginsStatement old (λ lines statement. wants_key statement ≡ true) left
+Stands old has_key left TooLarge = BeginsStatement old (λ lines statement. MOST_ELEMENT_BYTES < units_of lines) left
+
+-- the statements before a fault, and the fault
+pub record IsStopped (lines : List (Option (List ℕ))) (statements : List NumberedStatement) (fault : Fault) : Type 0 where
+  pub old : Bool
+  pub header : List ℕ
+  pub entries : List Entry
+  pub left : List (Option (List ℕ))
+  pub parsed : lines ≡ Some header ∷ (map Some (entry_lines entries) ++ left)
+  pub is_header : IsHeader old header
+  pub are_entries : AreEntries old false entries
+  pub spelled : statements ≡ numbered 2 entries
+  pub number : fault.line ≡ 2 + length (entry_lines entries)
+  pub stands : Stands old (key_behind false entries) left fault.kind
+
+-- a fault of the first line
+pub record IsNoHeader (lines : List (Option (List ℕ))) (statements : List NumberedStatement) (fault : Fault) : Type 0 where
+  pub none : statements ≡ []
+  pub number : fault.line ≡ 1
+  pub line : Option (List ℕ)
+  pub more : List (Option (List ℕ))
+  pub parsed : lines ≡ line ∷ more
+  pub is : ((line ≡ None) × (fault.kind ≡ NotText)) ⊎ ((text : List ℕ) × (line ≡ Some text) × (fault.kind ≡ NoHeader) × ((old : Bool) → IsHeader old text → ⊥))
