@@ -11,3 +11,5 @@ mod Meanings
 mod Comings
 mod Runs
 mod Walks
+mod Prefixes
+mod FileLaws

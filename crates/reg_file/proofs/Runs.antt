@@ -69,7 +69,7 @@ one_line old has_key number item line rest found h e =
     ∙ ap (λ scan. after_turn (rest_file old (number + 1) rest) (scanned (first_of number item) has_key (room_after item line) scan)) e
     ∙ ap (λ room. after_turn (rest_file old (number + 1) rest) (scanned (first_of number item) has_key room found)) (room_of_one item line)
 
-line_goes_on : (old has_key : Bool) (number : ℕ) (item : Option Item) (line : List ℕ) (rest : List (Option (List ℕ))) (pending : Pending) → (old && has_high line) ≡ false → line_scan old (pending_of item) line ≡ scan.GoesOn pending → file_from old has_key number item (Some line ∷ rest) ≡ file_from old has_key (number + 1) (Some (next_item number item line pending)) rest
+pub line_goes_on : (old has_key : Bool) (number : ℕ) (item : Option Item) (line : List ℕ) (rest : List (Option (List ℕ))) (pending : Pending) → (old && has_high line) ≡ false → line_scan old (pending_of item) line ≡ scan.GoesOn pending → file_from old has_key number item (Some line ∷ rest) ≡ file_from old has_key (number + 1) (Some (next_item number item line pending)) rest
 line_goes_on old has_key number item line rest pending h e =
     line_taken old has_key number item line rest h
     ∙ ap (λ scan. after_turn (rest_file old (number + 1) rest) (scanned (first_of number item) has_key (room_after item line) scan)) e
@@ -130,10 +130,10 @@ entry_runs old has_key number lines (Some statement) rest s f (key, small) =
     lines_come_in_form old has_key number None lines rest (scan.Complete statement) f (statement_comes old lines statement s)
     ∙ ap (after_turn (rest_file old (number + length lines) rest)) (judged_done number has_key ((MOST_ELEMENT_BYTES + 1) - units_of lines) statement key some)
 
-onto_file_more : (front more : List NumberedStatement) (file : RegFile) → onto_file front (onto_file more file) ≡ onto_file (front ++ more) file
+pub onto_file_more : (front more : List NumberedStatement) (file : RegFile) → onto_file front (onto_file more file) ≡ onto_file (front ++ more) file
 onto_file_more front more file = ap (λ all. record { statements = all; fault = file.fault }) (sym (append_assoc front more file.statements))
 
-length_both : (xs ys : List (List ℕ)) (number : ℕ) → number + length xs + length ys ≡ number + length (xs ++ ys)
+pub length_both : (xs ys : List (List ℕ)) (number : ℕ) → number + length xs + length ys ≡ number + length (xs ++ ys)
 length_both [] ys number = omega arith
 length_both (x ∷ xs) ys number = let more = length_both xs ys number in omega (arith, more)
 

@@ -18,7 +18,7 @@ use Rattle.reg_file.specs.declared.turn.Turn.TheVariants.{Next, Done, Stop}
 use Rattle.reg_file.specs.declared.file.RegFile.{RegFile}
 use Rattle.reg_file.proofs.BlankRuns.{is_or_not}
 use Rattle.reg_file.proofs.Meanings.{Ends, Means, first_line_means, further_line_means}
-use Rattle.reg_file.proofs.Runs.{texts, rest_file, next_item}
+use Rattle.reg_file.proofs.Runs.{texts, rest_file, next_item, line_goes_on}
 
 -- what a fault stands at, behind lines of the same entry
 abbrev pub Behind : Bool → (List (List ℕ) → Statement → Type 0) → List (List ℕ) → List (Option (List ℕ)) → Type 0
@@ -202,3 +202,57 @@ module _ (old has_key : Bool) (first number : ℕ) (item : Option Item) (lines :
         where
           bad : true ≡ false → ⊥
           bad k = cc
+
+units_behind : (lines : List (List ℕ)) (line next : List ℕ) → units_of ((lines ++ line ∷ []) ++ next ∷ []) ≡ units_of (lines ++ line ∷ []) + (length next + 1)
+units_behind [] line next = omega arith
+units_behind (first ∷ []) line next = omega arith
+units_behind (first ∷ second ∷ lines) line next = let more = units_behind (second ∷ lines) line next in omega (arith, more)
+
+-- the lines of an entry, from one of them on
+pub walk : (left : List (Option (List ℕ))) (old has_key : Bool) (first number : ℕ) (item : Option Item) (lines : List (List ℕ)) → first_of number item ≡ first
+    → ((line : List ℕ) → room_after item line ≡ (MOST_ELEMENT_BYTES + 1) - units_of (lines ++ line ∷ []))
+    → ((line : List ℕ) → Means old (lines ++ line ∷ []) (line_scan old (pending_of item) line)) → Walk old has_key first number item lines left
+walk [] old has_key first number None lines f r m = inr (inr (refl, refl))
+walk [] old has_key first number (Some item) lines f r m =
+    inr (inl (record { what = kind.NotUnderstood; runs = ap (λ n. stopped (record { line = n; kind = kind.NotUnderstood })) f; details = tt }))
+walk (None ∷ left) old has_key first number item lines f r m =
+    inr (inl (record { what = kind.NotText; runs = ap (λ n. stopped (record { line = n; kind = kind.NotText })) f; details = ([], left, refl) }))
+walk (Some line ∷ left) old has_key first number item lines f r m =
+    at_line (λ pending ending. walk left old has_key first (number + 1) (Some (next_item number item line pending)) (lines ++ line ∷ []) f (more_room pending) (λ next. further_line_means old (lines ++ line ∷ []) next pending ending))
+  where
+    more_room : (pending : Pending) (next : List ℕ) → room_after (Some (next_item number item line pending)) next ≡ (MOST_ELEMENT_BYTES + 1) - units_of ((lines ++ line ∷ []) ++ next ∷ [])
+    more_room pending next = let here = r line in let more = units_behind lines line next in omega (arith, here, more)
+    at_scan : ((pending : Pending) → Ends old (lines ++ line ∷ []) pending → Walk old has_key first (number + 1) (Some (next_item number item line pending)) (lines ++ line ∷ []) left) → (old && has_high line) ≡ false → (found : Scan)
+        → line_scan old (pending_of item) line ≡ found → Means old (lines ++ line ∷ []) found → Walk old has_key first number item lines (Some line ∷ left)
+    at_scan go low scan.Nothing e means =
+        inl (record {
+          tail = line ∷ [];
+          statement = None;
+          rest = left;
+          parsed = refl;
+          is_entry = means;
+          form = one_form old has_key first number item lines line left f (r line) low;
+          placed = tt;
+          shorter = omega arith;
+          runs = taken old has_key first number item lines line left f (r line) scan.Nothing low e;
+        })
+    at_scan go low (scan.Complete statement) e means = statement_ends old has_key first number item lines line left f (r line) statement low e means
+    at_scan go low (scan.GoesOn pending) e means = walk_more old has_key first number item lines line left pending low (line_goes_on old has_key number item line left pending low e) (go pending means)
+    at_scan go low scan.CodePage e (in_old, (name, number_of_kind, bytes, value, text)) =
+        inr (inl (record {
+          what = kind.CodePage;
+          runs = taken old has_key first number item lines line left f (r line) scan.CodePage low e;
+          details = (in_old, inr (line ∷ [], left, name, number_of_kind, bytes, refl, value, text));
+        }))
+    at_scan go low scan.NotUnderstood e means = inr (inl (record { what = kind.NotUnderstood; runs = taken old has_key first number item lines line left f (r line) scan.NotUnderstood low e; details = tt }))
+    at_line : ((pending : Pending) → Ends old (lines ++ line ∷ []) pending → Walk old has_key first (number + 1) (Some (next_item number item line pending)) (lines ++ line ∷ []) left) → Walk old has_key first number item lines (Some line ∷ left)
+    at_line go = elim (is_or_not (old && has_high line)) [
+      | inl high ↦
+          let both = both_true old has_key first number item lines line left f (r line) old (has_high line) high in
+          inr (inl (record { what = kind.CodePage; runs = refused old has_key first number item lines line left f (r line) high; details = (both.0, inl ([], line, left, refl, both.1)) }))
+      | inr low ↦ at_scan go low (line_scan old (pending_of item) line) refl (m line)
+    ]
+
+-- the lines of an entry, from its first one on
+pub walk_entry : (old has_key : Bool) (number : ℕ) (left : List (Option (List ℕ))) → Walk old has_key number number None [] left
+walk_entry old has_key number left = walk left old has_key number number None [] refl (λ line. refl) (λ line. first_line_means old line)
