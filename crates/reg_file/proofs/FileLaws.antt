@@ -11,7 +11,7 @@ use Rattle.reg_file.specs.declared.fault.FaultKind.TheVariants as kind
 use Rattle.reg_file.specs.declared.file.RegFile.{RegFile}
 use Rattle.reg_file.proofs.BlankRuns.{is_or_not, skipped_to, skips, line_ends, ends, stripped, strips}
 use Rattle.reg_file.proofs.Runs.{texts, entries_run}
-use Rattle.reg_file.proofs.Prefixes.{IsRest, prefix, stands}
+use Rattle.reg_file.proofs.Prefixes.{Prefix, IsRest, prefix, stands}
 
 -- the header, by what stands behind its blanks
 abbrev header_by : Bool → List ℕ → Option Bool
@@ -82,3 +82,75 @@ same_statements a b e = ap (λ file. file.statements) e
 
 pub one_file : (lines : List (List ℕ)) (statements others : List NumberedStatement) → IsFile lines statements → IsFile lines others → statements ≡ others
 one_file lines statements others f g = same_statements statements others (sym (read_file lines statements f) ∙ read_file lines others g)
+
+-- what is parsed to its end is a file by the grammar
+no_fault : (statements : List NumberedStatement) (fault : Fault) (file : RegFile) → file.fault ≡ Some fault → file ≡ whole statements → ⊥
+no_fault statements fault file e f = bad (sym e ∙ ap (λ x. x.fault) f)
+  where
+    bad : ◌≡◌ {A = Option Fault} (Some fault) None → ⊥
+    bad h = cc
+
+pub parsed_file : (lines : List (Option (List ℕ))) (statements : List NumberedStatement) → lines_file lines ≡ record { statements = statements; fault = None } → (all : List (List ℕ)) × (lines ≡ map Some all) × IsFile all statements
+parsed_file [] statements e = absurd (no_fault statements (record { line = 1; kind = kind.NoHeader }) (lines_file []) refl e)
+parsed_file (None ∷ left) statements e = absurd (no_fault statements (record { line = 1; kind = kind.NotText }) (lines_file (None ∷ left)) refl e)
+parsed_file (Some header ∷ left) statements e = by_header (header_of header) refl e
+  where
+    with_entries : (old : Bool) → header_of header ≡ Some old → (p : Prefix old false 2 left) → IsRest old (key_behind false p.entries) (2 + length (entry_lines p.entries)) p.rest p.file → onto_file (numbered 2 p.entries) p.file ≡ whole statements → (all : List (List ℕ)) × (Some header ∷ left ≡ map Some all) × IsFile all statements
+    with_entries old h p (inl (none, file)) f =
+        let spelled : statements ≡ numbered 2 p.entries = sym (ap (λ x. x.statements) f) ∙ ap (λ x. numbered 2 p.entries ++ x.statements) file ∙ append-nil (numbered 2 p.entries) in
+        (header ∷ entry_lines p.entries, ap (λ xs. Some header ∷ xs) (p.parsed ∙ ap (λ xs. texts (entry_lines p.entries) ++ xs) none ∙ append-nil (texts (entry_lines p.entries))),
+        record { old = old; header = header; entries = p.entries; parsed = refl; is_header = is_the_header old header h; are_entries = p.are_entries; spelled = spelled })
+    with_entries old h p (inr (what, file, runs, details)) f =
+        absurd (no_fault statements (record { line = 2 + length (entry_lines p.entries); kind = what }) (onto_file (numbered 2 p.entries) p.file) (ap (λ x. x.fault) file) f)
+    by_header : (found : Option Bool) → header_of header ≡ found → behind_header found left ≡ whole statements → (all : List (List ℕ)) × (Some header ∷ left ≡ map Some all) × IsFile all statements
+    by_header None h f = absurd (no_fault statements (record { line = 1; kind = kind.NoHeader }) (behind_header None left) refl f)
+    by_header (Some old) h f = let p = prefix old false 2 left in with_entries old h p p.is_rest (sym p.runs ∙ f)
+
+-- and what is parsed up to a fault has that fault there
+abbrev ended : List NumberedStatement → Fault → RegFile
+ended statements fault = record { statements = statements; fault = Some fault }
+
+the_fault : (a b : Fault) (file : RegFile) (statements : List NumberedStatement) → file.fault ≡ Some a → file ≡ ended statements b → b ≡ a
+the_fault a b file statements e f = some (sym (ap (λ x. x.fault) f) ∙ e)
+  where
+    some : ◌≡◌ {A = Option Fault} (Some b) (Some a) → b ≡ a
+    some h = cc
+
+pub stopped_file : (lines : List (Option (List ℕ))) (statements : List NumberedStatement) (fault : Fault) → lines ≢ [] → lines_file lines ≡ record { statements = statements; fault = Some fault } → IsStopped lines statements fault ⊎ IsNoHeader lines statements fault
+stopped_file [] statements fault some e = absurd (some refl)
+stopped_file (None ∷ left) statements fault some e =
+    let same = the_fault (record { line = 1; kind = kind.NotText }) fault (lines_file (None ∷ left)) statements refl e in
+    inr (record { none = sym (ap (λ x. x.statements) e); number = ap (λ x. x.line) same; line = None; more = left; parsed = refl; is = inl (refl, ap (λ x. x.kind) same) })
+stopped_file (Some header ∷ left) statements fault some e = by_header (header_of header) refl e
+  where
+    with_entries : (old : Bool) → header_of header ≡ Some old → (p : Prefix old false 2 left) → IsRest old (key_behind false p.entries) (2 + length (entry_lines p.entries)) p.rest p.file → onto_file (numbered 2 p.entries) p.file ≡ ended statements fault → IsStopped (Some header ∷ left) statements fault
+    with_entries old h p (inl (none, file)) f = absurd (bad (sym (ap (λ x. x.fault) file) ∙ ap (λ x. x.fault) f))
+      where
+        bad : ◌≡◌ {A = Option Fault} None (Some fault) → ⊥
+        bad k = cc
+    with_entries old h p (inr (what, file, runs, details)) f =
+        let number = 2 + length (entry_lines p.entries) in
+        let same = the_fault (record { line = number; kind = what }) fault (onto_file (numbered 2 p.entries) p.file) statements (ap (λ x. x.fault) file) f in
+        let spelled : statements ≡ numbered 2 p.entries = sym (ap (λ x. x.statements) f) ∙ ap (λ x. numbered 2 p.entries ++ x.statements) file ∙ append-nil (numbered 2 p.entries) in
+        record {
+          old = old;
+          header = header;
+          entries = p.entries;
+          left = p.rest;
+          parsed = ap (λ xs. Some header ∷ xs) p.parsed;
+          is_header = is_the_header old header h;
+          are_entries = p.are_entries;
+          spelled = spelled;
+          number = ap (λ x. x.line) same;
+          stands = subst (Stands old (key_behind false p.entries) p.rest) (sym (ap (λ x. x.kind) same)) (stands old (key_behind false p.entries) number p.rest what runs details);
+        }
+    no_header : header_of header ≡ None → (old : Bool) → IsHeader old header → ⊥
+    no_header h old is = bad (sym h ∙ header_is old header is)
+      where
+        bad : ◌≡◌ {A = Option Bool} None (Some old) → ⊥
+        bad k = cc
+    by_header : (found : Option Bool) → header_of header ≡ found → behind_header found left ≡ ended statements fault → IsStopped (Some header ∷ left) statements fault ⊎ IsNoHeader (Some header ∷ left) statements fault
+    by_header None h f =
+        let same = the_fault (record { line = 1; kind = kind.NoHeader }) fault (behind_header None left) statements refl f in
+        inr (record { none = sym (ap (λ x. x.statements) f); number = ap (λ x. x.line) same; line = Some header; more = left; parsed = refl; is = inr (header, refl, ap (λ x. x.kind) same, no_header h) })
+    by_header (Some old) h f = let p = prefix old false 2 left in inl (with_entries old h p p.is_rest (sym p.runs ∙ f))

@@ -13,3 +13,4 @@ mod Runs
 mod Walks
 mod Prefixes
 mod FileLaws
+mod EncodedLines
