@@ -41,3 +41,13 @@ file_lines bytes =
     if starts_with nat_eq bytes (255 ∷ 254 ∷ []) then encoded_lines Utf16 (drop 2 bytes)
     else if starts_with nat_eq bytes (239 ∷ 187 ∷ 191 ∷ []) then encoded_lines Utf8 (drop 3 bytes)
     else encoded_lines Utf8 bytes
+
+-- the last line is none
+abbrev pub last_is_none : List (Option (List ℕ)) → List (Option (List ℕ))
+last_is_none [] = []
+last_is_none (line ∷ []) = None ∷ []
+last_is_none (line ∷ next ∷ lines) = line ∷ last_is_none (next ∷ lines)
+
+-- the lines of units: what stands between line feeds
+abbrev pub unit_lines : List ℕ → List (Option (List ℕ))
+unit_lines units = map Some (slice_split (λ unit. unit == 10) units)
