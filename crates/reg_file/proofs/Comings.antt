@@ -1,17 +1,17 @@
 -- What the grammar has is what its lines come to.
-use Rattle.std.proofs.Common.{◌≡◌, ◌≢◌, ℕ, ◌==◌, ◌&&◌, Bool, true, false, cond, List, [], ◌∷◌, ◌++◌, Option, Some, None, refl, sym, ◌∙◌, ap, subst, inl, inr, append_assoc, arith}
-use Rattle.std.specs.Prelude.{◌⊎◌, codes}
+use Rattle.std.proofs.Common.{◌≡◌, ◌≢◌, ℕ, ◌&&◌, Bool, true, false, cond, List, [], ◌∷◌, ◌++◌, Option, Some, None, refl, sym, ◌∙◌, ap, subst, inl, inr, append_assoc, arith}
+use Rattle.std.specs.Prelude.{codes}
 use Rattle.std.specs.Int.{w32, to_le_bytes}
-use Rattle.reg_file.specs.Scanning.{is_blank, skip_blanks, is_end, ends_line, strip, number_at, QuoteScan, QuoteCloses, QuoteStaysOpen, NoQuote, quote_at, onto_quote, ListScan, ListEnds, ListGoesOn, NoList, Before, list_at, list_scan, onto_list}
-use Rattle.reg_file.specs.Reading.{text_data, text_scan, is_text_kind, list_value, bytes_scan, number_scan, typed_list, kind_scan, kind_or_not, list_or_kind, number_or_list, data_scan, closed_name, name_at, equals_scan, value_scan, first_scan, line_scan}
-use Rattle.reg_file.specs.Grammar.{AreBlanks, IsLineEnd, quoted, HasNoZero, IsNamed, IsHead, IsText, IsLastLine, IsBrokenLine, AreBytes, IsList, IsType, IsNumber, IsTextData, IsNumberData, IsListValue, IsPlainValue, IsStatement, IsBlankLine, IsEntry}
+use Rattle.reg_file.specs.Scanning.{is_blank, skip_blanks, is_end, ends_line, QuoteCloses, quote_at, onto_quote, ListEnds, ListGoesOn, NoList, Before, list_at, list_scan, onto_list}
+use Rattle.reg_file.specs.Reading.{text_data, text_scan, is_text_kind, list_value, bytes_scan, number_scan, typed_list, kind_scan, kind_or_not, list_or_kind, number_or_list, data_scan, closed_name, equals_scan, value_scan, first_scan, line_scan}
+use Rattle.reg_file.specs.Grammar.{AreBlanks, IsLineEnd, quoted, IsNamed, IsHead, IsText, AreBytes, IsList, IsType, IsNumber, IsListValue, IsPlainValue, IsStatement, IsBlankLine}
 use Rattle.reg_file.specs.declared.statement.Statement.{Statement}
 use Rattle.reg_file.specs.declared.statement.Statement.TheVariants.{CreateKey, DeleteKey, SetValue, DeleteValue}
 use Rattle.reg_file.specs.declared.scan.Pending.{Pending}
 use Rattle.reg_file.specs.declared.scan.Pending.TheVariants.{Text, List as PendingList}
 use Rattle.reg_file.specs.declared.scan.Scan.{Scan}
 use Rattle.reg_file.specs.declared.scan.Scan.TheVariants.{Nothing, Complete, GoesOn, CodePage, NotUnderstood}
-use Rattle.reg_file.proofs.BlankRuns.{is_or_not, blanks_skipped, stays, skipped_to, line_ends, ends, not_end, stripped, true_is_not_false}
+use Rattle.reg_file.proofs.BlankRuns.{is_or_not, skipped_to, line_ends, ends, not_end, stripped}
 use Rattle.reg_file.proofs.QuotedText.{text_closes, text_stays_open}
 use Rattle.reg_file.proofs.HexNumbers.{number_scanned, end_no_digit}
 use Rattle.reg_file.proofs.ListLines.{blanks_before, last_line_scanned, broken_line_scanned}
@@ -41,6 +41,7 @@ module _ (old : Bool) where
     where
       tail : List ℕ
       tail = head.between ++ 61 ∷ (head.behind ++ unit ∷ rest)
+
       by_name : IsNamed head.word name (head.between ++ 61 ∷ (head.behind ++ unit ∷ rest)) → line_scan old None line ≡ data_scan old name (unit ∷ rest)
       by_name (inl (word, none)) =
           ap (line_scan old None) (head.parsed ∙ ap (λ xs. head.before ++ xs) word) ∙ ap (first_scan old) (skipped_to head.before 64 (head.between ++ 61 ∷ (head.behind ++ unit ∷ rest)) head.before_blanks refl)
@@ -59,20 +60,22 @@ module _ (old : Bool) where
   text_comes name text (line ∷ []) back (end, e, some, ended) =
       ap (λ units. text_scan name (onto_quote text (quote_at false units))) e ∙ ap (λ scan. text_scan name (onto_quote text scan)) (text_closes back end some) ∙ text_ends name (text ++ back) end ended
   text_comes name text (line ∷ next ∷ lines) back (front, further, e, some, more, same) =
-      let all : ((text ++ front) ++ 10 ∷ []) ++ further ≡ text ++ back = append_assoc (text ++ front) (10 ∷ []) further ∙ append_assoc text front (10 ∷ further) ∙ ap (λ xs. text ++ xs) (sym same) in
-      (Text name ((text ++ front) ++ 10 ∷ []),
-      ap (λ units. text_scan name (onto_quote text (quote_at false units))) e ∙ ap (λ scan. text_scan name (onto_quote text scan)) (text_stays_open front some),
-      subst (λ units. Comes old (Some (Text name ((text ++ front) ++ 10 ∷ []))) (next ∷ lines) (Complete (SetValue name 1 (text_data units)))) all (text_comes name ((text ++ front) ++ 10 ∷ []) (next ∷ lines) further more))
+      let all : ((text ++ front) ++ 10 ∷ []) ++ further ≡ text ++ back = append_assoc (text ++ front) (10 ∷ []) further ∙ append_assoc text front (10 ∷ further) ∙ ap (λ xs. text ++ xs) (sym same) in (
+        Text name ((text ++ front) ++ 10 ∷ []),
+        ap (λ units. text_scan name (onto_quote text (quote_at false units))) e ∙ ap (λ scan. text_scan name (onto_quote text scan)) (text_stays_open front some),
+        subst (λ units. Comes old (Some (Text name ((text ++ front) ++ 10 ∷ []))) (next ∷ lines) (Complete (SetValue name 1 (text_data units)))) all (text_comes name ((text ++ front) ++ 10 ∷ []) (next ∷ lines) further more),
+      )
 
   -- the first line of a text, and those behind it
   text_value_comes : (line name rest : List ℕ) (lines : List (List ℕ)) (text : List ℕ) → IsHead line name (34 ∷ rest) → IsText (rest ∷ lines) text → Comes old None (line ∷ lines) (Complete (SetValue name 1 (text_data text)))
   text_value_comes line name rest [] text head (end, e, some, ended) =
       head_scanned line name 34 rest head refl ∙ ap (λ units. text_scan name (quote_at false units)) e ∙ ap (text_scan name) (text_closes text end some) ∙ text_ends name text end ended
   text_value_comes line name rest (next ∷ lines) text head (front, back, e, some, more, same) =
-      let all : (front ++ 10 ∷ []) ++ back ≡ text = append_assoc front (10 ∷ []) back ∙ sym same in
-      (Text name (front ++ 10 ∷ []),
-      head_scanned line name 34 rest head refl ∙ ap (λ units. text_scan name (quote_at false units)) e ∙ ap (text_scan name) (text_stays_open front some),
-      subst (λ units. Comes old (Some (Text name (front ++ 10 ∷ []))) (next ∷ lines) (Complete (SetValue name 1 (text_data units)))) all (text_comes name (front ++ 10 ∷ []) (next ∷ lines) back more))
+      let all : (front ++ 10 ∷ []) ++ back ≡ text = append_assoc front (10 ∷ []) back ∙ sym same in (
+        Text name (front ++ 10 ∷ []),
+        head_scanned line name 34 rest head refl ∙ ap (λ units. text_scan name (quote_at false units)) e ∙ ap (text_scan name) (text_stays_open front some),
+        subst (λ units. Comes old (Some (Text name (front ++ 10 ∷ []))) (next ∷ lines) (Complete (SetValue name 1 (text_data units)))) all (text_comes name (front ++ 10 ∷ []) (next ∷ lines) back more),
+      )
 
   -- a number
   number_data : (name digits end : List ℕ) (number : ℕ) → IsNumber digits number → IsLineEnd end → data_scan old name (codes "dword:" ++ (digits ++ end)) ≡ Complete (SetValue name 4 (to_le_bytes w32 number))
@@ -114,9 +117,11 @@ module _ (old : Bool) where
   list_comes name kind bytes [] back b = absurd b
   list_comes name kind bytes (line ∷ []) back b = ap (λ scan. bytes_scan old name kind line (onto_list bytes scan)) (last_line_scanned line back b)
   list_comes name kind bytes (line ∷ next ∷ lines) back (front, further, b, more, same) =
-      let all : (bytes ++ front) ++ further ≡ bytes ++ back = append_assoc bytes front further ∙ ap (λ xs. bytes ++ xs) (sym same) in
-      (PendingList name kind (bytes ++ front), ap (λ scan. bytes_scan old name kind line (onto_list bytes scan)) (broken_line_scanned line front b),
-      subst (λ xs. Comes old (Some (PendingList name kind (bytes ++ front))) (next ∷ lines) (list_value old name kind xs)) all (list_comes name kind (bytes ++ front) (next ∷ lines) further more))
+      let all : (bytes ++ front) ++ further ≡ bytes ++ back = append_assoc bytes front further ∙ ap (λ xs. bytes ++ xs) (sym same) in (
+        PendingList name kind (bytes ++ front),
+        ap (λ scan. bytes_scan old name kind line (onto_list bytes scan)) (broken_line_scanned line front b),
+        subst (λ xs. Comes old (Some (PendingList name kind (bytes ++ front))) (next ∷ lines) (list_value old name kind xs)) all (list_comes name kind (bytes ++ front) (next ∷ lines) further more),
+      )
 
   ends_is_list : (bytes : List ℕ) → ListEnds bytes ≢ NoList
   ends_is_list bytes e = cc
@@ -137,9 +142,11 @@ module _ (old : Bool) where
       let here = last_line_scanned rest bytes b in
       scan ∙ ap (bytes_scan old name kind rest) (first_list rest (λ e. ends_is_list bytes (sym here ∙ e)) ∙ here)
   first_lines line name data_line rest kind (next ∷ lines) bytes scan (inr (front, back, b, more, same)) =
-      let here = broken_line_scanned rest front b in
-      (PendingList name kind front, scan ∙ ap (bytes_scan old name kind rest) (first_list rest (λ e. goes_on_is_list front (sym here ∙ e)) ∙ here),
-      subst (λ xs. Comes old (Some (PendingList name kind front)) (next ∷ lines) (list_value old name kind xs)) (sym same) (list_comes name kind front (next ∷ lines) back more))
+      let here = broken_line_scanned rest front b in (
+        PendingList name kind front,
+        scan ∙ ap (bytes_scan old name kind rest) (first_list rest (λ e. goes_on_is_list front (sym here ∙ e)) ∙ here),
+        subst (λ xs. Comes old (Some (PendingList name kind front)) (next ∷ lines) (list_value old name kind xs)) (sym same) (list_comes name kind front (next ∷ lines) back more),
+      )
 
   -- what data begin with is no blank
   no_blank_first : (word rest : List ℕ) (kind : ℕ) → IsType word kind → (unit : ℕ) × (units : List ℕ) × (word ++ rest ≡ unit ∷ units) × (is_blank unit ≡ false)

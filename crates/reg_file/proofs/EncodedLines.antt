@@ -1,7 +1,6 @@
 -- The lines of encoded text.
-use Rattle.std.proofs.Common.{◌≡◌, ◌≢◌, ℕ, zero, suc, ◌≤◌, ◌^◌, ◌+◌, ◌*◌, ◌<◌, ◌==◌, Bool, true, false, cond, List, [], ◌∷◌, ◌++◌, map, length, Option, Some, None, refl, sym, ◌∙◌, ap, subst, arith}
+use Rattle.std.proofs.Common.{◌≡◌, ◌≢◌, ℕ, zero, suc, ◌≤◌, ◌^◌, ◌<◌, ◌==◌, Bool, true, false, cond, List, [], ◌∷◌, ◌++◌, map, length, Option, Some, None, refl, sym, ◌∙◌, ap, arith}
 use Rattle.std.specs.Prelude.{flat_map, nat_eq, nat_lt, drop, IsAscii, chars}
-use Rattle.std.specs.Str.{is_utf8}
 use Rattle.std.specs.List.{slice_split, onto_first, starts_with, AllByRecursion}
 use Rattle.std.specs.Int.{w16, to_le_bytes, byte_at}
 use Rattle.std.specs.Char.Escape.{encode_utf16}

@@ -1,10 +1,10 @@
 -- Files by the grammar, and as they are parsed.
-use Rattle.std.proofs.Common.{◌≡◌, ◌≢◌, ℕ, ◌+◌, Bool, true, false, cond, List, [], ◌∷◌, ◌++◌, map, length, Option, Some, None, refl, sym, ◌∙◌, ap, subst, inl, inr, append_assoc}
+use Rattle.std.proofs.Common.{◌≡◌, ◌≢◌, ℕ, ◌+◌, Bool, true, false, cond, List, [], ◌∷◌, ◌++◌, map, length, Option, Some, None, refl, sym, ◌∙◌, ap, subst, inl, inr}
 use Rattle.std.specs.Prelude.{◌⊎◌, codes}
 use Rattle.std.proofs.lemmas.List.{append-nil}
-use Rattle.reg_file.specs.Scanning.{skip_blanks, ends_line, strip}
-use Rattle.reg_file.specs.Files.{stopped, onto_file, file_from, ends_behind, is_header, header_of, behind_header, lines_file}
-use Rattle.reg_file.specs.Grammar.{IsLineEnd, Entry, AreEntries, key_behind, entry_lines, numbered, header_text, IsHeader, IsFile, Stands, IsStopped, IsNoHeader}
+use Rattle.reg_file.specs.Scanning.{skip_blanks, strip}
+use Rattle.reg_file.specs.Files.{onto_file, file_from, ends_behind, is_header, header_of, behind_header, lines_file}
+use Rattle.reg_file.specs.Grammar.{IsLineEnd, key_behind, entry_lines, numbered, header_text, IsHeader, IsFile, Stands, IsStopped, IsNoHeader}
 use Rattle.reg_file.specs.declared.statement.NumberedStatement.{NumberedStatement}
 use Rattle.reg_file.specs.declared.fault.Fault.{Fault}
 use Rattle.reg_file.specs.declared.fault.FaultKind.TheVariants as kind
@@ -62,6 +62,7 @@ is_the_header old line e = elim (is_or_not (is_header (codes "REGEDIT4") line)) 
   where
     some : (a b : Bool) → ◌≡◌ {A = Option Bool} (Some a) (Some b) → a ≡ b
     some a b h = cc
+
     nothing : (a : Bool) → ◌≡◌ {A = Option Bool} None (Some a) → ⊥
     nothing a h = cc
 
@@ -97,11 +98,14 @@ parsed_file (Some header ∷ left) statements e = by_header (header_of header) r
   where
     with_entries : (old : Bool) → header_of header ≡ Some old → (p : Prefix old false 2 left) → IsRest old (key_behind false p.entries) (2 + length (entry_lines p.entries)) p.rest p.file → onto_file (numbered 2 p.entries) p.file ≡ whole statements → (all : List (List ℕ)) × (Some header ∷ left ≡ map Some all) × IsFile all statements
     with_entries old h p (inl (none, file)) f =
-        let spelled : statements ≡ numbered 2 p.entries = sym (ap (λ x. x.statements) f) ∙ ap (λ x. numbered 2 p.entries ++ x.statements) file ∙ append-nil (numbered 2 p.entries) in
-        (header ∷ entry_lines p.entries, ap (λ xs. Some header ∷ xs) (p.parsed ∙ ap (λ xs. texts (entry_lines p.entries) ++ xs) none ∙ append-nil (texts (entry_lines p.entries))),
-        record { old = old; header = header; entries = p.entries; parsed = refl; is_header = is_the_header old header h; are_entries = p.are_entries; spelled = spelled })
+        let spelled : statements ≡ numbered 2 p.entries = sym (ap (λ x. x.statements) f) ∙ ap (λ x. numbered 2 p.entries ++ x.statements) file ∙ append-nil (numbered 2 p.entries) in (
+          header ∷ entry_lines p.entries,
+          ap (λ xs. Some header ∷ xs) (p.parsed ∙ ap (λ xs. texts (entry_lines p.entries) ++ xs) none ∙ append-nil (texts (entry_lines p.entries))),
+          record { old = old; header = header; entries = p.entries; parsed = refl; is_header = is_the_header old header h; are_entries = p.are_entries; spelled = spelled },
+        )
     with_entries old h p (inr (what, file, runs, details)) f =
         absurd (no_fault statements (record { line = 2 + length (entry_lines p.entries); kind = what }) (onto_file (numbered 2 p.entries) p.file) (ap (λ x. x.fault) file) f)
+
     by_header : (found : Option Bool) → header_of header ≡ found → behind_header found left ≡ whole statements → (all : List (List ℕ)) × (Some header ∷ left ≡ map Some all) × IsFile all statements
     by_header None h f = absurd (no_fault statements (record { line = 1; kind = kind.NoHeader }) (behind_header None left) refl f)
     by_header (Some old) h f = let p = prefix old false 2 left in with_entries old h p p.is_rest (sym p.runs ∙ f)
@@ -144,11 +148,13 @@ stopped_file (Some header ∷ left) statements fault some e = by_header (header_
           number = ap (λ x. x.line) same;
           stands = subst (Stands old (key_behind false p.entries) p.rest) (sym (ap (λ x. x.kind) same)) (stands old (key_behind false p.entries) number p.rest what runs details);
         }
+
     no_header : header_of header ≡ None → (old : Bool) → IsHeader old header → ⊥
     no_header h old is = bad (sym h ∙ header_is old header is)
       where
         bad : ◌≡◌ {A = Option Bool} None (Some old) → ⊥
         bad k = cc
+
     by_header : (found : Option Bool) → header_of header ≡ found → behind_header found left ≡ ended statements fault → IsStopped (Some header ∷ left) statements fault ⊎ IsNoHeader (Some header ∷ left) statements fault
     by_header None h f =
         let same = the_fault (record { line = 1; kind = kind.NoHeader }) fault (behind_header None left) statements refl f in

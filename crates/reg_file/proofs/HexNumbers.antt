@@ -1,10 +1,10 @@
 -- Numbers of hex digits, by the grammar and as they are scanned.
-use Rattle.std.proofs.Common.{◌≡◌, ◌≢◌, ℕ, zero, suc, ◌+◌, ◌-◌, ◌*◌, ◌<◌, ◌≤◌, ◌==◌, Bool, true, false, cond, List, [], ◌∷◌, ◌++◌, length, Option, Some, None, refl, sym, ◌∙◌, ap, subst, inl, inr, arith}
+use Rattle.std.proofs.Common.{◌≡◌, ◌≢◌, ℕ, ◌+◌, ◌-◌, ◌*◌, ◌<◌, ◌≤◌, ◌==◌, Bool, true, false, List, [], ◌∷◌, ◌++◌, length, Option, Some, None, refl, sym, ◌∙◌, ap, subst, inl, inr, arith}
 use Rattle.std.specs.Prelude.{◌⊎◌, ◌||◌}
 use Rattle.std.specs.Option.{option_and_then}
 use Rattle.reg_file.specs.Scanning.{is_blank, digit_of, digits_from, number_at}
 use Rattle.reg_file.specs.Grammar.{AreBlanks, IsLineEnd, GoOn, IsNumber}
-use Rattle.reg_file.proofs.Scans.{other_than, pair_same, digit_step}
+use Rattle.reg_file.proofs.Scans.{pair_same, digit_step}
 use Rattle.reg_file.proofs.BlankRuns.{same_unit, is_or_not}
 
 -- no number goes on here
@@ -82,10 +82,13 @@ digits_go left front (unit ∷ units) number rest e = by_digit (λ more. digits_
       where
         bad : true ≡ false → ⊥
         bad b = cc
+
     at_none : digit_of unit ≡ None → digits_from left front (unit ∷ units) ≡ Some (front, unit ∷ units)
     at_none d = rw d refl
+
     at_full : (digit : ℕ) → digit_of unit ≡ Some digit → (left == 0) ≡ true → digits_from left front (unit ∷ units) ≡ None
     at_full digit d full = rw (d, full) refl
+
     by_digit : ((more : ℕ) → digits_from (left - 1) more units ≡ Some (number, rest) → Goes (left - 1) more units number rest) → (digit : Option ℕ) → digit_of unit ≡ digit → Goes left front (unit ∷ units) number rest
     by_digit go None d = none_goes left front (unit ∷ units) number rest (sym (at_none d) ∙ e)
     by_digit go (Some digit) d = elim (is_or_not (left == 0)) [

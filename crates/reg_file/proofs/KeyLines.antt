@@ -1,14 +1,14 @@
 -- Lines that name a key, by the grammar and as they are scanned.
-use Rattle.std.proofs.Common.{◌≡◌, ◌≢◌, ℕ, ◌==◌, Bool, true, false, cond, List, [], ◌∷◌, ◌++◌, Option, Some, None, refl, sym, ◌∙◌, ap, subst, inl, inr, append_assoc, arith}
+use Rattle.std.proofs.Common.{◌≡◌, ◌≢◌, ℕ, ◌==◌, Bool, true, false, cond, List, [], ◌∷◌, ◌++◌, None, refl, sym, ◌∙◌, ap, subst, inl, inr, append_assoc, arith}
 use Rattle.std.specs.Prelude.{◌⊎◌, reverse}
-use Rattle.std.proofs.lemmas.List.{reverse-append, reverse-reverse, append-nil}
-use Rattle.reg_file.specs.Scanning.{is_blank, skip_blanks, is_end, skip_return, backwards}
+use Rattle.std.proofs.lemmas.List.{reverse-append, reverse-reverse}
+use Rattle.reg_file.specs.Scanning.{is_blank, skip_blanks, skip_return, backwards}
 use Rattle.reg_file.specs.Reading.{skip_separator, without_separator, key_between, closed_key, key_scan, first_scan, line_scan}
 use Rattle.reg_file.specs.Grammar.{AreBlanks, IsLineEnd, IsPath, IsKeyLine}
 use Rattle.reg_file.specs.declared.statement.Statement.TheVariants.{CreateKey, DeleteKey}
-use Rattle.reg_file.specs.declared.scan.Scan.TheVariants.{Complete, NotUnderstood}
+use Rattle.reg_file.specs.declared.scan.Scan.TheVariants.{Complete}
 use Rattle.reg_file.proofs.Scans.{other_than}
-use Rattle.reg_file.proofs.BlankRuns.{by_test, same_unit, is_or_not, skipped_to, Skips, skips, not_end}
+use Rattle.reg_file.proofs.BlankRuns.{same_unit, is_or_not, skipped_to, skips, not_end}
 use Rattle.reg_file.proofs.HexNumbers.{blank_is}
 
 -- blanks from the last to the first
@@ -101,6 +101,7 @@ path_is written = from_back (reverse written) refl
       where
         last : (u : ℕ) (xs ys : List ℕ) → u ∷ xs ≡ 92 ∷ ys → u ≡ 92
         last u xs ys e = cc
+
         both : (test : Bool) → test ≡ true → test ≡ false → ⊥
         both test h k = bad (sym h ∙ k)
           where

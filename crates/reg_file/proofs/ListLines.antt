@@ -1,9 +1,8 @@
 -- Lines of lists of bytes, by the grammar and as they are scanned.
-use Rattle.std.proofs.Common.{◌≡◌, ◌≢◌, ℕ, ◌+◌, ◌*◌, ◌==◌, Bool, true, false, cond, List, [], ◌∷◌, ◌++◌, Option, Some, None, refl, sym, ◌∙◌, ap, subst, inl, inr}
-use Rattle.std.specs.Prelude.{◌⊎◌}
+use Rattle.std.proofs.Common.{◌≡◌, ◌≢◌, ℕ, ◌+◌, ◌*◌, ◌==◌, true, false, cond, List, [], ◌∷◌, ◌++◌, Option, Some, None, refl, sym, ◌∙◌, ap, inl, inr}
 use Rattle.reg_file.specs.Scanning.{is_blank, ends_line, digit_of, ListScan, ListEnds, ListGoesOn, NoList, onto_list, onto_pair, Before, Within, Behind, list_at}
 use Rattle.reg_file.specs.Grammar.{AreBlanks, IsLineEnd, IsPair, IsLastLine, IsBrokenLine}
-use Rattle.reg_file.proofs.Scans.{other_than, at_pair}
+use Rattle.reg_file.proofs.Scans.{at_pair}
 use Rattle.reg_file.proofs.BlankRuns.{by_test, same_unit, is_or_not, line_ends, ends}
 use Rattle.reg_file.proofs.HexNumbers.{blank_is, end_first}
 
@@ -91,6 +90,7 @@ one_pair first second high low rest scan h l s = go scan s
   where
     pair : IsPair (first ∷ second ∷ []) (16 * high + low)
     pair = record { first = first; second = second; high = high; low = low; parsed = refl; high_is = h; low_is = l; value = refl }
+
     go : (scan : ListScan) → IsBehindScanned rest scan → IsListScanned (first ∷ second ∷ rest) (onto_list ((16 * high + low) ∷ []) scan)
     go (ListEnds []) ended = ([], first ∷ second ∷ [], rest, refl, tt, pair, ended)
     go (ListEnds (byte ∷ bytes)) (more, e, further) = ([], first ∷ second ∷ [], more, ap (λ us. first ∷ second ∷ us) e, tt, pair, further)

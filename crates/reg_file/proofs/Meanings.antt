@@ -1,16 +1,16 @@
 -- What a line comes to is what the grammar has.
-use Rattle.std.proofs.Common.{◌≡◌, ◌≢◌, ℕ, ◌==◌, ◌&&◌, Bool, true, false, cond, List, [], ◌∷◌, ◌++◌, Option, Some, None, refl, sym, ◌∙◌, ap, subst, inl, inr, append_assoc}
-use Rattle.std.specs.Prelude.{◌⊎◌, codes, reverse}
+use Rattle.std.proofs.Common.{◌≡◌, ℕ, ◌==◌, ◌&&◌, Bool, true, false, cond, List, [], ◌∷◌, ◌++◌, Option, Some, None, refl, sym, ◌∙◌, ap, subst, inl, inr, append_assoc}
+use Rattle.std.specs.Prelude.{codes, reverse}
 use Rattle.std.specs.Int.{w32, to_le_bytes}
 use Rattle.reg_file.specs.Scanning.{skip_blanks, is_end, ends_line, strip, backwards, number_at, QuoteScan, QuoteCloses, QuoteStaysOpen, NoQuote, quote_at, onto_quote, ListScan, ListEnds, ListGoesOn, NoList, Before, list_at, list_scan, onto_list, goes_on}
 use Rattle.reg_file.specs.Reading.{text_data, text_scan, is_text_kind, list_value, wrong_list, bytes_scan, number_scan, typed_list, kind_scan, kind_or_not, list_or_kind, number_or_list, typed_scan, data_scan, closed_name, name_at, equals_scan, value_scan, without_separator, key_between, closed_key, key_scan, first_scan, line_scan}
-use Rattle.reg_file.specs.Grammar.{AreBlanks, IsLineEnd, quoted, HasNoZero, IsNamed, IsHead, IsText, IsLastLine, AreBytes, IsList, IsType, IsNumber, IsListValue, IsPlainValue, IsValue, IsKeyLine, IsStatement, IsBlankLine}
+use Rattle.reg_file.specs.Grammar.{AreBlanks, IsNamed, IsHead, IsText, AreBytes, IsType, IsNumber, IsListValue, IsPlainValue, IsKeyLine, IsStatement, IsBlankLine}
 use Rattle.reg_file.specs.declared.statement.Statement.TheVariants.{CreateKey, DeleteKey, SetValue, DeleteValue}
 use Rattle.reg_file.specs.declared.scan.Pending.{Pending}
 use Rattle.reg_file.specs.declared.scan.Pending.TheVariants.{Text, List as PendingList, WrongList}
 use Rattle.reg_file.specs.declared.scan.Scan.{Scan}
 use Rattle.reg_file.specs.declared.scan.Scan.TheVariants.{Nothing, Complete, GoesOn, CodePage, NotUnderstood}
-use Rattle.reg_file.proofs.BlankRuns.{by_test, same_unit, is_or_not, Skips, skips, ends, strips}
+use Rattle.reg_file.proofs.BlankRuns.{by_test, same_unit, Skips, skips, ends, strips}
 use Rattle.reg_file.proofs.QuotedText.{IsScanned, is_scanned}
 use Rattle.reg_file.proofs.HexNumbers.{number_goes}
 use Rattle.reg_file.proofs.ListLines.{IsListScanned, list_scanned}
@@ -82,6 +82,7 @@ module _ (old : Bool) (line name : List ℕ) where
           first_list_means data_line (codes "hex(" ++ (digits ++ codes "):")) list kind head
           (e ∙ ap (λ xs. codes "hex(" ++ xs) (f ∙ ap (λ xs. digits ++ xs) (strips (codes "):") behind list g) ∙ sym (append_assoc digits (codes "):") list)) ∙ sym (append_assoc (codes "hex(") (digits ++ codes "):") list))
           (inr (digits, refl, n))
+
       at_number : (found : Option (ℕ × List ℕ)) → number_at rest ≡ found → Means old (line ∷ []) (kind_scan old name found)
       at_number None f = tt
       at_number (Some (kind, behind)) f = let n = number_goes rest kind behind f in at_list n.0 behind kind n.1 n.2 (strip (codes "):") behind) refl
@@ -104,9 +105,11 @@ module _ (old : Bool) (line name : List ℕ) where
       at_kind : (found : Option (List ℕ)) → strip (codes "hex(") data_line ≡ found → Means old (line ∷ []) (kind_or_not old name found)
       at_kind None f = tt
       at_kind (Some rest) f = kind_means data_line rest head (strips (codes "hex(") data_line rest f)
+
       at_list : (found : Option (List ℕ)) → strip (codes "hex:") data_line ≡ found → Means old (line ∷ []) (list_or_kind old name data_line found)
       at_list None f = at_kind (strip (codes "hex(") data_line) refl
       at_list (Some rest) f = first_list_means data_line (codes "hex:") rest 3 head (strips (codes "hex:") data_line rest f) (inl (refl, refl))
+
       at_number : (found : Option (List ℕ)) → strip (codes "dword:") data_line ≡ found → Means old (line ∷ []) (number_or_list old name data_line found)
       at_number None f = at_list (strip (codes "hex:") data_line) refl
       at_number (Some rest) f = number_means data_line rest head (strips (codes "dword:") data_line rest f)
@@ -163,6 +166,7 @@ module _ (old : Bool) (line before word : List ℕ) (parsed : line ≡ before ++
       head : (between behind data_line : List ℕ) → AreBlanks between → AreBlanks behind → rest ≡ between ++ 61 ∷ (behind ++ data_line) → IsHead line name data_line
       head between behind data_line b c e =
           record { before = before; between = between; behind = behind; word = word; parsed = parsed; before_blanks = blanks; between_blanks = b; behind_blanks = c; named = subst (IsNamed word name) e named }
+
       at_equals : (found : List ℕ) → Skips rest found → Means old (line ∷ []) (equals_scan old name found)
       at_equals [] s = tt
       at_equals (unit ∷ units) s =
@@ -188,6 +192,7 @@ key_between_means old line (unit ∷ units) k =
   where
     first : (rest : List ℕ) → unit ∷ units ≡ 45 ∷ rest → unit ≡ 45
     first rest e = cc
+
     no_minus : (rest : List ℕ) → unit ≡ 45 → (unit == 45) ≡ false → ⊥
     no_minus rest e h = bad (sym (ap (λ u. u == 45) e) ∙ h)
       where
@@ -199,6 +204,7 @@ key_means old line before units e h = at_back (backwards units) refl
   where
     key_line : (back : List ℕ) → IsBracketed units (reverse back) → IsKeyLine line (reverse back)
     key_line back b = record { before = before; end = b.end; parsed = e ∙ ap (λ xs. before ++ 91 ∷ xs) b.parsed; before_blanks = h; is_end = b.is_end }
+
     at_back : (back : List ℕ) → backwards units ≡ back → Means old (line ∷ []) (closed_key back)
     at_back [] f = tt
     at_back (unit ∷ back) f =
@@ -212,6 +218,7 @@ first_line_means old line = at_word (skip_blanks line) (skips line) refl
   where
     blank : (word : List ℕ) → skip_blanks line ≡ word → is_end word ≡ true → IsBlankLine line
     blank word e h = inl (ends line (ap is_end e ∙ h))
+
     at_word : (word : List ℕ) → Skips line word → skip_blanks line ≡ word → Means old (line ∷ []) (first_scan old word)
     at_word [] s e = (line, refl, blank [] e refl)
     at_word (unit ∷ units) s e =

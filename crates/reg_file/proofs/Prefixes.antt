@@ -1,9 +1,9 @@
 -- Lines are entries up to a fault, or up to their end.
-use Rattle.std.proofs.Common.{◌≡◌, ◌≢◌, ℕ, zero, suc, ◌+◌, ◌<◌, ◌≤◌, Bool, true, false, cond, ◌==◌, ◌&&◌, not, List, [], ◌∷◌, ◌++◌, map, length, Option, Some, None, refl, sym, ◌∙◌, ap, subst, inl, inr, append_assoc, arith}
+use Rattle.std.proofs.Common.{◌≡◌, ℕ, zero, suc, ◌+◌, ◌≤◌, Bool, true, false, cond, ◌==◌, ◌&&◌, not, List, [], ◌∷◌, ◌++◌, length, Option, Some, None, refl, sym, ◌∙◌, ap, subst, inl, inr, append_assoc, arith}
 use Rattle.std.specs.Prelude.{◌⊎◌}
 use Rattle.reg_file.specs.Reading.{is_text_kind, list_value}
-use Rattle.reg_file.specs.Files.{stopped, onto_file, key_after, wants_key, judged, scanned, after_turn, stop, file_from}
-use Rattle.reg_file.specs.Grammar.{Entry, IsEntry, IsStatement, IsPlainValue, IsListValue, IsInForm, IsPlaced, key_behind_entry, AreEntries, key_behind, entry_lines, one_numbered, numbered, BeginsNoEntry, Stands}
+use Rattle.reg_file.specs.Files.{stopped, onto_file, key_after, wants_key, judged, after_turn, stop, file_from}
+use Rattle.reg_file.specs.Grammar.{Entry, IsEntry, IsStatement, IsListValue, key_behind_entry, AreEntries, key_behind, entry_lines, one_numbered, numbered, BeginsNoEntry, Stands}
 use Rattle.reg_file.specs.declared.statement.Statement.{Statement}
 use Rattle.reg_file.specs.declared.statement.Statement.TheVariants.{CreateKey, DeleteKey, SetValue, DeleteValue}
 use Rattle.reg_file.specs.declared.statement.NumberedStatement.{NumberedStatement}
@@ -13,12 +13,12 @@ use Rattle.reg_file.specs.declared.fault.Fault.{Fault}
 use Rattle.reg_file.specs.declared.fault.FaultKind.{FaultKind}
 use Rattle.reg_file.specs.declared.fault.FaultKind.TheVariants as kind
 use Rattle.reg_file.specs.declared.turn.Item.{Item}
-use Rattle.reg_file.specs.declared.turn.Turn.TheVariants.{Next, Done, Stop}
+use Rattle.reg_file.specs.declared.turn.Turn.TheVariants.{Done}
 use Rattle.reg_file.specs.declared.file.RegFile.{RegFile}
 use Rattle.reg_file.proofs.BlankRuns.{is_or_not}
 use Rattle.reg_file.proofs.Comings.{Comes, statement_comes, list_value_comes, plain_value_comes, blank_comes}
 use Rattle.reg_file.proofs.Runs.{texts, texts_append, rest_file, behind, room_behind, lines_come, onto_file_more, length_both}
-use Rattle.reg_file.proofs.Walks.{Details, EntryEnds, FaultStops, Walk, walk_entry}
+use Rattle.reg_file.proofs.Walks.{Details, EntryEnds, FaultStops, walk_entry}
 
 -- entries, and then the end or a fault
 abbrev pub IsRest : Bool → Bool → ℕ → List (Option (List ℕ)) → RegFile → Type 0

@@ -1,6 +1,5 @@
 -- Text in quotes on one line, by the grammar and as it is scanned.
 use Rattle.std.proofs.Common.{◌≡◌, ◌≢◌, ℕ, ◌==◌, Bool, true, false, cond, ◌||◌, List, [], ◌∷◌, ◌++◌, refl, sym, ◌∙◌, ap, subst, inl, inr, append_assoc}
-use Rattle.std.specs.Prelude.{◌⊎◌}
 use Rattle.reg_file.specs.Scanning.{QuoteScan, QuoteCloses, QuoteStaysOpen, NoQuote, quote_at, onto_quote}
 use Rattle.reg_file.specs.Grammar.{quoted_unit, quoted, HasNoZero}
 use Rattle.reg_file.proofs.Scans.{other_than}

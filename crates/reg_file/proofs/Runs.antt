@@ -1,10 +1,9 @@
 -- What entries of the grammar make of the lines that they stand in.
-use Rattle.std.proofs.Common.{◌≡◌, ◌≢◌, ℕ, ◌+◌, ◌-◌, ◌<◌, ◌≤◌, ◌==◌, ◌&&◌, not, Bool, true, false, cond, List, [], ◌∷◌, ◌++◌, map, length, Option, Some, None, refl, sym, ◌∙◌, ap, subst, inl, inr, append_assoc, arith}
+use Rattle.std.proofs.Common.{◌≡◌, ◌≢◌, ℕ, ◌+◌, ◌-◌, ◌==◌, ◌&&◌, not, Bool, true, false, cond, List, [], ◌∷◌, ◌++◌, map, length, Option, Some, None, refl, sym, ◌∙◌, ap, subst, inl, inr, append_assoc, arith}
 use Rattle.std.specs.Prelude.{◌⊎◌}
-use Rattle.std.specs.List.{AllByRecursion}
 use Rattle.refusals.specs.declared.limits.TheConstants.{MOST_ELEMENT_BYTES}
 use Rattle.reg_file.specs.Reading.{line_scan}
-use Rattle.reg_file.specs.Files.{stopped, onto_file, key_after, wants_key, first_of, pending_of, room_after, stop, judged, scanned, has_high, turn_of, after_turn, end_fault, file_from}
+use Rattle.reg_file.specs.Files.{stopped, onto_file, key_after, wants_key, first_of, pending_of, room_after, stop, judged, scanned, has_high, after_turn, file_from}
 use Rattle.reg_file.specs.Grammar.{Entry, IsEntry, IsInForm, units_of, IsPlaced, key_behind_entry, AreEntries, key_behind, entry_lines, one_numbered, numbered}
 use Rattle.reg_file.specs.declared.statement.Statement.{Statement}
 use Rattle.reg_file.specs.declared.statement.NumberedStatement.{NumberedStatement}
@@ -13,8 +12,7 @@ use Rattle.reg_file.specs.declared.scan.Scan.{Scan}
 use Rattle.reg_file.specs.declared.scan.Scan.TheVariants as scan
 use Rattle.reg_file.specs.declared.fault.FaultKind.TheVariants as kind
 use Rattle.reg_file.specs.declared.turn.Item.{Item}
-use Rattle.reg_file.specs.declared.turn.Turn.{Turn}
-use Rattle.reg_file.specs.declared.turn.Turn.TheVariants.{Next, Done, Stop}
+use Rattle.reg_file.specs.declared.turn.Turn.TheVariants.{Done}
 use Rattle.reg_file.specs.declared.file.RegFile.{RegFile}
 use Rattle.reg_file.proofs.BlankRuns.{is_or_not}
 use Rattle.reg_file.proofs.Scans.{other_than}
@@ -91,10 +89,10 @@ lines_come old has_key number item (line ∷ []) rest found c = elim (is_or_not 
 lines_come old has_key number item (line ∷ next ∷ lines) rest found (pending, e, c) = elim (is_or_not (old && has_high line)) [
   | inl high ↦ inl (line_refused old has_key number item line (texts (next ∷ lines) ++ rest) high)
   | inr low ↦ let here = line_goes_on old has_key number item line (texts (next ∷ lines) ++ rest) pending low e in
-  elim (lines_come old has_key (number + 1) (Some (next_item number item line pending)) (next ∷ lines) rest found c) [
-    | inl high ↦ inl (here ∙ high)
-    | inr more ↦ inr (here ∙ more ∙ behind_more old has_key number item line next lines rest pending found)
-  ]
+      elim (lines_come old has_key (number + 1) (Some (next_item number item line pending)) (next ∷ lines) rest found c) [
+        | inl high ↦ inl (here ∙ high)
+        | inr more ↦ inr (here ∙ more ∙ behind_more old has_key number item line next lines rest pending found)
+      ]
 ]
 
 low_line : (old : Bool) (line : List ℕ) → (old ≡ true → has_high line ≡ false) → (old && has_high line) ≡ false

@@ -97,8 +97,10 @@ list_behind front new unit byte comma others rest behind more ends e blank backs
   where
     at_end : (t : Bool) → ends_line behind ≡ t → list_at Behind (comma ∷ more) ≡ cond t (ListEnds []) NoList
     at_end t k = rw (other_than comma 44 other, sym (ap ends_line g) ∙ k) refl
+
     whole : (t : Bool) → cond t (ListEnds new) NoList ≡ onto_list front (onto_list (byte ∷ []) (cond t (ListEnds []) NoList))
     whole true = ap ListEnds (f ∙ ap (λ bytes. front ++ bytes) refl)
     whole false = refl
+
     last : (t : Bool) → t ≡ ends_line behind → cond t (ListEnds new) NoList ≡ onto_list front (onto_list (byte ∷ []) (list_at Behind (comma ∷ more)))
     last t k = whole t ∙ ap (λ scan. onto_list front (onto_list (byte ∷ []) scan)) (sym (at_end t (sym k)))

@@ -1,12 +1,11 @@
 -- The lines of a file up to a fault are entries of the grammar.
-use Rattle.std.proofs.Common.{◌≡◌, ◌≢◌, ℕ, ◌+◌, ◌-◌, ◌<◌, ◌≤◌, ◌==◌, ◌&&◌, not, Bool, true, false, cond, List, [], ◌∷◌, ◌++◌, map, length, Option, Some, None, refl, sym, ◌∙◌, ap, subst, inl, inr, append_assoc, arith}
+use Rattle.std.proofs.Common.{◌≡◌, ◌≢◌, ℕ, ◌+◌, ◌-◌, ◌<◌, ◌==◌, ◌&&◌, not, Bool, true, false, cond, List, [], ◌∷◌, ◌++◌, length, Option, Some, None, refl, sym, ◌∙◌, ap, subst, inl, inr, append_assoc, arith}
 use Rattle.std.specs.Prelude.{◌⊎◌}
-use Rattle.std.specs.List.{AllByRecursion}
 use Rattle.std.proofs.lemmas.Bool.Decides.{Decides-eqb}
 use Rattle.refusals.specs.declared.limits.TheConstants.{MOST_ELEMENT_BYTES}
 use Rattle.reg_file.specs.Reading.{is_text_kind, line_scan}
-use Rattle.reg_file.specs.Files.{stopped, onto_file, key_after, wants_key, first_of, pending_of, room_after, stop, judged, scanned, has_high, turn_of, after_turn, end_fault, file_from}
-use Rattle.reg_file.specs.Grammar.{Entry, IsEntry, IsStatement, IsListValue, IsInForm, units_of, IsPlaced, key_behind_entry, one_numbered, HasNoText, HasHigh}
+use Rattle.reg_file.specs.Files.{stopped, onto_file, key_after, wants_key, first_of, pending_of, room_after, stop, judged, scanned, has_high, after_turn, file_from}
+use Rattle.reg_file.specs.Grammar.{IsEntry, IsStatement, IsListValue, IsInForm, units_of, IsPlaced, key_behind_entry, one_numbered, HasNoText, HasHigh}
 use Rattle.reg_file.specs.declared.statement.Statement.{Statement}
 use Rattle.reg_file.specs.declared.scan.Pending.{Pending}
 use Rattle.reg_file.specs.declared.scan.Scan.{Scan}
@@ -14,8 +13,7 @@ use Rattle.reg_file.specs.declared.scan.Scan.TheVariants as scan
 use Rattle.reg_file.specs.declared.fault.FaultKind.{FaultKind}
 use Rattle.reg_file.specs.declared.fault.FaultKind.TheVariants as kind
 use Rattle.reg_file.specs.declared.turn.Item.{Item}
-use Rattle.reg_file.specs.declared.turn.Turn.TheVariants.{Next, Done, Stop}
-use Rattle.reg_file.specs.declared.file.RegFile.{RegFile}
+use Rattle.reg_file.specs.declared.turn.Turn.TheVariants.{Done}
 use Rattle.reg_file.proofs.BlankRuns.{is_or_not}
 use Rattle.reg_file.proofs.Meanings.{Ends, Means, first_line_means, further_line_means}
 use Rattle.reg_file.proofs.Runs.{texts, rest_file, next_item, line_goes_on}
@@ -197,6 +195,7 @@ module _ (old has_key : Bool) (first number : ℕ) (item : Option Item) (lines :
     where
       room : ℕ
       room = (MOST_ELEMENT_BYTES + 1) - units_of (lines ++ line ∷ [])
+
       no_zero : room ≡ 0 → (room == 0) ≡ false → ⊥
       no_zero z h = bad (sym ((Decides-eqb room 0).1 z) ∙ h)
         where
@@ -222,6 +221,7 @@ walk (Some line ∷ left) old has_key first number item lines f r m =
   where
     more_room : (pending : Pending) (next : List ℕ) → room_after (Some (next_item number item line pending)) next ≡ (MOST_ELEMENT_BYTES + 1) - units_of ((lines ++ line ∷ []) ++ next ∷ [])
     more_room pending next = let here = r line in let more = units_behind lines line next in omega (arith, here, more)
+
     at_scan : ((pending : Pending) → Ends old (lines ++ line ∷ []) pending → Walk old has_key first (number + 1) (Some (next_item number item line pending)) (lines ++ line ∷ []) left) → (old && has_high line) ≡ false → (found : Scan)
         → line_scan old (pending_of item) line ≡ found → Means old (lines ++ line ∷ []) found → Walk old has_key first number item lines (Some line ∷ left)
     at_scan go low scan.Nothing e means =
@@ -245,6 +245,7 @@ walk (Some line ∷ left) old has_key first number item lines f r m =
           details = (in_old, inr (line ∷ [], left, name, number_of_kind, bytes, refl, value, text));
         }))
     at_scan go low scan.NotUnderstood e means = inr (inl (record { what = kind.NotUnderstood; runs = taken old has_key first number item lines line left f (r line) scan.NotUnderstood low e; details = tt }))
+
     at_line : ((pending : Pending) → Ends old (lines ++ line ∷ []) pending → Walk old has_key first (number + 1) (Some (next_item number item line pending)) (lines ++ line ∷ []) left) → Walk old has_key first number item lines (Some line ∷ left)
     at_line go = elim (is_or_not (old && has_high line)) [
       | inl high ↦

@@ -1,8 +1,10 @@
 //! Registration files.
-ghost use Rattle.std.specs.Prelude.{◌≡◌, ◌+◌, ◌<◌, ◌≤◌, ◌^◌, [], ◌∷◌, ◌++◌, IfOk, OnOk, Some, None, false, length};
+ghost use Rattle.std.specs.Prelude.{◌≡◌, ◌+◌, ◌<◌, ◌≤◌, ◌^◌, [], ◌∷◌, ◌++◌, IfOk, IfSome, OnOk, Some, None, false, length, ℕ, List, map, ◌⊎◌};
 ghost use Rattle.std.specs.Option.{option_copied};
 ghost use Rattle.reg_file.specs.Files.{reg_file_of, lines_file, file_from, header_of, is_header, ends_behind, onto_file, first_of, end_fault};
-ghost use Rattle.reg_file.specs.Lines.{lines_left};
+ghost use Rattle.reg_file.specs.Lines.{lines_left, file_lines};
+ghost use Rattle.reg_file.specs.Grammar.{IsFile, IsStopped, IsNoHeader};
+ghost use Rattle.reg_file.specs.declared.statement.NumberedStatement.{NumberedStatement};
 ghost use Rattle.reg_file.specs.Views.{bytes_left};
 
 use crate::blanks::{ends_line, skip_blanks, strip};
@@ -69,7 +71,38 @@ pub struct RegFile {
 }
 
 /// The statements of a file's bytes in order, up to its first fault, and that fault.
+///
+/// UTF-16 is read behind its mark FF FE, and UTF-8 with or without its mark; a line ends with a line feed, or with a
+/// carriage return and a line feed. A fault has the number of the first line of what is wrong, from 1.
+///
+/// | fault | where it stands |
+/// |---|---|
+/// | `NoHeader` | the first line is none of the two headers |
+/// | `NotText` | a line of the statement, or the first line, isn't well formed in the file's encoding |
+/// | `CodePage` | in the old form a line of the statement has a unit above 0x7e, or the statement is a list of type 1, 2 or 7 |
+/// | `NotUnderstood` | no statement, comment or empty line begins here |
+/// | `NoKey` | a value's statement begins here, and no key is current |
+/// | `TooLarge` | a statement begins here whose lines have more than 4,194,304 units, with the line feeds between them |
+///
+/// Of several faults of one statement that of the earliest line is told, and of one line the one that stands first in
+/// this table; `NoKey` and `TooLarge` are told of a statement that is understood.
 pub fn parse(alloc: Global, bytes: &[u8]) -> Result<RegFile, AllocError>
+    // What is parsed, with a fault or without.
+    ensures exact { IfOk result (λ file. file ≡ reg_file_of bytes.now) }
+    // Without a fault the lines are a file with these statements.
+    ensures whole { IfOk result (λ file. file.fault ≡ None → (lines : List (List ℕ)) × (file_lines bytes.now ≡ map Some lines)
+        × IsFile lines file.statements) }
+    // A file with statements is parsed to them, without a fault.
+    ensures read { (lines : List (List ℕ)) (statements : List NumberedStatement) → file_lines bytes.now ≡ map Some lines →
+        IsFile lines statements → IfOk result (λ file. file ≡ record { statements = statements; fault = None }) }
+    // A fault stands behind entries with these statements, or in the first line.
+    ensures fault { IfOk result (λ file. IfSome file.fault (λ fault.
+        IsStopped (file_lines bytes.now) file.statements fault ⊎ IsNoHeader (file_lines bytes.now) file.statements fault)) }
+{
+    parse_lines(alloc, bytes)
+}
+
+fn parse_lines(alloc: Global, bytes: &[u8]) -> Result<RegFile, AllocError>
     ensures { IfOk result (λ file. file ≡ reg_file_of bytes.now) }
 {
     let mut lines = Lines::new(bytes);

@@ -6,6 +6,7 @@ mod fault;
 mod file;
 mod hex;
 mod key_line;
+pub mod laws;
 mod line_scan;
 mod lines;
 mod list;

@@ -41,7 +41,11 @@ pub(crate) fn read_list(bytes: &mut ValueData, line: &[u16]) -> Result<ListEnd, 
             continue;
         }
         if *unit == 0x5c {
-            return Ok(if ends_line(others) { ListEnd::Broken } else { ListEnd::Wrong });
+            return Ok(if ends_line(others) {
+                ListEnd::Broken
+            } else {
+                ListEnd::Wrong
+            });
         }
         let Some((byte, behind)) = pair(rest) else {
             return Ok(ListEnd::Wrong);
@@ -51,7 +55,11 @@ pub(crate) fn read_list(bytes: &mut ValueData, line: &[u16]) -> Result<ListEnd, 
             return Ok(ListEnd::Whole);
         };
         if *comma != 0x2c {
-            return Ok(if ends_line(behind) { ListEnd::Whole } else { ListEnd::Wrong });
+            return Ok(if ends_line(behind) {
+                ListEnd::Whole
+            } else {
+                ListEnd::Wrong
+            });
         }
         rest = more;
     }

@@ -45,7 +45,11 @@ pub(crate) fn read_quote<'a>(
             text.push(unit)?;
         }
     }
-    Ok(if escaped { QuoteEnd::Wrong } else { QuoteEnd::Open })
+    Ok(if escaped {
+        QuoteEnd::Wrong
+    } else {
+        QuoteEnd::Open
+    })
 }
 
 // what may follow a backslash

@@ -56,7 +56,11 @@ pub(crate) fn take_line(
     ensures { IfOk result (λ turn. turn ≡ turn_of old has_key number item line.now) }
 {
     let (first, room, pending) = match item {
-        None => (number, (MOST_ELEMENT_BYTES + 1).saturating_sub(line.len() as u64), None),
+        None => (
+            number,
+            (MOST_ELEMENT_BYTES + 1).saturating_sub(line.len() as u64),
+            None,
+        ),
         Some(item) => (
             item.first_line,
             item.room.saturating_sub(line.len() as u64 + 1),

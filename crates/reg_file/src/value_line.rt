@@ -49,12 +49,7 @@ fn read_name(alloc: Global, line: &[u16]) -> Result<Option<(Utf16Text, &[u16])>,
 }
 
 // an equals sign and the data
-fn scan_equals(
-    alloc: Global,
-    old: bool,
-    name: Utf16Text,
-    line: &[u16],
-) -> Result<Scan, AllocError>
+fn scan_equals(alloc: Global, old: bool, name: Utf16Text, line: &[u16]) -> Result<Scan, AllocError>
     ensures { IfOk result (λ scan. scan ≡ equals_scan old name line.now) }
 {
     match line.split_first() {
@@ -64,12 +59,7 @@ fn scan_equals(
 }
 
 // the data: a text, a minus, or something with a type
-fn scan_data(
-    alloc: Global,
-    old: bool,
-    name: Utf16Text,
-    line: &[u16],
-) -> Result<Scan, AllocError>
+fn scan_data(alloc: Global, old: bool, name: Utf16Text, line: &[u16]) -> Result<Scan, AllocError>
     ensures { IfOk result (λ scan. scan ≡ data_scan old name line.now) }
 {
     match line.split_first() {
@@ -119,12 +109,7 @@ fn open_text(name: Utf16Text, text: Utf16Text) -> Result<Scan, AllocError>
 }
 
 // a number, or bytes with or without a type
-fn scan_typed(
-    alloc: Global,
-    old: bool,
-    name: Utf16Text,
-    line: &[u16],
-) -> Result<Scan, AllocError>
+fn scan_typed(alloc: Global, old: bool, name: Utf16Text, line: &[u16]) -> Result<Scan, AllocError>
     ensures { IfOk result (λ scan. scan ≡ typed_scan old name line.now) }
 {
     if let Some(rest) = strip(b"dword:".as_slice(), line) {
