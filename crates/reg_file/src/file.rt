@@ -84,8 +84,9 @@ pub struct RegFile {
 /// | `NoKey` | a value's statement begins here, and no key is current |
 /// | `TooLarge` | a statement begins here whose lines have more than 4,194,304 units, with the line feeds between them |
 ///
-/// Of several faults of one statement that of the earliest line is told, and of one line the one that stands first in
-/// this table; `NoKey` and `TooLarge` are told of a statement that is understood.
+/// The lines of a statement are taken in order. Each has to be text, and then free of units above 0x7e in the old form,
+/// before it is read. A list with something wrong in it is refused where its last line ends. `NoKey` and `TooLarge` are
+/// told of a statement that is understood, in this order.
 pub fn parse(alloc: Global, bytes: &[u8]) -> Result<RegFile, AllocError>
     // What is parsed, with a fault or without.
     ensures exact { IfOk result (λ file. file ≡ reg_file_of bytes.now) }

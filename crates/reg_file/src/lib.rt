@@ -1,4 +1,11 @@
-//! Registration files.
+//! Registration files (.reg), such as registry editors exchange.
+//!
+//! [`parse`] turns the bytes of a file into its statements, up to the first fault. A [`Statement`] is what the file says:
+//! the text of a path, the name, type and data of a value. Whoever carries it out judges if names may be such, and
+//! finds the hive that a path begins with.
+//!
+//! What is promised: the statements are those that the file's lines spell by the grammar of `specs/Grammar`, in order and
+//! with the numbers of their lines; a file of the grammar is parsed to its statements; and no file is two ([`laws`]).
 #![tactic(auto)]
 
 mod blanks;
