@@ -4,7 +4,7 @@ use Rattle.std.specs.Prelude.{codes, reverse}
 use Rattle.std.specs.Int.{w32, to_le_bytes}
 use Rattle.reg_file.specs.Scanning.{skip_blanks, is_end, ends_line, strip, backwards, number_at, QuoteScan, QuoteCloses, QuoteStaysOpen, NoQuote, quote_at, onto_quote, ListScan, ListEnds, ListGoesOn, NoList, Before, list_at, list_scan, onto_list, goes_on}
 use Rattle.reg_file.specs.Reading.{text_data, text_scan, is_text_kind, list_value, wrong_list, bytes_scan, number_scan, typed_list, kind_scan, kind_or_not, list_or_kind, number_or_list, typed_scan, data_scan, closed_name, name_at, equals_scan, value_scan, without_separator, key_between, closed_key, key_scan, first_scan, line_scan}
-use Rattle.reg_file.specs.Grammar.{AreBlanks, IsNamed, IsHead, IsText, AreBytes, IsType, IsNumber, IsListValue, IsPlainValue, IsKeyLine, IsStatement, IsBlankLine}
+use Rattle.reg_file.specs.Grammar.{AreBlanks, IsNamed, IsHead, IsText, AreBytes, IsType, IsNumber, IsListValue, IsPlainValue, IsKeyLine, IsLineEnd, quoted, IsPair, IsStatement, IsBlankLine, IsWrongList, MayGoOn}
 use Rattle.reg_file.specs.declared.statement.Statement.TheVariants.{CreateKey, DeleteKey, SetValue, DeleteValue}
 use Rattle.reg_file.specs.declared.scan.Pending.{Pending}
 use Rattle.reg_file.specs.declared.scan.Pending.TheVariants.{Text, List as PendingList, WrongList}
@@ -20,7 +20,7 @@ use Rattle.reg_file.proofs.KeyLines.{path_is, IsBracketed, bracketed}
 abbrev pub Ends : Bool → List (List ℕ) → Pending → Type 0
 Ends old lines (Text name text) = (tail : List (List ℕ)) (back : List ℕ) → IsText tail back → IsPlainValue (lines ++ tail) name 1 (text_data (text ++ back))
 Ends old lines (PendingList name kind bytes) = (tail : List (List ℕ)) (back : List ℕ) → AreBytes tail back → IsListValue (lines ++ tail) name kind (bytes ++ back)
-Ends old lines WrongList = Unit {0}
+Ends old lines WrongList = IsWrongList lines
 
 -- what a scan says of the lines that it comes from
 abbrev pub Means : Bool → List (List ℕ) → Scan → Type 0
@@ -51,8 +51,46 @@ list_value_means old lines name kind bytes v =
     (λ text. let both = both_true old (is_text_kind kind) text in (both.0, (name, kind, bytes, v, both.1)))
     (λ other. inr (v, not_both old (is_text_kind kind) other))
 
-wrong_list_means : (old : Bool) (lines : List (List ℕ)) (line : List ℕ) → Means old lines (wrong_list line)
-wrong_list_means old lines line = by_test (Means old lines) (goes_on line) (GoesOn WrongList) NotUnderstood (λ more. tt) (λ no. tt)
+wrong_list_means : (old : Bool) (front : List (List ℕ)) (line before rest : List ℕ) → line ≡ before ++ rest → Means old (front ++ line ∷ []) (wrong_list rest)
+wrong_list_means old front line before rest e = by_test (Means old (front ++ line ∷ [])) (goes_on rest) (GoesOn WrongList) NotUnderstood (λ more. (front, line, before, rest, refl, e, more)) (λ no. tt)
+
+-- a line ends with its data
+head_tail : (line name data_line : List ℕ) → IsHead line name data_line → (front : List ℕ) × (line ≡ front ++ data_line)
+head_tail line name data_line head = by_name head.named
+  where
+    behind : List ℕ → List ℕ
+    behind word = head.before ++ (word ++ (head.between ++ 61 ∷ head.behind))
+
+    joined : (word : List ℕ) → head.before ++ (word ++ (head.between ++ 61 ∷ (head.behind ++ data_line))) ≡ (head.before ++ (word ++ (head.between ++ 61 ∷ head.behind))) ++ data_line
+    joined word =
+        sym (append_assoc head.before (word ++ (head.between ++ 61 ∷ head.behind)) data_line
+        ∙ ap (λ xs. head.before ++ xs) (append_assoc word (head.between ++ 61 ∷ head.behind) data_line ∙ ap (λ xs. word ++ xs) (append_assoc head.between (61 ∷ head.behind) data_line)))
+
+    by_name : IsNamed head.word name (head.between ++ 61 ∷ (head.behind ++ data_line)) → (front : List ℕ) × (line ≡ front ++ data_line)
+    by_name (inl (word, none)) = (head.before ++ ((64 ∷ []) ++ (head.between ++ 61 ∷ head.behind)), head.parsed ∙ ap (λ xs. head.before ++ xs) word ∙ joined (64 ∷ []))
+    by_name (inr (word, some)) =
+        let quote = 34 ∷ (quoted name ++ 34 ∷ []) in
+        let tail = head.between ++ 61 ∷ (head.behind ++ data_line) in
+        (head.before ++ (quote ++ (head.between ++ 61 ∷ head.behind)), head.parsed ∙ ap (λ xs. head.before ++ xs) (word ∙ ap (λ xs. 34 ∷ xs) (sym (append_assoc (quoted name) (34 ∷ []) tail))) ∙ joined quote)
+
+-- where an entry may go on
+pub may_go_on : (old : Bool) (lines : List (List ℕ)) (pending : Pending) → Ends old lines pending → MayGoOn lines
+may_go_on old lines (Text name text) more = inr (inl ((34 ∷ []) ∷ [], SetValue name 1 (text_data (text ++ [])), inl (more ((34 ∷ []) ∷ []) [] ([], refl, tt, nothing_left))))
+  where
+    nothing_left : IsLineEnd []
+    nothing_left = record { blanks = []; are_blanks = tt; parsed = inl refl }
+may_go_on old lines (PendingList name kind bytes) more =
+    inr (inl ((48 ∷ 48 ∷ []) ∷ [], SetValue name kind (bytes ++ 0 ∷ []), inr (more ((48 ∷ 48 ∷ []) ∷ []) (0 ∷ []) ([], 48 ∷ 48 ∷ [], [], refl, tt, zero_pair, nothing_left), λ e. absurd (bad e))))
+  where
+    nothing_left : IsLineEnd []
+    nothing_left = record { blanks = []; are_blanks = tt; parsed = inl refl }
+
+    zero_pair : IsPair (48 ∷ 48 ∷ []) 0
+    zero_pair = record { first = 48; second = 48; high = 0; low = 0; parsed = refl; high_is = refl; low_is = refl; value = refl }
+
+    bad : false ≡ true → ⊥
+    bad e = cc
+may_go_on old lines WrongList more = inr (inr more)
 
 module _ (old : Bool) (line name : List ℕ) where
   -- the first line of a list
@@ -64,7 +102,9 @@ module _ (old : Bool) (line name : List ℕ) where
       more : (tail : List (List ℕ)) (back : List ℕ) → AreBytes tail back → IsListValue ((line ∷ []) ++ tail) name kind (bytes ++ back)
       more [] back b = absurd b
       more (next ∷ lines) back b = (line, data_line, next ∷ lines, refl, head, (word, rest, e, t, inr (bytes, back, s, b, refl)))
-  first_bytes_mean data_line word rest kind head e t NoList s = wrong_list_means old (line ∷ []) rest
+  first_bytes_mean data_line word rest kind head e t NoList s =
+      let front = head_tail line name data_line head in
+      wrong_list_means old [] line (front.0 ++ word) rest (front.1 ∙ ap (λ xs. front.0 ++ xs) e ∙ sym (append_assoc front.0 word rest))
 
   first_list_means : (data_line word rest : List ℕ) (kind : ℕ) → IsHead line name data_line → data_line ≡ word ++ rest → IsType word kind → Means old (line ∷ []) (bytes_scan old name kind rest (list_scan rest))
   first_list_means data_line word rest kind head e t =
@@ -255,9 +295,9 @@ list_line_means old lines line name kind bytes more (ListGoesOn front) s = λ ta
     further (next ∷ tail) back b =
         subst (λ all. IsListValue ((lines ++ line ∷ []) ++ next ∷ tail) name kind all) (sym (append_assoc bytes front back))
         (subst (λ all. IsListValue all name kind (bytes ++ (front ++ back))) (sym (append_assoc lines (line ∷ []) (next ∷ tail))) (more (line ∷ next ∷ tail) (front ++ back) (front, back, s, b, refl)))
-list_line_means old lines line name kind bytes more NoList s = wrong_list_means old (lines ++ line ∷ []) line
+list_line_means old lines line name kind bytes more NoList s = wrong_list_means old lines line [] line refl
 
 pub further_line_means : (old : Bool) (lines : List (List ℕ)) (line : List ℕ) (pending : Pending) → Ends old lines pending → Means old (lines ++ line ∷ []) (line_scan old (Some pending) line)
 further_line_means old lines line (Text name text) more = text_line_means old lines line name text more (quote_at false line) (is_scanned false line)
 further_line_means old lines line (PendingList name kind bytes) more = list_line_means old lines line name kind bytes more (list_at Before line) (list_scanned line)
-further_line_means old lines line WrongList more = wrong_list_means old (lines ++ line ∷ []) line
+further_line_means old lines line WrongList more = wrong_list_means old lines line [] line refl

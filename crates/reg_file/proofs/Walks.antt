@@ -2,10 +2,11 @@
 use Rattle.std.proofs.Common.{◌≡◌, ◌≢◌, ℕ, ◌+◌, ◌-◌, ◌<◌, ◌==◌, ◌&&◌, not, Bool, true, false, cond, List, [], ◌∷◌, ◌++◌, length, Option, Some, None, refl, sym, ◌∙◌, ap, subst, inl, inr, append_assoc, arith}
 use Rattle.std.specs.Prelude.{◌⊎◌}
 use Rattle.std.proofs.lemmas.Bool.Decides.{Decides-eqb}
+use Rattle.std.proofs.lemmas.List.{append-nil}
 use Rattle.refusals.specs.declared.limits.TheConstants.{MOST_ELEMENT_BYTES}
 use Rattle.reg_file.specs.Reading.{is_text_kind, line_scan}
 use Rattle.reg_file.specs.Files.{stopped, onto_file, key_after, wants_key, first_of, pending_of, room_after, stop, judged, scanned, has_high, after_turn, file_from}
-use Rattle.reg_file.specs.Grammar.{IsEntry, IsStatement, IsListValue, IsInForm, units_of, IsPlaced, key_behind_entry, one_numbered, HasNoText, HasHigh}
+use Rattle.reg_file.specs.Grammar.{IsEntry, IsStatement, IsListValue, IsInForm, units_of, IsPlaced, key_behind_entry, one_numbered, MayGoOn}
 use Rattle.reg_file.specs.declared.statement.Statement.{Statement}
 use Rattle.reg_file.specs.declared.scan.Pending.{Pending}
 use Rattle.reg_file.specs.declared.scan.Scan.{Scan}
@@ -15,13 +16,19 @@ use Rattle.reg_file.specs.declared.fault.FaultKind.TheVariants as kind
 use Rattle.reg_file.specs.declared.turn.Item.{Item}
 use Rattle.reg_file.specs.declared.turn.Turn.TheVariants.{Done}
 use Rattle.reg_file.proofs.BlankRuns.{is_or_not}
-use Rattle.reg_file.proofs.Meanings.{Ends, Means, first_line_means, further_line_means}
+use Rattle.reg_file.proofs.Meanings.{Ends, Means, may_go_on, first_line_means, further_line_means}
 use Rattle.reg_file.proofs.Runs.{texts, rest_file, next_item, line_goes_on}
 
 -- what a fault stands at, behind lines of the same entry
 abbrev pub Behind : Bool → (List (List ℕ) → Statement → Type 0) → List (List ℕ) → List (Option (List ℕ)) → Type 0
 Behind old Holds lines left =
     (tail : List (List ℕ)) × (statement : Statement) × (more : List (Option (List ℕ))) × (left ≡ texts tail ++ more) × IsStatement old (lines ++ tail) statement × Holds (lines ++ tail) statement
+
+abbrev pub NoTextBehind : List (List ℕ) → List (Option (List ℕ)) → Type 0
+NoTextBehind lines left = (tail : List (List ℕ)) × (more : List (Option (List ℕ))) × (left ≡ texts tail ++ None ∷ more) × MayGoOn (lines ++ tail)
+
+abbrev pub HighBehind : List (List ℕ) → List (Option (List ℕ)) → Type 0
+HighBehind lines left = (tail : List (List ℕ)) × (line : List ℕ) × (more : List (Option (List ℕ))) × (left ≡ texts tail ++ Some line ∷ more) × (has_high line ≡ true) × MayGoOn (lines ++ tail)
 
 abbrev pub ListBehind : List (List ℕ) → List (Option (List ℕ)) → Type 0
 ListBehind lines left =
@@ -35,8 +42,8 @@ Large lines statement = MOST_ELEMENT_BYTES < units_of lines
 
 abbrev pub Details : Bool → Bool → List (List ℕ) → List (Option (List ℕ)) → FaultKind → Type 0
 Details old has_key lines left kind.NoHeader = ⊥
-Details old has_key lines left kind.NotText = HasNoText left
-Details old has_key lines left kind.CodePage = (old ≡ true) × (HasHigh left ⊎ ListBehind lines left)
+Details old has_key lines left kind.NotText = NoTextBehind lines left
+Details old has_key lines left kind.CodePage = (old ≡ true) × (HighBehind lines left ⊎ ListBehind lines left)
 Details old has_key lines left kind.NotUnderstood = Unit {0}
 Details old has_key lines left kind.NoKey = (has_key ≡ false) × Behind old Wants lines left
 Details old has_key lines left kind.TooLarge = Behind old Large lines left
@@ -69,8 +76,8 @@ module _ (old has_key : Bool) (first number : ℕ) (item : Option Item) (lines :
   low_form : (tail : List (List ℕ)) → (old && has_high line) ≡ false → IsInForm old tail → IsInForm old (line ∷ tail)
   low_form tail low form o = (subst (λ b. (b && has_high line) ≡ false) o low, form o)
 
-  high_more : HasHigh left → HasHigh (Some line ∷ left)
-  high_more (front, high, more, e, h) = (line ∷ front, high, more, ap (λ xs. Some line ∷ xs) e, h)
+  high_more : HighBehind (lines ++ line ∷ []) left → HighBehind lines (Some line ∷ left)
+  high_more (tail, high, more, e, h, g) = (line ∷ tail, high, more, ap (λ xs. Some line ∷ xs) e, h, subst MayGoOn (longer tail) g)
 
   behind_more : (Holds : List (List ℕ) → Statement → Type 0) → Behind old Holds (lines ++ line ∷ []) left → Behind old Holds lines (Some line ∷ left)
   behind_more Holds (tail, statement, more, e, s, h) =
@@ -81,7 +88,7 @@ module _ (old has_key : Bool) (first number : ℕ) (item : Option Item) (lines :
 
   details_more : (what : FaultKind) → Details old has_key (lines ++ line ∷ []) left what → Details old has_key lines (Some line ∷ left) what
   details_more kind.NoHeader d = d
-  details_more kind.NotText (front, more, e) = (line ∷ front, more, ap (λ xs. Some line ∷ xs) e)
+  details_more kind.NotText (tail, more, e, g) = (line ∷ tail, more, ap (λ xs. Some line ∷ xs) e, subst MayGoOn (longer tail) g)
   details_more kind.CodePage (o, inl high) = (o, inl (high_more high))
   details_more kind.CodePage (o, inr list) = (o, inr (list_more list))
   details_more kind.NotUnderstood d = tt
@@ -210,14 +217,14 @@ units_behind (first ∷ second ∷ lines) line next = let more = units_behind (s
 -- the lines of an entry, from one of them on
 pub walk : (left : List (Option (List ℕ))) (old has_key : Bool) (first number : ℕ) (item : Option Item) (lines : List (List ℕ)) → first_of number item ≡ first
     → ((line : List ℕ) → room_after item line ≡ (MOST_ELEMENT_BYTES + 1) - units_of (lines ++ line ∷ []))
-    → ((line : List ℕ) → Means old (lines ++ line ∷ []) (line_scan old (pending_of item) line)) → Walk old has_key first number item lines left
-walk [] old has_key first number None lines f r m = inr (inr (refl, refl))
-walk [] old has_key first number (Some item) lines f r m =
+    → ((line : List ℕ) → Means old (lines ++ line ∷ []) (line_scan old (pending_of item) line)) → MayGoOn lines → Walk old has_key first number item lines left
+walk [] old has_key first number None lines f r m g = inr (inr (refl, refl))
+walk [] old has_key first number (Some item) lines f r m g =
     inr (inl (record { what = kind.NotUnderstood; runs = ap (λ n. stopped (record { line = n; kind = kind.NotUnderstood })) f; details = tt }))
-walk (None ∷ left) old has_key first number item lines f r m =
-    inr (inl (record { what = kind.NotText; runs = ap (λ n. stopped (record { line = n; kind = kind.NotText })) f; details = ([], left, refl) }))
-walk (Some line ∷ left) old has_key first number item lines f r m =
-    at_line (λ pending ending. walk left old has_key first (number + 1) (Some (next_item number item line pending)) (lines ++ line ∷ []) f (more_room pending) (λ next. further_line_means old (lines ++ line ∷ []) next pending ending))
+walk (None ∷ left) old has_key first number item lines f r m g =
+    inr (inl (record { what = kind.NotText; runs = ap (λ n. stopped (record { line = n; kind = kind.NotText })) f; details = ([], left, refl, subst MayGoOn (sym (append-nil lines)) g) }))
+walk (Some line ∷ left) old has_key first number item lines f r m g =
+    at_line (λ pending ending. walk left old has_key first (number + 1) (Some (next_item number item line pending)) (lines ++ line ∷ []) f (more_room pending) (λ next. further_line_means old (lines ++ line ∷ []) next pending ending) (may_go_on old (lines ++ line ∷ []) pending ending))
   where
     more_room : (pending : Pending) (next : List ℕ) → room_after (Some (next_item number item line pending)) next ≡ (MOST_ELEMENT_BYTES + 1) - units_of ((lines ++ line ∷ []) ++ next ∷ [])
     more_room pending next = let here = r line in let more = units_behind lines line next in omega (arith, here, more)
@@ -250,10 +257,10 @@ walk (Some line ∷ left) old has_key first number item lines f r m =
     at_line go = elim (is_or_not (old && has_high line)) [
       | inl high ↦
           let both = both_true old has_key first number item lines line left f (r line) old (has_high line) high in
-          inr (inl (record { what = kind.CodePage; runs = refused old has_key first number item lines line left f (r line) high; details = (both.0, inl ([], line, left, refl, both.1)) }))
+          inr (inl (record { what = kind.CodePage; runs = refused old has_key first number item lines line left f (r line) high; details = (both.0, inl ([], line, left, refl, both.1, subst MayGoOn (sym (append-nil lines)) g)) }))
       | inr low ↦ at_scan go low (line_scan old (pending_of item) line) refl (m line)
     ]
 
 -- the lines of an entry, from its first one on
 pub walk_entry : (old has_key : Bool) (number : ℕ) (left : List (Option (List ℕ))) → Walk old has_key number number None [] left
-walk_entry old has_key number left = walk left old has_key number number None [] refl (λ line. refl) (λ line. first_line_means old line)
+walk_entry old has_key number left = walk left old has_key number number None [] refl (λ line. refl) (λ line. first_line_means old line) (inl refl)

@@ -3,7 +3,7 @@ use Rattle.std.specs.Prelude.{◌≡◌, ◌≢◌, ℕ, ◌+◌, ◌*◌, ◌==
 use Rattle.std.specs.List.{AllByRecursion}
 use Rattle.std.specs.Int.{w32, to_le_bytes}
 use Rattle.refusals.specs.declared.limits.TheConstants.{MOST_ELEMENT_BYTES}
-use Rattle.reg_file.specs.Scanning.{is_blank, digit_of}
+use Rattle.reg_file.specs.Scanning.{is_blank, digit_of, goes_on}
 use Rattle.reg_file.specs.Reading.{text_data, is_text_kind}
 use Rattle.reg_file.specs.Files.{key_after, wants_key, has_high}
 use Rattle.reg_file.specs.declared.statement.Statement.{Statement}
@@ -226,13 +226,21 @@ pub record IsFile (lines : List (List ℕ)) (statements : List NumberedStatement
 abbrev pub BeginsNoEntry : List (Option (List ℕ)) → Type 0
 BeginsNoEntry left = (lines : List (List ℕ)) (statement : Option Statement) (more : List (Option (List ℕ))) → left ≡ map Some lines ++ more → IsEntry false lines statement → ⊥
 
--- a line that isn't well formed is behind lines that are
-abbrev pub HasNoText : List (Option (List ℕ)) → Type 0
-HasNoText left = (lines : List (List ℕ)) × (more : List (Option (List ℕ))) × (left ≡ map Some lines ++ None ∷ more)
+-- lines with which an entry may begin: none; those that others complete to a statement; or those of a list with something
+-- wrong in it, of which the last one goes on
+abbrev pub IsWrongList : List (List ℕ) → Type 0
+IsWrongList lines = (front : List (List ℕ)) × (line : List ℕ) × (before : List ℕ) × (rest : List ℕ) × (lines ≡ front ++ line ∷ []) × (line ≡ before ++ rest) × (goes_on rest ≡ true)
 
--- a unit above 0x7e
+abbrev pub MayGoOn : List (List ℕ) → Type 0
+MayGoOn lines = (lines ≡ []) ⊎ ((tail : List (List ℕ)) × (statement : Statement) × IsStatement false (lines ++ tail) statement) ⊎ IsWrongList lines
+
+-- a line that isn't well formed is behind lines that may go on
+abbrev pub HasNoText : List (Option (List ℕ)) → Type 0
+HasNoText left = (lines : List (List ℕ)) × (more : List (Option (List ℕ))) × (left ≡ map Some lines ++ None ∷ more) × MayGoOn lines
+
+-- a line with a unit above 0x7e is
 abbrev pub HasHigh : List (Option (List ℕ)) → Type 0
-HasHigh left = (lines : List (List ℕ)) × (line : List ℕ) × (more : List (Option (List ℕ))) × (left ≡ map Some lines ++ Some line ∷ more) × (has_high line ≡ true)
+HasHigh left = (lines : List (List ℕ)) × (line : List ℕ) × (more : List (Option (List ℕ))) × (left ≡ map Some lines ++ Some line ∷ more) × (has_high line ≡ true) × MayGoOn lines
 
 -- a list with a type of text begins here
 abbrev pub BeginsTextList : List (Option (List ℕ)) → Type 0

@@ -39,8 +39,7 @@ fn statements_are_those_of_the_file(rt: HostRuntime) -> Result<(), Fail> {
     ];
     for (body, wanted) in cases {
         let file = format!(in alloc; "{HEADER}{body}")?;
-        let got = shown(alloc, file.as_bytes())?;
-        assert!(&rt; got.as_str() == wanted, "{body}: {got}");
+        assert!(&rt; is_shown(alloc, file.as_bytes(), wanted)?);
     }
     Ok(())
 }
@@ -92,8 +91,7 @@ fn a_fault_is_told_where_it_stands(rt: HostRuntime) -> Result<(), Fail> {
         ),
     ];
     for (file, wanted) in cases {
-        let got = shown(alloc, file)?;
-        assert!(&rt; got.as_str() == wanted, "{wanted}: {got}");
+        assert!(&rt; is_shown(alloc, file, wanted)?);
     }
     Ok(())
 }
@@ -113,6 +111,11 @@ fn units_stand_as_they_are_in_utf16(rt: HostRuntime) -> Result<(), Fail> {
         "{got}"
     );
     Ok(())
+}
+
+fn is_shown(alloc: Global, bytes: &[u8], wanted: &str) -> Result<bool, Fail> {
+    let text = shown(alloc, bytes)?;
+    Ok(text.as_str() == wanted)
 }
 
 // the statements and the fault of a file, each with a bar behind it
