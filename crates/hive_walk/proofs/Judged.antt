@@ -1,0 +1,213 @@
+-- A key and the keys below it, judged or refused.
+use Rattle.std.proofs.Common.{◌≡◌, ◌≢◌, inl, inr, ℕ, suc, Bool, false, T, List, [], ◌∷◌, ◌++◌, refl, ◌∙◌, ap, sym, subst, Ok, Err, Some, None, append_assoc, append-nil, Result, MatchResult, OnOk, IfErr}
+use Rattle.std.specs.FinMap as finite
+use Rattle.std.specs.FinMap.{get-entries, entries_sorted}
+use Rattle.std.specs.FinMap.Entries.{find, is_sorted, below_all}
+use Rattle.refusals.specs.declared.refusal.Refusal.{Refusal}
+use Rattle.refusals.specs.declared.refusal.Refusal.TheVariants as refusal
+use Rattle.refusals.specs.declared.refusal.Cause.TheVariants as cause
+use Rattle.refusals.specs.declared.limits.TheConstants.{MOST_PATH_NAMES}
+use Rattle.reg_names.specs.Names.{folded}
+use Rattle.reg_tree_parts.specs.Orders.{path_order}
+use Rattle.reg_tree_parts.specs.Rows.{Row}
+use Rattle.reg_tree_parts.specs.Nodes.{Entries, root_name}
+use Rattle.reg_tree_parts.proofs.SortedLists.{front_of, back_of}
+use Rattle.std.specs.Ordering.{is_lt}
+use Rattle.std.proofs.lemmas.List.{map-append}
+use Rattle.hive_cells.specs.Bins.{Cells, Shows}
+use Rattle.hive_tree_model.specs.Lists.{IsIn, Once}
+use Rattle.hive_tree_model.specs.Keys.{KeyParts, Keys, lent_cells, names}
+use Rattle.hive_tree_model.specs.Trees.{tree_of}
+use Rattle.hive_tree_model.specs.Loads.{CellMarks, Loaded}
+use Rattle.hive_tree_model.specs.Encodings.{Named}
+use Rattle.hive_tree_model.proofs.Basics.{some_same, some_none, in_back}
+use Rattle.hive_tree_model.proofs.Loading.{ends}
+use Rattle.hive_tree_model.proofs.Rows.{row_of_tree}
+use Rattle.hive_records.specs.KeyNodes.{key_at, keys_in, lends_in}
+use Rattle.hive_records.specs.Follows.{Follows}
+use Rattle.hive_records.specs.Images.{splits}
+use Rattle.hive_records.specs.Nodes.{IsNodeOf}
+use Rattle.hive_records.proofs.Keys.{keys_trail}
+use Rattle.hive_load_parts.specs.PartsOfKey.{parts_at}
+use Rattle.hive_load_parts.proofs.KeyTold.{key_parts, key_told}
+use Rattle.hive_load_parts.proofs.Listed.{listed_names}
+use Rattle.hive_load.specs.Answers.{LoadsKey, RefusesKey, LoadsKeys, Faults}
+use Rattle.hive_load.specs.Nodes.{names_of}
+use Rattle.hive_load.specs.Roots.{LoadsRoot, RefusesRoot}
+use Rattle.hive_load.proofs.Levels.{keeps_joined, keys_begin, keys_on, keys_stop, key_too_deep, subkey_refused, siblings_refused}
+use Rattle.hive_load.proofs.Ends.{root_refused}
+use Rattle.hive_walk.specs.declared.errors.ImageError.{ImageError}
+use Rattle.hive_walk.specs.declared.errors.ImageError.TheVariants as image_error
+use Rattle.hive_walk.specs.declared.siblings.Sibling.{Sibling}
+use Rattle.hive_walk.specs.Errors.{IsFaultAt}
+use Rattle.hive_walk.specs.Siblings.{sibling_names, LacksNames}
+use Rattle.hive_walk.specs.Judgements.{ListsSubkey, NamesLeadTo, NamesReach, StandsIn, KeyIsRead, KeyIsUnread, KeyIsJudged, KeyIsRefused, BelowIsRefused, KeysAreJudged, KeysAreRefused, RootIsRefused, ImageRefused}
+
+-- ---- the entries of a tree of keys
+
+-- no path in entries that rise above a name is the root's
+no_root : (n : List ℕ) (path : List (List ℕ)) (es : Entries) → T (below_all path_order (n ∷ path) es) → find path_order [] es ≡ None
+no_root n path [] h = refl
+no_root n path (([], row) ∷ es) h = absurd (front_of (is_lt (path_order (n ∷ path) [])) (below_all path_order (n ∷ path) es) h)
+no_root n path ((m ∷ other, row) ∷ es) h = no_root n path es (back_of (is_lt (path_order (n ∷ path) (m ∷ other))) (below_all path_order (n ∷ path) es) h)
+
+-- the first of entries that rise is the root's, if it is there
+pub first_root : (es : Entries) (row : Row) → T (is_sorted path_order es) → find path_order [] es ≡ Some row → (others : Entries) × (es ≡ ([], row) ∷ others)
+first_root [] row h e = some_none row e
+first_root (([], other) ∷ es) row h e = (es, λ i. ([], some_same other row e i) ∷ es)
+first_root ((n ∷ path, other) ∷ es) row h e = some_none row (sym (no_root n path es (front_of (below_all path_order (n ∷ path) es) (is_sorted path_order es) h)) ∙ e)
+
+-- the entries of a key and of those below it have their rows
+pub entries_rows : (parts : KeyParts Row) (below : Keys Row) → Named below → IsNodeOf (finite.entries (tree_of parts below)) parts below
+entries_rows parts below named path = sym (get-entries (tree_of parts below) path) ∙ row_of_tree parts below named path
+
+-- ---- single steps
+
+pub read_refused : (split : Bool) (cells : Cells) (at : ℕ) (old new : CellMarks) (why : Refusal) (above : List (List ℕ)) (error : ImageError) → Follows (key_at split at) cells old new (Err why) → IsFaultAt above at why error → KeyIsUnread split cells old at above error
+read_refused split cells at old new why above image_error.NoMemory h is = tt
+read_refused split cells at old new why above (image_error.Fault fault) h is = elim (key_told split cells at old new why h) [
+  | inl e ↦ absurd (is.0 e)
+  | inr t ↦ (λ e. is.0 (sym is.1 ∙ e), subst (λ (r : Refusal). Faults split cells old at r) (sym is.1) t, is.2, is.3)
+]
+
+-- a key that can't be read
+pub unread_refused : (split : Bool) (cells : Cells) (at levels : ℕ) (old : CellMarks) (above : List (List ℕ)) (error : ImageError) → KeyIsUnread split cells old at above error → KeyIsRefused split cells old levels at above error
+unread_refused split cells at levels old above image_error.NoMemory h = tt
+unread_refused split cells at levels old above (image_error.Fault fault) h = (h.0, inr (inr h.1), [], h.3 ∙ sym (append-nil above), sym h.2)
+
+-- names that lead from a subkey on lead from its parent on
+pub lead_on : (split : Bool) (cells : Cells) (at subkey : ℕ) (names : List (List ℕ)) (to : ℕ) → ListsSubkey (keys_in split cells) at subkey → NamesReach (keys_in split cells) subkey names to → NamesLeadTo (keys_in split cells) at names to
+lead_on split cells at subkey [] to lists reach = inr (subst (λ (n : ℕ). ListsSubkey (keys_in split cells) at n) reach lists)
+lead_on split cells at subkey (name ∷ names) to lists reach = (subkey, reach.0, lists, reach.1, reach.2, reach.3)
+
+module _ (split : Bool) (cells : Cells) (at : ℕ) (old mid : CellMarks) (had between : List (ℕ × List ℕ)) (name : List ℕ) (subkey_list : List ℕ) (read : KeyIsRead split cells old mid had between at name subkey_list) where
+  abbrev its : KeyParts Row
+  its = parts_at split cells at read.0 subkey_list
+
+  reads_so : keys_in split cells at ≡ Ok (parts_at split cells at read.0 subkey_list)
+  reads_so = (key_parts split cells at old mid read.0 subkey_list read.2).0
+
+  -- a fault of the key itself
+  fault_here : (levels : ℕ) (why : Refusal) (path : List (List ℕ)) (error : ImageError) → RefusesKey split cells old levels at why → IsFaultAt path at why error → BelowIsRefused split cells old levels at path error
+  fault_here levels why path image_error.NoMemory h is = tt
+  fault_here levels why path (image_error.Fault fault) h is = (λ e. is.0 (sym is.1 ∙ e), subst (λ (r : Refusal). RefusesKey split cells old levels at r) (sym is.1) h, [], is.3 ∙ sym (append-nil path), inl (sym is.2))
+
+  pub deep_refused : (levels : ℕ) (path : List (List ℕ)) (error : ImageError) → levels ≡ 0 → IsFaultAt path at refusal.TooLarge error → BelowIsRefused split cells old levels at path error
+  deep_refused levels path error e is = fault_here levels refusal.TooLarge path error (subst (λ (n : ℕ). RefusesKey split cells old n at refusal.TooLarge) (sym e) (key_too_deep split cells at old mid read.0 subkey_list read.2)) is
+
+  pub below_refused : (below levels : ℕ) (path : List (List ℕ)) (error : ImageError) → suc below ≡ levels → KeysAreRefused split cells mid below subkey_list path error → BelowIsRefused split cells old levels at path error
+  below_refused below levels path image_error.NoMemory more h = tt
+  below_refused below levels path (image_error.Fault fault) more h = (
+    h.0,
+    subst (λ (n : ℕ). RefusesKey split cells old n at fault.refusal) more (subkey_refused split cells at old mid read.0 subkey_list read.2 (keys_trail split cells) below fault.refusal h.1),
+    h.2,
+    h.3,
+    lead_on split cells at h.4 h.2 fault.at (parts_at split cells at read.0 subkey_list, reads_so, h.5) h.6,
+  )
+
+  pub key_refused : (levels : ℕ) (above : List (List ℕ)) (error : ImageError) → BelowIsRefused split cells old levels at (above ++ name ∷ []) error → KeyIsRefused split cells old levels at above error
+  key_refused levels above image_error.NoMemory h = tt
+  key_refused levels above (image_error.Fault fault) h = (h.0, h.1, name ∷ h.2, h.3 ∙ append_assoc above (name ∷ []) h.2, (parts_at split cells at read.0 subkey_list, reads_so, read.1, h.4))
+
+  module _ (new : CellMarks) (has : List (ℕ × List ℕ)) (below levels : ℕ) (siblings : List Sibling) (more : suc below ≡ levels) (judged : KeysAreJudged split cells mid new between has below subkey_list siblings) where
+    l : LoadsKeys split cells mid new between has below subkey_list judged.0
+    l = judged.1
+
+    named : names_of judged.0 ≡ names l.keys
+    named = listed_names judged.0 l.keys l.are_nodes
+
+    pub key_judged : Once (sibling_names siblings) → (IsIn [] (sibling_names siblings) → ⊥) → KeyIsJudged split cells old new had has levels at name
+    key_judged once some =
+        let same : sibling_names siblings ≡ names l.keys = sym judged.2 ∙ named in
+        let loaded : Loaded (keys_in split cells) old new at (parts_at split cells at read.0 subkey_list) l.keys = ends (keys_in split cells) old mid new at (parts_at split cells at read.0 subkey_list) l.keys reads_so
+        (key_parts split cells at old mid read.0 subkey_list read.2).1 l.loading l.are_listed
+        (subst (λ (z : List (List ℕ)). Once z) same once) (subst (λ (z : List (List ℕ)). IsIn [] z → ⊥) same some) in
+        let rows : IsNodeOf (finite.entries (tree_of (parts_at split cells at read.0 subkey_list) l.keys)) (parts_at split cells at read.0 subkey_list) l.keys = entries_rows (parts_at split cells at read.0 subkey_list) l.keys loaded.0.named in
+        let root : root_name (finite.entries (tree_of (parts_at split cells at read.0 subkey_list) l.keys)) ≡ folded (read.0).name = ap root_name (first_root (finite.entries (tree_of (parts_at split cells at read.0 subkey_list) l.keys)) read.0 (entries_sorted (tree_of (parts_at split cells at read.0 subkey_list) l.keys)) (rows [])).1 in (
+          finite.entries (tree_of (parts_at split cells at read.0 subkey_list) l.keys),
+          subst (λ (n : ℕ). LoadsKey split cells old new had has n at (finite.entries (tree_of (parts_at split cells at read.0 subkey_list) l.keys))) more (record {
+            parts = parts_at split cells at read.0 subkey_list;
+            below = l.keys;
+            loaded = loaded;
+            is_node = rows;
+            named = root;
+            shallow = (l.shallow, tt);
+            keeps = keeps_joined had between has (lends_in split cells at) (lent_cells l.keys) read.3 l.keeps;
+          }),
+          root ∙ ap folded read.1,
+        )
+
+    pub names_refused : (path : List (List ℕ)) (why : Refusal) (error : ImageError) → why ≡ refusal.HiveDamaged 0 cause.BadName → LacksNames (sibling_names siblings) → IsFaultAt path at why error → BelowIsRefused split cells old levels at path error
+    names_refused path why error e lacks is = fault_here levels why path error
+        (subst (λ (n : ℕ). RefusesKey split cells old n at why) more (siblings_refused split cells at old mid read.0 subkey_list read.2 new between has below judged.0 why l
+        (inr (e, subst LacksNames (sym judged.2) lacks))))
+        is
+
+-- ---- keys one after another
+
+module _ (split : Bool) (cells : Cells) (old : CellMarks) (had : List (ℕ × List ℕ)) (levels : ℕ) where
+  pub none_judged : KeysAreJudged split cells old old had had levels [] []
+  none_judged = ([], keys_begin split cells old had levels, refl)
+
+  pub one_judged : (mid new : CellMarks) (between has : List (ℕ × List ℕ)) (listed : List ℕ) (siblings : List Sibling) (at : ℕ) (sibling : Sibling) → KeysAreJudged split cells old mid had between levels listed siblings → KeyIsJudged split cells mid new between has levels at sibling.name → KeysAreJudged split cells old new had has levels (listed ++ at ∷ []) (siblings ++ sibling ∷ [])
+  one_judged mid new between has listed siblings at sibling h k = (
+    h.0 ++ (root_name k.0, k.0) ∷ [],
+    keys_on split cells old had levels mid new between has listed h.0 at k.0 h.1 k.1,
+    map-append (λ (n : List ℕ × Entries). n.0) h.0 ((root_name k.0, k.0) ∷ []) ∙ (λ i. h.2 i ++ k.2 i ∷ []) ∙ sym (map-append (λ (s : Sibling). folded s.name) siblings (sibling ∷ [])),
+  )
+
+  pub one_refused : (mid : CellMarks) (between : List (ℕ × List ℕ)) (first rest : List ℕ) (siblings : List Sibling) (at : ℕ) (above : List (List ℕ)) (error : ImageError) → KeysAreJudged split cells old mid had between levels first siblings → KeyIsRefused split cells mid levels at above error → KeysAreRefused split cells old levels (first ++ at ∷ rest) above error
+  one_refused mid between first rest siblings at above image_error.NoMemory h k = tt
+  one_refused mid between first rest siblings at above (image_error.Fault fault) h k = (
+    k.0,
+    keys_stop split cells old had levels mid between first rest h.0 at fault.refusal h.1 k.1,
+    k.2,
+    k.3,
+    at,
+    in_back at first (at ∷ rest) (inl refl),
+    k.4,
+  )
+
+-- ---- the root
+
+module _ (split : Bool) (cells : Cells) (old new : CellMarks) (root : ℕ) (unset : (at : ℕ) → old at ≡ false) where
+  stands : (why : Refusal) → (why ≢ refusal.NoMemory) → RefusesRoot split cells root why → StandsIn split cells root why
+  stands why some (inl e) = absurd (some e)
+  stands why some (inr h) = h
+
+  pub root_unread : (error : ImageError) → KeyIsUnread split cells old root [] error → RootIsRefused split cells root error
+  root_unread image_error.NoMemory h = tt
+  root_unread (image_error.Fault fault) h = (
+    stands fault.refusal h.0 (root_refused split cells old new root unset (suc MOST_PATH_NAMES) fault.refusal refl (inr (inr h.1))),
+    subst (λ (names : List (List ℕ)). NamesLeadTo (keys_in split cells) root names fault.at) (sym h.3) (inl (sym h.2)),
+  )
+
+  pub root_below : (levels : ℕ) (error : ImageError) → levels ≡ suc MOST_PATH_NAMES → BelowIsRefused split cells old levels root [] error → RootIsRefused split cells root error
+  root_below levels image_error.NoMemory e h = tt
+  root_below levels (image_error.Fault fault) e h = (
+    stands fault.refusal h.0 (root_refused split cells old new root unset levels fault.refusal e h.1),
+    subst (λ (names : List (List ℕ)). NamesLeadTo (keys_in split cells) root names fault.at) (sym h.3) h.4,
+  )
+
+  pub root_lent : (why : Refusal) (error : ImageError) → RefusesRoot split cells root why → IsFaultAt [] root why error → RootIsRefused split cells root error
+  root_lent why image_error.NoMemory h is = tt
+  root_lent why (image_error.Fault fault) h is = (
+    subst (λ (r : Refusal). StandsIn split cells root r) (sym is.1) (stands why is.0 h),
+    subst (λ (names : List (List ℕ)). NamesLeadTo (keys_in split cells) root names fault.at) (sym is.3) (inl (sym is.2)),
+  )
+
+-- ---- an image
+
+module _ (bytes : List ℕ) (root minor : ℕ) (split : Bool) (is : split ≡ splits minor) where
+  pub image_judged : {X : Type 0} (result : Result X ImageError) → ((cells : Cells) → Shows bytes cells → MatchResult result (λ _. (node : Entries) × LoadsRoot split cells root node) (λ error. RootIsRefused split cells root error)) →
+      OnOk result ((cells : Cells) → Shows bytes cells → (node : Entries) × LoadsRoot (splits minor) cells root node)
+  image_judged (Ok x) h = λ cells shows. subst (λ (b : Bool). (node : Entries) × LoadsRoot b cells root node) is (h cells shows)
+  image_judged (Err error) h = tt
+
+  pub image_refused : {X : Type 0} (result : Result X ImageError) → ((cells : Cells) → Shows bytes cells → MatchResult result (λ _. (node : Entries) × LoadsRoot split cells root node) (λ error. RootIsRefused split cells root error)) →
+      (cells : Cells) → Shows bytes cells → IfErr result (ImageRefused bytes root minor)
+  image_refused (Ok x) h cells shows = tt
+  image_refused (Err image_error.NoMemory) h cells shows = tt
+  image_refused (Err (image_error.Fault fault)) h cells shows =
+      let told : StandsIn (splits minor) cells root fault.refusal × NamesLeadTo (keys_in (splits minor) cells) root fault.path.items fault.at = subst (λ (b : Bool). StandsIn b cells root fault.refusal × NamesLeadTo (keys_in b cells) root fault.path.items fault.at) is (h cells shows) in
+      (cells, shows, told.0, told.1)

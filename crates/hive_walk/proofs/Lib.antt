@@ -1,0 +1,5 @@
+pub mod Order
+pub mod NodeNames
+pub mod Judged
+pub mod Faults
+pub mod Walked

@@ -1,0 +1,251 @@
+-- The keys of a subtree are its first key, and the keys below its subkeys in the order of their names.
+use Rattle.std.proofs.Common.{◌≡◌, ◌<◌, ◌+◌, ◌&&◌, inl, inr, ℕ, zero, suc, Bool, T, List, [], ◌∷◌, ◌++◌, length, map, take, get_or, refl, ◌∙◌, ap, sym, subst, arith, Result, Ok, Err, IfErr, Some, IsSome, slice_get}
+use Rattle.std.specs.List.{flat_map}
+use Rattle.std.specs.List.Sorted.{IsPermutation}
+use Rattle.std.proofs.lemmas.List.{take_more}
+use Rattle.std.proofs.lemmas.List.Sorted.{IsPermutation-map, IsPermutation-sym}
+use Rattle.std.specs.FinMap as finite
+use Rattle.std.specs.FinMap.{get-entries, entries_sorted, entries-from_sorted}
+use Rattle.std.specs.FinMap.Entries.{is_sorted, below_all}
+use Rattle.std.specs.Ordering.{is_lt}
+use Rattle.reg_names.specs.Names.{folded}
+use Rattle.reg_tree_parts.specs.Orders.{name_order, path_order}
+use Rattle.reg_tree_parts.specs.Rows.{Row}
+use Rattle.reg_tree_parts.specs.Nodes.{Entries, entries_of, row_in, IsNode, AreNodes}
+use Rattle.reg_tree_parts.proofs.Rises.{entries_rise}
+use Rattle.hive_cells.specs.Bins.{Cells}
+use Rattle.hive_tree_model.specs.Lists.{IsIn, Once}
+use Rattle.hive_tree_model.specs.Keys.{KeyParts, Keys, none, key, offsets, names, own_cells, lent_cells}
+use Rattle.hive_tree_model.specs.Trees.{same, tree_of}
+use Rattle.hive_tree_model.specs.Encodings.{CellsMatchKeys, Named, IsKeyTree}
+use Rattle.hive_tree_model.proofs.Basics.{in_front, in_back, once_front, once_back, yes_if, no_if, same_itself, same_not}
+use Rattle.hive_tree_model.proofs.ChainsAre.{key_tree}
+use Rattle.hive_records.specs.KeyNodes.{keys_in}
+use Rattle.hive_records.specs.Nodes.{IsNodeOf, AreNodesOf}
+use Rattle.hive_records.proofs.Keys.{keys_named}
+use Rattle.hive_records.proofs.NodesOf.{node_of, tree_of_node}
+use Rattle.hive_load_parts.specs.Nodes.{AreListed}
+use Rattle.hive_load_parts.proofs.Listed.{listed_rows, listed_names}
+use Rattle.hive_load.specs.Nodes.{names_of}
+use Rattle.hive_load.proofs.Shuffled.{shuffled_found, in_shuffled}
+use Rattle.reg_tree.specs.Maps.{TreeMap}
+use Rattle.hive_records.specs.Images.{BinsEncodeTree}
+use Rattle.key_walk.specs.KeyRows.{node_rows, subkey_rows, tree_rows}
+use Rattle.key_walk.proofs.Rows.{node_walk, whole_rows}
+use Rattle.hive_walk.specs.declared.errors.ImageError.TheVariants as image_error
+use Rattle.hive_walk.specs.declared.errors.WalkError.{WalkError}
+use Rattle.hive_walk.specs.declared.errors.WalkError.TheVariants as walk_error
+use Rattle.hive_walk.specs.declared.siblings.Sibling.{Sibling}
+use Rattle.hive_walk.specs.Siblings.{keyed_all, sibling_names, siblings_in}
+use Rattle.hive_walk.specs.Walks.{AreSound, IsSound, entries_from, entries_named, nodes_of, IsNoFault, WalkRefused}
+use Rattle.hive_walk.proofs.Judged.{first_root, entries_rows}
+
+module _ (split : Bool) (cells : Cells) where
+  -- ---- sound keys
+
+  pub subkeys_sound : (levels at : ℕ) (parts : KeyParts Row) (below : Keys Row) → IsSound split cells levels at parts below → AreSound split cells levels below
+  subkeys_sound levels at parts below s = record {
+    fits = s.whole.fits;
+    named = s.whole.named;
+    once = once_back parts.own (own_cells below) s.whole.once;
+    apart = λ cell lent owned. s.apart cell (in_back cell parts.lent (lent_cells below) lent) (in_back cell parts.own (own_cells below) owned);
+    shallow = s.shallow;
+  }
+
+  first_sound : (levels at : ℕ) (p : KeyParts Row) (below after : Keys Row) → AreSound split cells (suc levels) (key at p below after) → IsSound split cells levels at p below
+  first_sound levels at p below after s = record {
+    whole = record { read = s.fits.0; listed = s.fits.1; fits = s.fits.2; named = s.named.2; once = once_front (p.own ++ own_cells below) (own_cells after) s.once };
+    apart = λ cell lent owned. s.apart cell (in_front cell (p.lent ++ lent_cells below) (lent_cells after) lent) (in_front cell (p.own ++ own_cells below) (own_cells after) owned);
+    shallow = s.shallow.0;
+  }
+
+  rest_sound : (levels at : ℕ) (p : KeyParts Row) (below after : Keys Row) → AreSound split cells (suc levels) (key at p below after) → AreSound split cells (suc levels) after
+  rest_sound levels at p below after s = record {
+    fits = s.fits.3;
+    named = s.named.3;
+    once = once_back (p.own ++ own_cells below) (own_cells after) s.once;
+    apart = λ cell lent owned. s.apart cell (in_back cell (p.lent ++ lent_cells below) (lent_cells after) lent) (in_back cell (p.own ++ own_cells below) (own_cells after) owned);
+    shallow = s.shallow.1;
+  }
+
+  -- what such a key and those below it make is a node
+  pub sound_node : (levels at : ℕ) (parts : KeyParts Row) (below : Keys Row) → IsSound split cells levels at parts below → IsNode (entries_from parts below)
+  sound_node levels at parts below s = record {
+    row = parts.row;
+    others = first.0;
+    whole = first.1;
+    rises = entries_sorted (tree_of parts below);
+    parents = λ path name h. subst IsSome (get-entries (tree_of parts below) path) (kept.parents path name (subst IsSome (sym (get-entries (tree_of parts below) (path ++ name ∷ []))) h));
+    named = λ path name row h. kept.named path name row (get-entries (tree_of parts below) (path ++ name ∷ []) ∙ h);
+  }
+    where
+      first : (others : Entries) × (entries_from parts below ≡ ([], parts.row) ∷ others)
+      first = first_root (entries_from parts below) parts.row (entries_sorted (tree_of parts below)) (entries_rows parts below s.whole.named [])
+
+      kept : IsKeyTree (λ (row : Row). folded row.name) (tree_of parts below)
+      kept = key_tree (keys_in split cells) (λ (row : Row). folded row.name) (keys_named split cells) at (tree_of parts below) (parts, below, s.whole, refl, s.apart)
+
+  -- ---- the names of siblings
+
+  sibling_named : (keys : Keys Row) → CellsMatchKeys (keys_in split cells) keys → sibling_names (siblings_in keys) ≡ names keys
+  sibling_named none fits = refl
+  sibling_named (key at p below after) fits = λ i. sym (keys_named split cells at p fits.0) i ∷ sibling_named after fits.3 i
+
+  once_named : (keys : Keys Row) → Named keys → Once (names keys)
+  once_named none named = tt
+  once_named (key at p below after) named = (named.1, once_named after named.3)
+
+  pub siblings_once : (keys : Keys Row) → CellsMatchKeys (keys_in split cells) keys → Named keys → Once (sibling_names (siblings_in keys))
+  siblings_once keys fits named = subst (λ (z : List (List ℕ)). Once z) (sym (sibling_named keys fits)) (once_named keys named)
+
+  -- ---- subkeys that are listed, one more
+
+  sibling_there : (keys : Keys Row) → CellsMatchKeys (keys_in split cells) keys → (i d : ℕ) (e : Sibling) → i < length (offsets keys) → (parts : KeyParts Row) × (keys_in split cells (get_or (offsets keys) i d) ≡ Ok parts) × (get_or (siblings_in keys) i e ≡ record { name = parts.row.name; at = get_or (offsets keys) i d })
+  sibling_there none fits i d e lt = absurd (omega (arith, lt))
+  sibling_there (key at p below after) fits zero d e lt = (p, fits.0, refl)
+  sibling_there (key at p below after) fits (suc i) d e lt = sibling_there after fits.3 i d e (omega (arith, lt))
+
+  pub same_length : (keys : Keys Row) → length (siblings_in keys) ≡ length (offsets keys)
+  same_length none = refl
+  same_length (key at p below after) = ap suc (same_length after)
+
+  pub one_sibling : (keys : Keys Row) → CellsMatchKeys (keys_in split cells) keys → (listed : List ℕ) → offsets keys ≡ listed → (siblings : List Sibling) (i : ℕ) → i < length listed → siblings ≡ take i (siblings_in keys) → (name : List ℕ) → ((parts : KeyParts Row) → keys_in split cells (get_or listed i 0) ≡ Ok parts → name ≡ parts.row.name) →
+      siblings ++ record { name = name; at = get_or listed i 0 } ∷ [] ≡ take (i + 1) (siblings_in keys)
+  one_sibling keys fits listed e siblings i lt so_far name named =
+      let within : i < length (offsets keys) = subst (λ (l : List ℕ). i < length l) (sym e) lt in
+      let same_at : get_or (offsets keys) i 0 ≡ get_or listed i 0 = ap (λ (l : List ℕ). get_or l i 0) e in
+      let new : Sibling = record { name = name; at = get_or listed i 0 } in
+      let there : (parts : KeyParts Row) × (keys_in split cells (get_or (offsets keys) i 0) ≡ Ok parts) × (get_or (siblings_in keys) i new ≡ record { name = parts.row.name; at = get_or (offsets keys) i 0 }) = sibling_there keys fits i 0 new within in
+      let is_name : name ≡ there.0.row.name = named there.0 (ap (keys_in split cells) (sym same_at) ∙ there.1) in
+      let is : new ≡ get_or (siblings_in keys) i new = (λ j. record { name = is_name j; at = sym same_at j }) ∙ sym there.2 in
+      let counted : i < length (siblings_in keys) = let l = same_length keys in omega (arith, within, l) in
+      (λ j. so_far j ++ is j ∷ []) ∙ sym (take_more (siblings_in keys) i new counted)
+
+  -- ---- a sibling's key
+
+  pub sibling_key : (levels : ℕ) (keys : Keys Row) → AreSound split cells (suc levels) keys → (sibling : Sibling) → IsIn sibling (siblings_in keys) →
+      (parts : KeyParts Row) × (below : Keys Row) × IsSound split cells levels sibling.at parts below × (parts.row.name ≡ sibling.name) × (entries_named keys (folded sibling.name) ≡ entries_from parts below)
+  sibling_key levels none s sibling i = absurd i
+  sibling_key levels (key at p below after) s sibling (inl e) = (
+    p,
+    below,
+    subst (λ (n : ℕ). IsSound split cells levels n p below) (sym (ap (λ (x : Sibling). x.at) e)) (first_sound levels at p below after s),
+    sym (ap (λ (x : Sibling). x.name) e),
+    yes_if (same (folded sibling.name) p.name) (entries_from p below) (entries_named after (folded sibling.name)) (ap (same (folded sibling.name)) named ∙ same_itself (folded sibling.name)),
+  )
+    where
+      named : p.name ≡ folded sibling.name
+      named = keys_named split cells at p s.fits.0 ∙ ap folded (sym (ap (λ (x : Sibling). x.name) e))
+  sibling_key levels (key at p below after) s sibling (inr i) =
+      let found : (parts : KeyParts Row) × (under : Keys Row) × IsSound split cells levels sibling.at parts under × (parts.row.name ≡ sibling.name) × (entries_named after (folded sibling.name) ≡ entries_from parts under) = sibling_key levels after (rest_sound levels at p below after s) sibling i in (
+        found.0,
+        found.1,
+        found.2,
+        found.3,
+        no_if (same (folded sibling.name) p.name) (entries_from p below) (entries_named after (folded sibling.name)) (same_not (folded sibling.name) p.name (λ e. s.named.1 (subst (λ (n : List ℕ). IsIn n (names after)) e (name_among after s.fits.3 sibling i)))) ∙ found.4,
+      )
+    where
+      name_among : (keys : Keys Row) → CellsMatchKeys (keys_in split cells) keys → (sibling : Sibling) → IsIn sibling (siblings_in keys) → IsIn (folded sibling.name) (names keys)
+      name_among none fits sibling i = i
+      name_among (key to q under later) fits sibling (inl e) = inl (ap (λ (x : Sibling). folded x.name) e ∙ sym (keys_named split cells to q fits.0))
+      name_among (key to q under later) fits sibling (inr i) = inr (name_among later fits.3 sibling i)
+
+  -- ---- nodes of siblings
+
+  -- each of some keys is found by its name among all
+  abbrev AreNamedIn : Keys Row → Keys Row → Type 0
+  AreNamedIn all none = Unit {0}
+  AreNamedIn all (key at p below after) = (entries_named all p.name ≡ entries_from p below) × AreNamedIn all after
+
+  named_later : (at : ℕ) (p : KeyParts Row) (below all keys : Keys Row) → (IsIn p.name (names keys) → ⊥) → AreNamedIn all keys → AreNamedIn (key at p below all) keys
+  named_later at p below all none apart h = tt
+  named_later at p below all (key to q under later) apart h = (
+    no_if (same q.name p.name) (entries_from p below) (entries_named all q.name) (same_not q.name p.name (λ e. apart (inl (sym e)))) ∙ h.0,
+    named_later at p below all later (λ i. apart (inr i)) h.1,
+  )
+
+  named_in : (keys : Keys Row) → Named keys → AreNamedIn keys keys
+  named_in none named = tt
+  named_in (key at p below after) named = (
+    yes_if (same p.name p.name) (entries_from p below) (entries_named after p.name) (same_itself p.name),
+    named_later at p below after after named.1 (named_in after named.3),
+  )
+
+  listed_in : (all keys : Keys Row) → AreNamedIn all keys → CellsMatchKeys (keys_in split cells) keys → Named keys → AreListed (nodes_of all (siblings_in keys)) keys
+  listed_in all none h fits named = tt
+  listed_in all (key at p below after) h fits named = (
+    sym (keys_named split cells at p fits.0),
+    subst (λ (es : Entries). IsNodeOf es p below) (sym (ap (entries_named all) (sym (keys_named split cells at p fits.0)) ∙ h.0)) (entries_rows p below named.2),
+    listed_in all after h.1 fits.3 named.3,
+  )
+
+  nodes_found : (keys : Keys Row) → CellsMatchKeys (keys_in split cells) keys → Named keys → (siblings : List Sibling) → IsPermutation (siblings_in keys) siblings → AreNodesOf (nodes_of keys siblings) keys
+  nodes_found keys fits named siblings moved name path =
+      let listed : AreListed (nodes_of keys (siblings_in keys)) keys = listed_in keys keys (named_in keys named) fits named in
+      let once : Once (names_of (nodes_of keys (siblings_in keys))) = subst (λ (z : List (List ℕ)). Once z) (sym (listed_names (nodes_of keys (siblings_in keys)) keys listed)) (once_named keys named) in
+      ap (λ o. row_in o path) (shuffled_found (nodes_of keys (siblings_in keys)) (nodes_of keys siblings) (IsPermutation-map (λ (s : Sibling). (folded s.name, entries_named keys (folded s.name))) (siblings_in keys) siblings moved) once name)
+      ∙ listed_rows (nodes_of keys (siblings_in keys)) keys listed name path
+
+  -- nodes rise as the names of their siblings do
+  below_as : (keys : Keys Row) (n : List ℕ) (siblings : List Sibling) → below_all name_order n (nodes_of keys siblings) ≡ below_all name_order n (keyed_all siblings)
+  below_as keys n [] = refl
+  below_as keys n (s ∷ siblings) = ap (λ b. is_lt (name_order n (folded s.name)) && b) (below_as keys n siblings)
+
+  sorted_as : (keys : Keys Row) (siblings : List Sibling) → is_sorted name_order (nodes_of keys siblings) ≡ is_sorted name_order (keyed_all siblings)
+  sorted_as keys [] = refl
+  sorted_as keys (s ∷ siblings) = λ i. below_as keys (folded s.name) siblings i && sorted_as keys siblings i
+
+  are_nodes : (levels : ℕ) (keys : Keys Row) → AreSound split cells (suc levels) keys → (siblings : List Sibling) → ((s : Sibling) → IsIn s siblings → IsIn s (siblings_in keys)) → AreNodes (nodes_of keys siblings)
+  are_nodes levels keys sound [] among = tt
+  are_nodes levels keys sound (s ∷ siblings) among = (
+    (let its = sibling_key levels keys sound s (among s (inl refl)) in subst IsNode (sym its.4) (sound_node levels s.at its.0 its.1 its.2)),
+    are_nodes levels keys sound siblings (λ t i. among t (inr i)),
+  )
+
+  none_at_all : (keys : Keys Row) → AreSound split cells 0 keys → keys ≡ none
+  none_at_all none s = refl
+  none_at_all (key at p below after) s = absurd s.shallow
+
+  pub none_left : (keys : Keys Row) → AreSound split cells 0 keys → (siblings : List Sibling) → IsPermutation (siblings_in keys) siblings → siblings ≡ []
+  none_left none s [] moved = refl
+  none_left none s (sibling ∷ siblings) moved = absurd (in_shuffled (sibling ∷ siblings) [] (IsPermutation-sym [] (sibling ∷ siblings) moved) sibling (inl refl))
+  none_left (key at p below after) s siblings moved = absurd s.shallow
+
+  all_nodes : (levels : ℕ) (keys : Keys Row) → AreSound split cells levels keys → (siblings : List Sibling) → IsPermutation (siblings_in keys) siblings → AreNodes (nodes_of keys siblings)
+  all_nodes zero keys s siblings moved = subst (λ (z : List Sibling). AreNodes (nodes_of keys z)) (sym (none_left keys s siblings moved)) tt
+  all_nodes (suc levels) keys s siblings moved = are_nodes levels keys s siblings (λ t i. in_shuffled siblings (siblings_in keys) (IsPermutation-sym (siblings_in keys) siblings moved) t i)
+
+  -- the entries of a key are its own and those of its subkeys
+  pub whole_key : (levels at : ℕ) (parts : KeyParts Row) (below : Keys Row) → IsSound split cells levels at parts below → (siblings : List Sibling) → IsPermutation (siblings_in below) siblings → T (is_sorted name_order (keyed_all siblings)) → (path : List (List ℕ)) →
+      (path, parts.row) ∷ flat_map (subkey_rows path) (nodes_of below siblings) ≡ node_rows path (entries_from parts below)
+  whole_key levels at parts below s siblings moved rises path =
+      let sorted : T (is_sorted name_order (nodes_of below siblings)) = subst T (sym (sorted_as below siblings)) rises in
+      let up : T (is_sorted path_order (entries_of parts.row (nodes_of below siblings))) = entries_rise parts.row (nodes_of below siblings) (all_nodes levels below (subkeys_sound levels at parts below s) siblings moved) sorted in
+      let is : IsNodeOf (entries_of parts.row (nodes_of below siblings)) parts below = node_of parts below (nodes_of below siblings) sorted (nodes_found below s.whole.fits s.whole.named siblings moved) in
+      let tree : finite.from_sorted {R = path_order} (entries_of parts.row (nodes_of below siblings)) ≡ tree_of parts below = tree_of_node parts below (entries_of parts.row (nodes_of below siblings)) up s.whole.named is in
+      let made : entries_of parts.row (nodes_of below siblings) ≡ entries_from parts below = sym (entries-from_sorted path_order (entries_of parts.row (nodes_of below siblings)) up) ∙ ap finite.entries tree in
+      sym (node_walk path parts.row (nodes_of below siblings) sorted) ∙ ap (node_rows path) made
+
+  -- the entries of the sibling at an index
+  pub node_there : (keys : Keys Row) (siblings : List Sibling) (i : ℕ) (d : Sibling) → i < length siblings → Some (entries_named keys (folded (get_or siblings i d).name)) ≡ slice_get (map (λ subkey. subkey.1) (nodes_of keys siblings)) i
+  node_there keys [] i d lt = absurd (omega (arith, lt))
+  node_there keys (s ∷ siblings) zero d lt = refl
+  node_there keys (s ∷ siblings) (suc i) d lt = node_there keys siblings i d (omega (arith, lt))
+
+  pub sibling_in : (siblings : List Sibling) (i : ℕ) (d : Sibling) → i < length siblings → IsIn (get_or siblings i d) siblings
+  sibling_in [] i d lt = absurd (omega (arith, lt))
+  sibling_in (s ∷ siblings) zero d lt = inl refl
+  sibling_in (s ∷ siblings) (suc i) d lt = inr (sibling_in siblings i d (omega (arith, lt)))
+
+-- ---- a whole image
+
+pub same_rows : (split : Bool) (cells : Cells) (levels at : ℕ) (parts : KeyParts Row) (below : Keys Row) → IsSound split cells levels at parts below → node_rows [] (entries_from parts below) ≡ tree_rows (tree_of parts below)
+same_rows split cells levels at parts below s =
+    whole_rows (entries_from parts below) (sound_node split cells levels at parts below s)
+    ∙ ap tree_rows (tree_of_node parts below (entries_from parts below) (entries_sorted (tree_of parts below)) s.whole.named (entries_rows parts below s.whole.named))
+
+pub no_fault : {X E : Type 0} (bytes : List ℕ) (root minor : ℕ) (result : Result X (WalkError E)) → IfErr result IsNoFault → (tree : TreeMap) × BinsEncodeTree bytes root minor tree → IfErr result (WalkRefused bytes root minor)
+no_fault bytes root minor (Ok x) h tree = tt
+no_fault bytes root minor (Err (walk_error.Image image_error.NoMemory)) h tree = tt
+no_fault bytes root minor (Err (walk_error.Image (image_error.Fault fault))) h tree = absurd h
+no_fault bytes root minor (Err (walk_error.Sink refusal)) h tree = tree

@@ -1,0 +1,4 @@
+pub mod Errors
+pub mod Siblings
+pub mod Judgements
+pub mod Walks

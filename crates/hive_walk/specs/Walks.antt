@@ -1,0 +1,65 @@
+-- What is known of keys that were judged, and what a walk hands to its sink.
+use Rattle.std.specs.Prelude.{◌≡◌, ℕ, Bool, List, [], map, if◌then◌else◌}
+use Rattle.std.specs.FinMap as finite
+use Rattle.reg_names.specs.Names.{folded}
+use Rattle.reg_tree_parts.specs.Rows.{Row}
+use Rattle.reg_tree_parts.specs.Nodes.{Entries}
+use Rattle.reg_tree.specs.Maps.{TreeMap}
+use Rattle.hive_cells.specs.Bins.{Cells}
+use Rattle.hive_tree_model.specs.Lists.{IsIn, Once}
+use Rattle.hive_tree_model.specs.Keys.{KeyParts, Keys, none, key, own_cells, lent_cells}
+use Rattle.hive_tree_model.specs.Trees.{same, tree_of}
+use Rattle.hive_tree_model.specs.Encodings.{CellsMatchKeys, Named, Whole, LentApart}
+use Rattle.hive_records.specs.KeyNodes.{keys_in}
+use Rattle.hive_records.specs.Images.{BinsEncodeTree}
+use Rattle.hive_load.specs.Answers.{IsShallow}
+use Rattle.hive_walk.specs.declared.errors.ImageError.TheVariants as image_error
+use Rattle.hive_walk.specs.declared.errors.WalkError.{WalkError}
+use Rattle.hive_walk.specs.declared.errors.WalkError.TheVariants as walk_error
+use Rattle.hive_walk.specs.declared.siblings.Sibling.{Sibling}
+use Rattle.hive_walk.specs.Judgements.{ImageRefused}
+
+-- keys beside one another are what the cells say, each with a name of its own, on at most a number of levels. No cell of
+-- one key alone is reached twice, or belongs to other keys too
+pub record AreSound (split : Bool) (cells : Cells) (levels : ℕ) (keys : Keys Row) : Type 0 where
+  pub fits : CellsMatchKeys (keys_in split cells) keys
+  pub named : Named keys
+  pub once : Once (own_cells keys)
+  pub apart : (cell : ℕ) → IsIn cell (lent_cells keys) → IsIn cell (own_cells keys) → ⊥
+  pub shallow : IsShallow levels keys
+
+-- so is the key at an offset, with the keys below it
+pub record IsSound (split : Bool) (cells : Cells) (levels at : ℕ) (parts : KeyParts Row) (below : Keys Row) : Type 0 where
+  pub whole : Whole (keys_in split cells) at parts below
+  pub apart : LentApart parts below
+  pub shallow : IsShallow levels below
+
+-- the entries of a key and of all keys below it, in the order of paths
+abbrev pub entries_from : KeyParts Row → Keys Row → Entries
+entries_from parts below = finite.entries (tree_of parts below)
+
+-- the entries of the key with a folded name, of keys beside one another
+abbrev pub entries_named : Keys Row → List ℕ → Entries
+entries_named none name = []
+entries_named (key at parts below after) name = if same name parts.name then entries_from parts below else entries_named after name
+
+-- the entries of some of the keys, each under its folded name
+abbrev pub nodes_of : Keys Row → List Sibling → List (List ℕ × Entries)
+nodes_of keys siblings = map (λ (sibling : Sibling). (folded sibling.name, entries_named keys (folded sibling.name))) siblings
+
+-- a walk ended for want of memory, or since its sink refused a key
+abbrev pub IsNoFault : {E : Type 0} → WalkError E → Type 0
+IsNoFault (walk_error.Image image_error.NoMemory) = Unit {0}
+IsNoFault (walk_error.Image (image_error.Fault fault)) = ⊥
+IsNoFault (walk_error.Sink refusal) = Unit {0}
+
+-- why a walk ended early: the image gives no keys, or the sink refused one of a tree that the image encodes
+abbrev pub WalkRefused : {E : Type 0} → List ℕ → ℕ → ℕ → WalkError E → Type 0
+WalkRefused bytes root minor (walk_error.Image error) = ImageRefused bytes root minor error
+WalkRefused bytes root minor (walk_error.Sink refusal) = (tree : TreeMap) × BinsEncodeTree bytes root minor tree
+
+-- a fault of the image was found before the sink took a key
+abbrev pub LeavesSink : {S E : Type 0} → S → S → WalkError E → Type 0
+LeavesSink old new (walk_error.Image image_error.NoMemory) = Unit {0}
+LeavesSink old new (walk_error.Image (image_error.Fault fault)) = new ≡ old
+LeavesSink old new (walk_error.Sink refusal) = Unit {0}

@@ -1,0 +1,40 @@
+//! The name in a key's record.
+ghost use Rattle.std.specs.Prelude.{◌≡◌, IfOk, IfErr, Ok, Bool};
+ghost use Rattle.reg_tree_parts.specs.Rows.{Row};
+ghost use Rattle.hive_cells.specs.Bins.{Cells, Shows};
+ghost use Rattle.hive_tree_model.specs.Keys.{KeyParts};
+ghost use Rattle.hive_records.specs.KeyNodes.{keys_in};
+ghost use Rattle.hive_records.specs.RecordReaders.{units_of};
+
+use crate::errors::ImageError;
+use hive_cells::{Image, Looks};
+use hive_records::{KeyNode, StoredName};
+use reg_names::Name;
+use std::alloc::{AllocError, Global};
+
+// the name that lies in a record
+fn name_of(alloc: Global, stored: &StoredName) -> Result<Name, AllocError>
+    ensures { IfOk result (λ name. name ≡ units_of stored.now) }
+{
+    let mut units = Vec::new(alloc);
+    for place in 0..stored.len() {
+        units.push(stored.unit(place))?;
+    }
+    Name::stored(alloc, &units)
+}
+
+/// The name of the key at an offset, which can be read: only memory may be wanting.
+pub(crate) fn key_name(alloc: Global, image: &Image, at: u32) -> Result<Name, ImageError>
+    ensures reads { (cells : Cells) → Shows image.now.bytes cells → (split : Bool) (parts : KeyParts Row) →
+        keys_in split cells at ≡ Ok parts → IfOk result (λ name. name ≡ parts.row.name) }
+    ensures memory { IfErr result (λ error. error ≡ ImageError.NoMemory) }
+{
+    let mut looks = Looks::new();
+    let Ok(cell) = image.cell(at, &mut looks) else {
+        return Err(ImageError::NoMemory);
+    };
+    let Ok(node) = KeyNode::read(cell) else {
+        return Err(ImageError::NoMemory);
+    };
+    Ok(name_of(alloc, &node.name)?)
+}

@@ -1,0 +1,251 @@
+//! The walk over an image that was judged.
+ghost use Rattle.std.specs.Prelude.{◌≡◌, ◌≤◌, ◌*◌, ◌∷◌, [], ℕ, Ok, Bool, T, length, IfOk, IfErr, OnOk};
+ghost use Rattle.std.specs.List.{flat_map};
+ghost use Rattle.std.specs.List.Sorted.{IsPermutation};
+ghost use Rattle.std.specs.FinMap.Entries.{is_sorted};
+ghost use Rattle.reg_tree_parts.specs.Orders.{name_order};
+ghost use Rattle.reg_tree_parts.specs.Rows.{Row};
+ghost use Rattle.reg_tree.specs.Maps.{TreeMap};
+ghost use Rattle.hive_cells.specs.Bins.{Cells, Shows};
+ghost use Rattle.hive_tree_model.specs.Keys.{KeyParts, Keys, offsets as offsets_of};
+ghost use Rattle.hive_tree_model.specs.Encodings.{CellsMatchKeys};
+ghost use Rattle.hive_records.specs.KeyNodes.{keys_in};
+ghost use Rattle.hive_records.specs.Images.{splits, BinsEncodeTree};
+ghost use Rattle.hive_load_parts.specs.CellReads.{marks_of};
+ghost use Rattle.hive_load_parts.specs.Descriptors.{AreDescriptors};
+ghost use Rattle.key_walk.specs.KeyPaths.{names_on};
+ghost use Rattle.key_walk.specs.KeyRows.{node_rows, subkey_rows, tree_rows};
+ghost use Rattle.hive_walk.specs.Siblings.{keyed_all, siblings_in};
+ghost use Rattle.hive_walk.specs.Walks.{AreSound, IsSound, entries_from, nodes_of, IsNoFault, WalkRefused, LeavesSink};
+
+use crate::errors::{ImageError, WalkError};
+use crate::fields::key_name;
+use crate::judgement::{flags_for, is_split, judge};
+use crate::siblings::{Sibling, in_order};
+use hive_cells::{Image, Looks};
+use hive_load_parts::{Descriptors, Flags, key};
+use key_walk::{KeyPath, KeySink};
+use refusals::limits::MOST_PATH_NAMES;
+use reg_tree_parts::Key;
+use std::alloc::Global;
+
+// the key at an offset that was judged, and its subkeys' offsets: only memory may be wanting
+fn key_again(
+    alloc: Global,
+    image: &Image,
+    seen: &mut Flags,
+    known: &mut Descriptors,
+    split: bool,
+    at: u32,
+) -> Result<(Key, Vec<u32>), ImageError>
+    requires covers { length image.now.bytes ≤ 8 * length seen.old }
+    requires known { AreDescriptors image.now.bytes known.old }
+    ensures reads { (cells : Cells) → Shows image.now.bytes cells → (parts : KeyParts Row) →
+        keys_in split cells at ≡ Ok parts → IfOk result (λ its. (its.0 ≡ parts.row)
+        × (its.1.items ≡ parts.subkey_list)) }
+    ensures memory { IfErr result (λ error. error ≡ ImageError.NoMemory) }
+    ensures covers { length seen.new ≡ length seen.old }
+    ensures known { AreDescriptors image.now.bytes known.new }
+{
+    let mut looks = Looks::new();
+    match key(alloc, image, seen, &mut looks, known, split, at) {
+        Ok(read) => Ok(read),
+        Err(_) => Err(ImageError::NoMemory),
+    }
+}
+
+// hands a sink the key at an offset, to which a path leads; the offsets of its subkeys
+fn take_key<S: KeySink>(
+    alloc: Global,
+    image: &Image,
+    seen: &mut Flags,
+    known: &mut Descriptors,
+    split: bool,
+    sink: &mut S,
+    path: &KeyPath<'_>,
+    at: u32,
+) -> Result<Vec<u32>, WalkError<S::Error>>
+    requires covers { length image.now.bytes ≤ 8 * length seen.old }
+    requires known { AreDescriptors image.now.bytes known.old }
+    ensures reads { (cells : Cells) → Shows image.now.bytes cells → (parts : KeyParts Row) →
+        keys_in split cells at ≡ Ok parts → IfOk result (λ listed. (listed.items ≡ parts.subkey_list)
+        × S.Took sink.old sink.new ((names_on path.now, parts.row) ∷ [])) }
+    ensures memory { IfErr result IsNoFault }
+    ensures covers { length seen.new ≡ length seen.old }
+    ensures known { AreDescriptors image.now.bytes known.new }
+{
+    let (key, listed) = match key_again(alloc, image, seen, known, split, at) {
+        Ok(read) => read,
+        Err(error) => return Err(WalkError::Image(error)),
+    };
+    match sink.take(path, &key) {
+        Ok(()) => Ok(listed),
+        Err(refusal) => Err(WalkError::Sink(refusal)),
+    }
+}
+
+// subkeys at some offsets, in the order in which they are listed
+fn listed_siblings(alloc: Global, image: &Image, listed: &[u32]) -> Result<Vec<Sibling>, ImageError>
+    ensures reads { (cells : Cells) → Shows image.now.bytes cells → (split : Bool) (keys : Keys Row) →
+        CellsMatchKeys (keys_in split cells) keys → offsets_of keys ≡ listed.now →
+        IfOk result (λ siblings. siblings.items ≡ siblings_in keys) }
+    ensures memory { IfErr result (λ error. error ≡ ImageError.NoMemory) }
+{
+    let mut siblings = Vec::new(alloc);
+    for at in listed {
+        let name = key_name(alloc, image, *at)?;
+        siblings.push(Sibling { name, at: *at })?;
+    }
+    Ok(siblings)
+}
+
+// subkeys at some offsets, in the order of their names
+fn siblings_at(alloc: Global, image: &Image, listed: &[u32]) -> Result<Vec<Sibling>, ImageError>
+    ensures reads { (cells : Cells) → Shows image.now.bytes cells → (split : Bool) (levels : ℕ) (keys : Keys Row) →
+        AreSound split cells levels keys → offsets_of keys ≡ listed.now →
+        IfOk result (λ siblings. IsPermutation (siblings_in keys) siblings.items
+        × T (is_sorted name_order (keyed_all siblings.items))) }
+    ensures memory { IfErr result (λ error. error ≡ ImageError.NoMemory) }
+{
+    let siblings = listed_siblings(alloc, image, listed)?;
+    Ok(in_order(siblings))
+}
+
+// hands a sink the key at an offset, to which a path leads, and all keys below it, which lie on at most so many levels
+#[cycle(walking)]
+fn walk_key<S: KeySink>(
+    alloc: Global,
+    image: &Image,
+    seen: &mut Flags,
+    known: &mut Descriptors,
+    split: bool,
+    sink: &mut S,
+    path: &KeyPath<'_>,
+    levels: usize,
+    at: u32,
+) -> Result<(), WalkError<S::Error>>
+    requires covers { length image.now.bytes ≤ 8 * length seen.old }
+    requires known { AreDescriptors image.now.bytes known.old }
+    ensures took { (cells : Cells) → Shows image.now.bytes cells → (parts : KeyParts Row) (below : Keys Row) →
+        IsSound split cells levels at parts below →
+        OnOk result (S.Took sink.old sink.new (node_rows (names_on path.now) (entries_from parts below))) }
+    ensures memory { IfErr result IsNoFault }
+    ensures covers { length seen.new ≡ length seen.old }
+    ensures known { AreDescriptors image.now.bytes known.new }
+{
+    let listed = match take_key(alloc, image, seen, known, split, sink, path, at) {
+        Ok(listed) => listed,
+        Err(error) => return Err(error),
+    };
+    let siblings = match siblings_at(alloc, image, &listed) {
+        Ok(siblings) => siblings,
+        Err(error) => return Err(WalkError::Image(error)),
+    };
+    walk_keys(
+        alloc, image, seen, known, split, sink, &*path, levels, &siblings,
+    )
+}
+
+// hands a sink some of the subkeys of a key, to which a path leads, one after another, each with all keys below it
+#[cycle(walking)]
+fn walk_keys<S: KeySink>(
+    alloc: Global,
+    image: &Image,
+    seen: &mut Flags,
+    known: &mut Descriptors,
+    split: bool,
+    sink: &mut S,
+    above: &KeyPath<'_>,
+    levels: usize,
+    siblings: &[Sibling],
+) -> Result<(), WalkError<S::Error>>
+    requires covers { length image.now.bytes ≤ 8 * length seen.old }
+    requires known { AreDescriptors image.now.bytes known.old }
+    ensures took { (cells : Cells) → Shows image.now.bytes cells → (keys : Keys Row) →
+        AreSound split cells levels keys → IsPermutation (siblings_in keys) siblings.now →
+        OnOk result (S.Took sink.old sink.new (flat_map (subkey_rows (names_on above.now)) (nodes_of keys siblings.now))) }
+    ensures memory { IfErr result IsNoFault }
+    ensures covers { length seen.new ≡ length seen.old }
+    ensures known { AreDescriptors image.now.bytes known.new }
+{
+    if levels == 0 {
+        // no key that was judged lies deeper
+        return Ok(());
+    }
+    for sibling in siblings {
+        let path = KeyPath::Below(&*above, &sibling.name);
+        match walk_key(
+            alloc,
+            image,
+            seen,
+            known,
+            split,
+            sink,
+            &path,
+            levels - 1,
+            sibling.at,
+        ) {
+            Ok(()) => {}
+            Err(error) => return Err(error),
+        }
+    }
+    Ok(())
+}
+
+// walks an image that was judged
+fn walk_judged<S: KeySink>(
+    alloc: Global,
+    image: &Image,
+    root: u32,
+    minor: u32,
+    sink: &mut S,
+) -> Result<(), WalkError<S::Error>>
+    ensures took { (cells : Cells) → Shows image.now.bytes cells → (parts : KeyParts Row) (below : Keys Row) →
+        IsSound (splits minor) cells 512 root parts below →
+        OnOk result (S.Took sink.old sink.new (node_rows [] (entries_from parts below))) }
+    ensures memory { IfErr result IsNoFault }
+{
+    let mut seen = match flags_for(alloc, image.len()) {
+        Ok(seen) => seen,
+        Err(_) => return Err(WalkError::Image(ImageError::NoMemory)),
+    };
+    let mut known = Descriptors::new(alloc);
+    let split = is_split(minor);
+    let path = KeyPath::Root;
+    walk_key(
+        alloc,
+        image,
+        &mut seen,
+        &mut known,
+        split,
+        sink,
+        &path,
+        MOST_PATH_NAMES,
+        root,
+    )
+}
+
+/// Hands a sink each key of the tree that an image encodes, from the key node at an offset on, in the order of folded
+/// paths, the root first. Below minor version 4 big data lie in one cell, from it on in segments. No path may have more
+/// than 512 names; the tree may have any weight.
+///
+/// A fault of the image is found before the sink takes a key. It comes only if the image encodes no tree, or a key lies
+/// too deep. The first refusal of the sink ends the walk. If memory is wanting, the sink may have taken some keys.
+pub fn walk_hive<S: KeySink>(
+    alloc: Global,
+    image: &Image,
+    root: u32,
+    minor: u32,
+    sink: &mut S,
+) -> Result<(), WalkError<S::Error>>
+    ensures took { OnOk result ((tree : TreeMap) × BinsEncodeTree image.now.bytes root minor tree
+        × S.Took sink.old sink.new (tree_rows tree)) }
+    ensures refused { IfErr result (WalkRefused image.now.bytes root minor) }
+    ensures untaken { IfErr result (LeavesSink sink.old sink.new) }
+{
+    image.tiles(0); // for the prover
+    match judge(alloc, image, root, minor) {
+        Ok(()) => walk_judged(alloc, image, root, minor, sink),
+        Err(error) => Err(WalkError::Image(error)),
+    }
+}
