@@ -1,5 +1,5 @@
 -- What was read of a file, as its bytes.
-use Rattle.std.proofs.Common.{◌≡◌, inl, inr, length-take-le, ℕ, ◌+◌, ◌≤◌, ◌<◌, ◌≢◌, zero, suc, Bool, true, false, ◌&&◌, List, [], ◌++◌, length, take, drop, Option, Some, None, IfSome, refl, sym, ◌∙◌, ap, subst, arith, length-append, drop_at}
+use Rattle.std.proofs.Common.{◌≡◌, ◌⊎◌, inl, inr, length-take-le, ℕ, ◌+◌, ◌≤◌, ◌<◌, ◌≢◌, zero, suc, Bool, true, false, ◌&&◌, List, [], ◌++◌, length, take, drop, Option, Some, None, IfSome, refl, sym, ◌∙◌, ap, subst, arith, length-append, drop_at}
 use Rattle.std.specs.Prelude.{nat_le}
 use Rattle.std.proofs.lemmas.Bool.{and_parts, le-leb}
 use Rattle.std.proofs.lemmas.List.{append-nil, take_at, take-append-le}
@@ -15,8 +15,10 @@ use Rattle.dirt_log.specs.WholeLog.{block_of}
 use Rattle.reg_tree.specs.Maps.{TreeMap}
 use Rattle.dirt_log.specs.FileContents.{is_clean_file, PrimaryDecodesTo}
 use Rattle.hive_load.specs.Limits.{BinsEncodeTreeInLimits, BinsRefused}
-use Rattle.hive_file_reader.specs.Hives.{FileHasBlock, FileHoldsHive, FileHoldsNoHive, IsFilePrefix, no_sector, no_signature, not_clean, not_usable, not_loaded}
-use Rattle.hive_file_reader.specs.Readings.{FileRefused, FileRefusedAs, of_hive}
+use Rattle.hive_file_reader.specs.Hives.{FileHasBlock, FileHasBins, FileHoldsHive, FileHasNoBins, FileHoldsNoHive, IsFilePrefix, no_sector, no_signature, not_clean, not_usable, not_tiled, no_bins, not_loaded}
+use Rattle.hive_file_reader.specs.declared.hive.ReadError.{ReadError}
+use Rattle.hive_file_reader.specs.declared.hive.ReadError.TheVariants as unread
+use Rattle.hive_file_reader.specs.Readings.{FileRefusedAs, BinsRefusalFitsFile, RefusalFitsFile, of_hive}
 
 -- what holds of a known value for another reason
 pub some_as : {A : Type 0} {P Q : A → Type 0} (known : Option A) → ((x : A) → P x → Q x) → IfSome known P → IfSome known Q
@@ -63,18 +65,23 @@ read_own (Some file) (Some rest) None head bins block a b long size has = absurd
 read_own (Some file) (Some rest) (Some tail) head bins block a b long size has = (has, own_bins file head rest bins tail block a long b has size)
 
 -- a file that ends before its bins data do
-cut_short : (file : List ℕ) (block : BaseBlock) → FileHasBlock file block → length file < 4096 + block.bins_size → FileHoldsNoHive file (refusal.HiveDamaged 0 cause.Truncated)
+cut_short : (file : List ℕ) (block : BaseBlock) → FileHasBlock file block → length file < 4096 + block.bins_size → FileHasNoBins file (refusal.HiveDamaged 0 cause.Truncated)
 cut_short file block has short =
     not_usable (refusal.HiveDamaged 0 cause.Truncated) has.clean (inr (refl, subst IsPrimary has.read has.judged, subst (λ (b : BaseBlock). length file < 4096 + b.bins_size) has.read short))
 
 -- bins data that end early
 pub read_short : (known mid now : Option (List ℕ)) (head bins : List ℕ) (block : BaseBlock) → Consumes known mid head → Consumes mid now bins → length head ≡ 4096 → length bins < block.bins_size → IsAtEnd now → IfSome known (λ file. FileHasBlock file block)
-    → IfSome known (λ file. FileRefused file (refusal.HiveDamaged 0 cause.Truncated))
+    → IfSome known (λ file. ((refusal.HiveDamaged 0 cause.Truncated) ≡ refusal.NoMemory) ⊎ FileHasNoBins file (refusal.HiveDamaged 0 cause.Truncated))
 read_short None mid now head bins block a b long size end has = tt
 read_short (Some file) None now head bins block a b long size end has = absurd a
 read_short (Some file) (Some rest) None head bins block a b long size end has = absurd b
 read_short (Some file) (Some rest) (Some tail) head bins block a b long size end has =
     inr (cut_short file block has (omega (arith, ap length a, length-append head rest, ap length b, length-append bins tail, ap (λ (l : List ℕ). length l) end)))
+
+-- a file whose bins data are refused holds no hive
+pub bins_refused : (known : Option (List ℕ)) (error : ReadError) → BinsRefusalFitsFile known error → RefusalFitsFile known error
+bins_refused known (unread.Refused why) h = some_as known (λ file told. elim told [ inl memory ↦ inl memory | inr stands ↦ inr (no_bins why stands) ]) h
+bins_refused known unread.SourceFailed h = tt
 
 -- what the first sector of a file's front says
 sector_tells : (file front : List ℕ) (block : BaseBlock) → IsFilePrefix front file → 512 ≤ length front → block ≡ block_at (take 512 front) → (block ≡ block_of file) × (512 ≤ length file) × (is_clean_file file ≡ is_clean_block block)
@@ -87,20 +94,20 @@ sector_tells file front block is long read =
 whole_front : (file front : List ℕ) → IsFilePrefix front file → length front < 4096 → length file ≡ length front
 whole_front file front is short = omega (arith, ap length is.1, length-append front is.0, ap length (is.2 short))
 
-pub told_no_sector : (file front : List ℕ) → IsFilePrefix front file → length front < 512 → FileHoldsNoHive file (refusal.HiveDamaged 0 cause.Truncated)
+pub told_no_sector : (file front : List ℕ) → IsFilePrefix front file → length front < 512 → FileHasNoBins file (refusal.HiveDamaged 0 cause.Truncated)
 told_no_sector file front is short = no_sector (omega (arith, short, whole_front file front is (omega (arith, short))))
 
-pub told_no_signature : (file front : List ℕ) (block : BaseBlock) → IsFilePrefix front file → 512 ≤ length front → block ≡ block_at (take 512 front) → block.signature.0 ≢ 0x6667_6572 → FileHoldsNoHive file (refusal.HiveDamaged 0 cause.BadBase)
+pub told_no_signature : (file front : List ℕ) (block : BaseBlock) → IsFilePrefix front file → 512 ≤ length front → block ≡ block_at (take 512 front) → block.signature.0 ≢ 0x6667_6572 → FileHasNoBins file (refusal.HiveDamaged 0 cause.BadBase)
 told_no_signature file front block is long read other =
     let tells = sector_tells file front block is long read in
     no_signature tells.1 (subst (λ (b : BaseBlock). b.signature.0 ≢ 0x6667_6572) tells.0 other)
 
-pub told_not_clean : (file front : List ℕ) (block : BaseBlock) → IsFilePrefix front file → 512 ≤ length front → block ≡ block_at (take 512 front) → is_clean_block block ≡ false → FileHoldsNoHive file (refusal.HiveDamaged 0 cause.NotClean)
+pub told_not_clean : (file front : List ℕ) (block : BaseBlock) → IsFilePrefix front file → 512 ≤ length front → block ≡ block_at (take 512 front) → is_clean_block block ≡ false → FileHasNoBins file (refusal.HiveDamaged 0 cause.NotClean)
 told_not_clean file front block is long read unclean =
     let tells = sector_tells file front block is long read in
     not_clean tells.1 (ap is_clean_block (sym tells.0) ∙ unclean)
 
-pub told_not_usable : (file front : List ℕ) (block : BaseBlock) (why : Refusal) → IsFilePrefix front file → 512 ≤ length front → block ≡ block_at (take 512 front) → is_clean_block block ≡ true → PrimaryRefused block why → FileHoldsNoHive file why
+pub told_not_usable : (file front : List ℕ) (block : BaseBlock) (why : Refusal) → IsFilePrefix front file → 512 ≤ length front → block ≡ block_at (take 512 front) → is_clean_block block ≡ true → PrimaryRefused block why → FileHasNoBins file why
 told_not_usable file front block why is long read clean refused =
     let tells = sector_tells file front block is long read in
     not_usable why (tells.2 ∙ clean) (inl (subst (λ b. PrimaryRefused b why) tells.0 refused))
@@ -110,7 +117,7 @@ told_block file front block is long read clean judged =
     let tells = sector_tells file front block is long read in
     record { clean = tells.2 ∙ clean; read = tells.0; judged = judged }
 
-pub told_cut : (file front : List ℕ) (block : BaseBlock) → IsFilePrefix front file → FileHasBlock file block → length front < 4096 → FileHoldsNoHive file (refusal.HiveDamaged 0 cause.Truncated)
+pub told_cut : (file front : List ℕ) (block : BaseBlock) → IsFilePrefix front file → FileHasBlock file block → length front < 4096 → FileHasNoBins file (refusal.HiveDamaged 0 cause.Truncated)
 told_cut file front block is has short = cut_short file block has (omega (arith, short, whole_front file front is short))
 
 -- ---- a file holds a tree or none
@@ -168,18 +175,24 @@ unusable block refusal.Fixed h judged = h
 clean_here : (file : List ℕ) → is_clean_file file ≡ true → is_clean_block (block_of file) ≡ true
 clean_here file clean = (and_parts (nat_le 512 (length file)) (is_clean_block (block_of file)) clean).1
 
-pub none_held : ((bytes : List ℕ) (root minor : ℕ) (why : Refusal) → BinsRefused bytes root minor why → why ≢ refusal.NoMemory → (tree : TreeMap) → BinsEncodeTreeInLimits bytes root minor tree → ⊥)
-    → (file : List ℕ) (why : Refusal) → FileHoldsNoHive file why → why ≢ refusal.NoMemory → (tree : TreeMap) → FileHoldsHive file tree → ⊥
-none_held law file why (no_sector short) some tree holds = let no : ⊥ = omega (arith, short, holds.own.long) in no
-none_held law file why (no_signature long other) some tree holds = other (subst (λ (b : BaseBlock). b.signature.0 ≡ 0x6667_6572) holds.has.read holds.has.judged.0.signature)
-none_held law file why (not_clean long unclean) some tree holds = let no : ⊥ = let e : true ≡ false = sym (clean_here file holds.has.clean) ∙ unclean in cc in no
-none_held law file why (not_usable _ clean (inl refused)) some tree holds = unusable (block_of file) why refused (subst IsPrimary holds.has.read holds.has.judged)
-none_held law file why (not_usable _ clean (inr (is, judged, short))) some tree holds = omega (arith, short, ap (λ (b : BaseBlock). b.bins_size) holds.has.read, holds.own.long)
-none_held law file why (not_loaded _ block bins has own refused) some tree holds =
-    let blocks : block ≡ holds.block = has.read ∙ sym holds.has.read in
-    let same : bins ≡ holds.bins = same_bins file bins holds.bins block holds.block own holds.own in
+-- the bins data that are refused are those of the tree
+other_bins : ((bytes : List ℕ) (root minor : ℕ) (why : Refusal) → BinsRefused bytes root minor why → why ≢ refusal.NoMemory → (tree : TreeMap) → BinsEncodeTreeInLimits bytes root minor tree → ⊥)
+    → (file : List ℕ) (why : Refusal) (block : BaseBlock) (bins : List ℕ) → FileHasBins file block bins → BinsRefused bins block.root block.minor why → why ≢ refusal.NoMemory → (tree : TreeMap) → FileHoldsHive file tree → ⊥
+other_bins law file why block bins has refused some tree holds =
+    let blocks : block ≡ holds.block = has.0.read ∙ sym holds.has.read in
+    let same : bins ≡ holds.bins = same_bins file bins holds.bins block holds.block has.1 holds.own in
     law holds.bins holds.block.root holds.block.minor why
     (subst (λ (b : BaseBlock). BinsRefused holds.bins b.root b.minor why) blocks (subst (λ (l : List ℕ). BinsRefused l block.root block.minor why) same refused)) some tree holds.tree_is
+
+pub none_held : ((bytes : List ℕ) (root minor : ℕ) (why : Refusal) → BinsRefused bytes root minor why → why ≢ refusal.NoMemory → (tree : TreeMap) → BinsEncodeTreeInLimits bytes root minor tree → ⊥)
+    → (file : List ℕ) (why : Refusal) → FileHoldsNoHive file why → why ≢ refusal.NoMemory → (tree : TreeMap) → FileHoldsHive file tree → ⊥
+none_held law file why (no_bins _ (no_sector short)) some tree holds = let no : ⊥ = omega (arith, short, holds.own.long) in no
+none_held law file why (no_bins _ (no_signature long other)) some tree holds = other (subst (λ (b : BaseBlock). b.signature.0 ≡ 0x6667_6572) holds.has.read holds.has.judged.0.signature)
+none_held law file why (no_bins _ (not_clean long unclean)) some tree holds = let no : ⊥ = let e : true ≡ false = sym (clean_here file holds.has.clean) ∙ unclean in cc in no
+none_held law file why (no_bins _ (not_usable _ clean (inl refused))) some tree holds = unusable (block_of file) why refused (subst IsPrimary holds.has.read holds.has.judged)
+none_held law file why (no_bins _ (not_usable _ clean (inr (is, judged, short)))) some tree holds = omega (arith, short, ap (λ (b : BaseBlock). b.bins_size) holds.has.read, holds.own.long)
+none_held law file why (no_bins _ (not_tiled _ block bins has refused)) some tree holds = other_bins law file why block bins has (inl refused) some tree holds
+none_held law file why (not_loaded _ block bins has refused) some tree holds = other_bins law file why block bins has (inr refused) some tree holds
 
 -- so of one that is refused as a hive of some number
 pub none_held_as : ((bytes : List ℕ) (root minor : ℕ) (why : Refusal) → BinsRefused bytes root minor why → why ≢ refusal.NoMemory → (tree : TreeMap) → BinsEncodeTreeInLimits bytes root minor tree → ⊥)

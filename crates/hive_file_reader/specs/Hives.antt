@@ -1,4 +1,5 @@
--- Which tree the bytes of a hive's primary file hold, if they are read without a log, and why they hold none.
+-- Which bins data and which tree the bytes of a hive's primary file hold, if they are read without a log, and why they
+-- hold none.
 use Rattle.std.specs.Prelude.{◌≡◌, ◌≢◌, ℕ, ◌≤◌, ◌<◌, true, false, List, [], ◌++◌, length}
 use Rattle.refusals.specs.declared.refusal.Refusal.{Refusal}
 use Rattle.refusals.specs.declared.refusal.Refusal.TheVariants as refusal
@@ -9,7 +10,8 @@ use Rattle.base_block.specs.Layout.{is_clean_block}
 use Rattle.dirt_log.specs.WholeLog.{block_of}
 use Rattle.dirt_log.specs.FileContents.{is_clean_file, PrimaryDecodesTo, PrimaryFileRefused}
 use Rattle.reg_tree.specs.Maps.{TreeMap}
-use Rattle.hive_load.specs.Limits.{BinsEncodeTreeInLimits, BinsRefused}
+use Rattle.hive_cells.specs.Tiles.{DataRefused}
+use Rattle.hive_load.specs.Limits.{BinsEncodeTreeInLimits, LoadRefused}
 
 -- the file is clean, and its base block, which is this, is a block of a primary file of the profile
 pub record FileHasBlock (file : List ℕ) (block : BaseBlock) : Type 0 where
@@ -26,18 +28,29 @@ pub record FileHoldsHive (file : List ℕ) (tree : TreeMap) : Type 0 where
   pub own : PrimaryDecodesTo file block bins
   pub tree_is : BinsEncodeTreeInLimits bins block.root block.minor tree
 
--- why a file holds none, by what is in its bytes
-pub data FileHoldsNoHive (file : List ℕ) : Refusal → Type 0 where
+-- the file has this block, and these are its bins data, whatever follows them
+abbrev pub FileHasBins : List ℕ → BaseBlock → List ℕ → Type 0
+FileHasBins file block bins = FileHasBlock file block × PrimaryDecodesTo file block bins
+
+-- why a file has no bins data that tile, by what is in its bytes
+pub data FileHasNoBins (file : List ℕ) : Refusal → Type 0 where
   -- it has no first sector
-  no_sector : length file < 512 → FileHoldsNoHive file (refusal.HiveDamaged 0 cause.Truncated)
+  no_sector : length file < 512 → FileHasNoBins file (refusal.HiveDamaged 0 cause.Truncated)
   -- it isn't a hive by its signature, whether its sum and its numbers are right or not
-  no_signature : 512 ≤ length file → (block_of file).signature.0 ≢ 0x6667_6572 → FileHoldsNoHive file (refusal.HiveDamaged 0 cause.BadBase)
+  no_signature : 512 ≤ length file → (block_of file).signature.0 ≢ 0x6667_6572 → FileHasNoBins file (refusal.HiveDamaged 0 cause.BadBase)
   -- the sum is wrong, or the two numbers differ
-  not_clean : 512 ≤ length file → is_clean_block (block_of file) ≡ false → FileHoldsNoHive file (refusal.HiveDamaged 0 cause.NotClean)
+  not_clean : 512 ≤ length file → is_clean_block (block_of file) ≡ false → FileHasNoBins file (refusal.HiveDamaged 0 cause.NotClean)
   -- it is clean, and its base block is outside the profile, or it ends before its bins data do
-  not_usable : (why : Refusal) → is_clean_file file ≡ true → PrimaryFileRefused (block_of file) (length file) why → FileHoldsNoHive file why
+  not_usable : (why : Refusal) → is_clean_file file ≡ true → PrimaryFileRefused (block_of file) (length file) why → FileHasNoBins file why
+  -- bins and cells don't tile the bins data, or memory to know it was not given
+  not_tiled : (why : Refusal) (block : BaseBlock) (bins : List ℕ) → FileHasBins file block bins → DataRefused bins why → FileHasNoBins file why
+
+-- why a file holds no tree, by what is in its bytes
+pub data FileHoldsNoHive (file : List ℕ) : Refusal → Type 0 where
+  -- it has no bins data that tile
+  no_bins : (why : Refusal) → FileHasNoBins file why → FileHoldsNoHive file why
   -- the bins data encode no tree within the limits, or memory for them was not given
-  not_loaded : (why : Refusal) (block : BaseBlock) (bins : List ℕ) → FileHasBlock file block → PrimaryDecodesTo file block bins → BinsRefused bins block.root block.minor why → FileHoldsNoHive file why
+  not_loaded : (why : Refusal) (block : BaseBlock) (bins : List ℕ) → FileHasBins file block bins → LoadRefused bins block.root block.minor why → FileHoldsNoHive file why
 
 -- bytes are the first of a file, and all of it if they are fewer than 4,096
 abbrev pub IsFilePrefix : List ℕ → List ℕ → Type 0

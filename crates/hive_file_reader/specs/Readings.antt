@@ -2,7 +2,7 @@
 use Rattle.std.specs.Prelude.{◌≡◌, ◌⊎◌, ℕ, List, Option, IfSome}
 use Rattle.refusals.specs.declared.refusal.Refusal.{Refusal}
 use Rattle.refusals.specs.declared.refusal.Refusal.TheVariants as refusal
-use Rattle.hive_file_reader.specs.Hives.{FileHoldsNoHive}
+use Rattle.hive_file_reader.specs.Hives.{FileHasNoBins, FileHoldsNoHive}
 use Rattle.hive_file_reader.specs.declared.hive.ReadError.{ReadError}
 use Rattle.hive_file_reader.specs.declared.hive.ReadError.TheVariants as unread
 
@@ -28,6 +28,15 @@ RefusalFitsFile known unread.SourceFailed = Unit {0}
 abbrev pub RefusalFitsFileAs : ℕ → Option (List ℕ) → ReadError → Type 0
 RefusalFitsFileAs hive known (unread.Refused why) = IfSome known (λ file. FileRefusedAs hive file why)
 RefusalFitsFileAs hive known unread.SourceFailed = Unit {0}
+
+-- the same of a file whose bins data alone are read
+abbrev pub BinsRefusalFitsFile : Option (List ℕ) → ReadError → Type 0
+BinsRefusalFitsFile known (unread.Refused why) = IfSome known (λ file. (why ≡ refusal.NoMemory) ⊎ FileHasNoBins file why)
+BinsRefusalFitsFile known unread.SourceFailed = Unit {0}
+
+abbrev pub BinsRefusalFitsFileAs : ℕ → Option (List ℕ) → ReadError → Type 0
+BinsRefusalFitsFileAs hive known (unread.Refused why) = IfSome known (λ file. (plain : Refusal) × ((plain ≡ refusal.NoMemory) ⊎ FileHasNoBins file plain) × (why ≡ of_hive hive plain))
+BinsRefusalFitsFileAs hive known unread.SourceFailed = Unit {0}
 
 -- a reader's error is want of memory, or says that the file can't be read
 abbrev pub IsReadError : ReadError → Type 0

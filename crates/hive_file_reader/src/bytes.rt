@@ -2,7 +2,7 @@
 ghost use Rattle.std.specs.Prelude.{◌≡◌, ◌≤◌, ◌<◌, length, take, IfOk};
 ghost use Rattle.std.specs.Io.KnownBytes.{Consumes, IsAtEnd};
 
-use std::alloc::Global;
+use std::alloc::{AllocError, Global};
 use std::io;
 use std::io::{ErrorKind, Read};
 
@@ -35,6 +35,17 @@ pub(crate) fn fill<R: Read>(reader: &mut R, buffer: &mut [u8]) -> io::Result<usi
     Err(io::Error::from(ErrorKind::Interrupted))
 }
 
+// makes room for `least` bytes more; or, up to `most`, for a quarter of those that are there, so that bytes are moved
+// seldom and the room isn't twice what they need
+fn make_room(part: &mut Vec<u8>, least: usize, most: usize) -> Result<(), AllocError>
+    ensures { part.new.items ≡ part.old.items }
+{
+    if part.capacity() - part.len() >= least {
+        return Ok(());
+    }
+    part.reserve_exact((part.len() / 4).min(most).max(least))
+}
+
 /// As many bytes as are asked for, or all that are left if they are fewer. Room is made a chunk at a time.
 pub(crate) fn read_part<R: Read>(alloc: Global, reader: &mut R, size: usize) -> io::Result<Vec<u8>>
     ensures within { IfOk result (λ part. length part.items ≤ size) }
@@ -46,6 +57,7 @@ pub(crate) fn read_part<R: Read>(alloc: Global, reader: &mut R, size: usize) -> 
     'pieces: while part.len() < size {
         let from = part.len();
         let most = (size - from).min(CHUNK_BYTES);
+        make_room(&mut part, most, size - from)?;
         part.resize(from + most, 0)?;
         let count = fill(reader, &mut part[from..])?;
         part.truncate(from + count);

@@ -1,12 +1,13 @@
-//! Reading a hive's file by itself: the tree that it holds, or why it holds none.
+//! Reading a hive's file by itself: the image or the tree that it holds, or why it holds none.
 //!
-//! [`read_hive`] reads the base block and the bins data of a primary file, and no more. It judges them as those of a
-//! clean hive, without a log, and loads the tree that they encode. The bins data are read in chunks, so nothing is
-//! allocated by a number of the file before that many bytes are there. They are dropped before the tree is given.
+//! [`read_image`] reads the base block and the bins data of a primary file, and no more. It judges them as those of a
+//! clean hive, without a log. [`read_hive`] also loads the tree that they encode, and drops them before it gives the
+//! tree. The bins data are read in chunks. Room for them grows by a chunk, or by a quarter of the bytes that are there:
+//! nothing is allocated by a number of the file before that many bytes are there.
 //!
-//! What is promised: the tree is the one that the file holds. A refusal is true of the file, or is want of memory. A
-//! refusal, but for want of memory, comes only if the file holds no hive ([`laws`]). A reader that fails is reported
-//! apart.
+//! What is promised: the block and the bins data are the file's, and the tree is the one that it holds. A refusal is
+//! true of the file, or is want of memory. A refusal, but for want of memory, comes only if the file holds no hive
+//! ([`laws`]). A reader that fails is reported apart.
 #![tactic(auto)]
 
 mod bytes;
@@ -14,4 +15,4 @@ mod head;
 mod hive;
 pub mod laws;
 
-pub use hive::{ReadError, read_hive};
+pub use hive::{ReadError, read_hive, read_image};
