@@ -48,6 +48,7 @@ impl<T: Drop> From<AllocFailed<T>> for ImageError {
 }
 
 /// Why a walk ended early.
+#[derive(Drop)]
 pub enum WalkError<E> {
     /// The image gives no keys, or no more.
     Image(ImageError),
