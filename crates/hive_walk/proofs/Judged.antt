@@ -1,5 +1,5 @@
 -- A key and the keys below it, judged or refused.
-use Rattle.std.proofs.Common.{◌≡◌, ◌≢◌, inl, inr, ℕ, suc, Bool, false, T, List, [], ◌∷◌, ◌++◌, refl, ◌∙◌, ap, sym, subst, Ok, Err, Some, None, append_assoc, append-nil, Result, MatchResult, OnOk, IfErr}
+use Rattle.std.proofs.Common.{◌≡◌, ◌<◌, ◌≢◌, inl, inr, ℕ, suc, Bool, false, T, List, [], ◌∷◌, ◌++◌, length, refl, ◌∙◌, ap, sym, subst, Ok, Err, Some, None, append_assoc, append-nil, Result, MatchResult, OnOk, IfErr}
 use Rattle.std.specs.FinMap as finite
 use Rattle.std.specs.FinMap.{get-entries, entries_sorted}
 use Rattle.std.specs.FinMap.Entries.{find, is_sorted, below_all}
@@ -16,14 +16,14 @@ use Rattle.std.specs.Ordering.{is_lt}
 use Rattle.std.proofs.lemmas.List.{map-append}
 use Rattle.hive_cells.specs.Bins.{Cells, Shows}
 use Rattle.hive_tree_model.specs.Lists.{IsIn, Once}
-use Rattle.hive_tree_model.specs.Keys.{KeyParts, Keys, lent_cells, names}
+use Rattle.hive_tree_model.specs.Keys.{KeyParts, KeyReader, Keys, lent_cells, names}
 use Rattle.hive_tree_model.specs.Trees.{tree_of}
 use Rattle.hive_tree_model.specs.Loads.{CellMarks, Loaded}
 use Rattle.hive_tree_model.specs.Encodings.{Named}
 use Rattle.hive_tree_model.proofs.Basics.{some_same, some_none, in_back}
 use Rattle.hive_tree_model.proofs.Loading.{ends}
 use Rattle.hive_tree_model.proofs.Rows.{row_of_tree}
-use Rattle.hive_records.specs.KeyNodes.{key_at, keys_in, lends_in}
+use Rattle.hive_records.specs.KeyNodes.{key_at, keys_in, lends_in, parts_if}
 use Rattle.hive_records.specs.Follows.{Follows}
 use Rattle.hive_records.specs.Images.{splits}
 use Rattle.hive_records.specs.Nodes.{IsNodeOf}
@@ -36,12 +36,13 @@ use Rattle.hive_load.specs.Nodes.{names_of}
 use Rattle.hive_load.specs.Roots.{LoadsRoot, RefusesRoot}
 use Rattle.hive_load.proofs.Levels.{keeps_joined, keys_begin, keys_on, keys_stop, key_too_deep, subkey_refused, siblings_refused}
 use Rattle.hive_load.proofs.Ends.{root_refused}
+use Rattle.hive_walk.specs.declared.errors.Fault.{Fault}
 use Rattle.hive_walk.specs.declared.errors.ImageError.{ImageError}
 use Rattle.hive_walk.specs.declared.errors.ImageError.TheVariants as image_error
 use Rattle.hive_walk.specs.declared.siblings.Sibling.{Sibling}
 use Rattle.hive_walk.specs.Errors.{IsFaultAt}
 use Rattle.hive_walk.specs.Siblings.{sibling_names, LacksNames}
-use Rattle.hive_walk.specs.Judgements.{ListsSubkey, NamesLeadTo, NamesReach, StandsIn, KeyIsRead, KeyIsUnread, KeyIsJudged, KeyIsRefused, BelowIsRefused, KeysAreJudged, KeysAreRefused, RootIsRefused, ImageRefused}
+use Rattle.hive_walk.specs.Judgements.{IsTrueOfKey, IsTrueWhereMet, ListsSubkey, NamesLeadTo, NamesReach, StandsIn, KeyIsRead, KeyIsUnread, KeyIsJudged, KeyIsRefused, BelowIsRefused, KeysAreJudged, KeysAreRefused, RootIsRefused, ImageRefused}
 
 -- ---- the entries of a tree of keys
 
@@ -63,17 +64,34 @@ entries_rows parts below named path = sym (get-entries (tree_of parts below) pat
 
 -- ---- single steps
 
+-- a refusal that is true of a key is true of it where a fault says so
+met_there : (reads : KeyReader Row Refusal) (path : List (List ℕ)) (at : ℕ) (why : Refusal) (fault : Fault) → fault.refusal ≡ why → fault.at ≡ at → fault.path.items ≡ path → IsTrueOfKey reads path at why → IsTrueWhereMet reads fault
+met_there reads path at why fault r a p h =
+    subst (λ (z : List (List ℕ)). IsTrueOfKey reads z fault.at fault.refusal) (sym p)
+    (subst (λ (z : ℕ). IsTrueOfKey reads path z fault.refusal) (sym a) (subst (λ (z : Refusal). IsTrueOfKey reads path at z) (sym r) h))
+
 pub read_refused : (split : Bool) (cells : Cells) (at : ℕ) (old new : CellMarks) (why : Refusal) (above : List (List ℕ)) (error : ImageError) → Follows (key_at split at) cells old new (Err why) → IsFaultAt above at why error → KeyIsUnread split cells old at above error
 read_refused split cells at old new why above image_error.NoMemory h is = tt
 read_refused split cells at old new why above (image_error.Fault fault) h is = elim (key_told split cells at old new why h) [
   | inl e ↦ absurd (is.0 e)
-  | inr t ↦ (λ e. is.0 (sym is.1 ∙ e), subst (λ (r : Refusal). Faults split cells old at r) (sym is.1) t, is.2, is.3)
+  | inr t ↦ (
+    λ e. is.0 (sym is.1 ∙ e),
+    subst (λ (r : Refusal). Faults split cells old at r) (sym is.1) t,
+    is.2,
+    is.3,
+    met_there (keys_in split cells) above at why fault is.1 is.2 is.3 (unread h),
+  )
 ]
+  where
+    unread : Follows (key_at split at) cells old new (Err why) → IsTrueOfKey (keys_in split cells) above at why
+    unread (inl e) = absurd (is.0 e)
+    unread (inr (inl e)) = inl (ap (parts_if (key_at split at cells).own (key_at split at cells).lent) e)
+    unread (inr (inr e)) = inr (inr (inr e.0))
 
 -- a key that can't be read
 pub unread_refused : (split : Bool) (cells : Cells) (at levels : ℕ) (old : CellMarks) (above : List (List ℕ)) (error : ImageError) → KeyIsUnread split cells old at above error → KeyIsRefused split cells old levels at above error
 unread_refused split cells at levels old above image_error.NoMemory h = tt
-unread_refused split cells at levels old above (image_error.Fault fault) h = (h.0, inr (inr h.1), [], h.3 ∙ sym (append-nil above), sym h.2)
+unread_refused split cells at levels old above (image_error.Fault fault) h = (h.0, inr (inr h.1), [], h.3 ∙ sym (append-nil above), sym h.2, h.4)
 
 -- names that lead from a subkey on lead from its parent on
 pub lead_on : (split : Bool) (cells : Cells) (at subkey : ℕ) (names : List (List ℕ)) (to : ℕ) → ListsSubkey (keys_in split cells) at subkey → NamesReach (keys_in split cells) subkey names to → NamesLeadTo (keys_in split cells) at names to
@@ -88,12 +106,19 @@ module _ (split : Bool) (cells : Cells) (at : ℕ) (old mid : CellMarks) (had be
   reads_so = (key_parts split cells at old mid read.0 subkey_list read.2).0
 
   -- a fault of the key itself
-  fault_here : (levels : ℕ) (why : Refusal) (path : List (List ℕ)) (error : ImageError) → RefusesKey split cells old levels at why → IsFaultAt path at why error → BelowIsRefused split cells old levels at path error
-  fault_here levels why path image_error.NoMemory h is = tt
-  fault_here levels why path (image_error.Fault fault) h is = (λ e. is.0 (sym is.1 ∙ e), subst (λ (r : Refusal). RefusesKey split cells old levels at r) (sym is.1) h, [], is.3 ∙ sym (append-nil path), inl (sym is.2))
+  fault_here : (levels : ℕ) (why : Refusal) (path : List (List ℕ)) (error : ImageError) → RefusesKey split cells old levels at why → IsTrueOfKey (keys_in split cells) path at why → IsFaultAt path at why error → BelowIsRefused split cells old levels at path error
+  fault_here levels why path image_error.NoMemory h met is = tt
+  fault_here levels why path (image_error.Fault fault) h met is = (
+    λ e. is.0 (sym is.1 ∙ e),
+    subst (λ (r : Refusal). RefusesKey split cells old levels at r) (sym is.1) h,
+    [],
+    is.3 ∙ sym (append-nil path),
+    inl (sym is.2),
+    met_there (keys_in split cells) path at why fault is.1 is.2 is.3 met,
+  )
 
-  pub deep_refused : (levels : ℕ) (path : List (List ℕ)) (error : ImageError) → levels ≡ 0 → IsFaultAt path at refusal.TooLarge error → BelowIsRefused split cells old levels at path error
-  deep_refused levels path error e is = fault_here levels refusal.TooLarge path error (subst (λ (n : ℕ). RefusesKey split cells old n at refusal.TooLarge) (sym e) (key_too_deep split cells at old mid read.0 subkey_list read.2)) is
+  pub deep_refused : (levels : ℕ) (path : List (List ℕ)) (error : ImageError) → levels ≡ 0 → MOST_PATH_NAMES < length path → IsFaultAt path at refusal.TooLarge error → BelowIsRefused split cells old levels at path error
+  deep_refused levels path error e long is = fault_here levels refusal.TooLarge path error (subst (λ (n : ℕ). RefusesKey split cells old n at refusal.TooLarge) (sym e) (key_too_deep split cells at old mid read.0 subkey_list read.2)) (inr (inl (refl, long))) is
 
   pub below_refused : (below levels : ℕ) (path : List (List ℕ)) (error : ImageError) → suc below ≡ levels → KeysAreRefused split cells mid below subkey_list path error → BelowIsRefused split cells old levels at path error
   below_refused below levels path image_error.NoMemory more h = tt
@@ -103,11 +128,12 @@ module _ (split : Bool) (cells : Cells) (at : ℕ) (old mid : CellMarks) (had be
     h.2,
     h.3,
     lead_on split cells at h.4 h.2 fault.at (parts_at split cells at read.0 subkey_list, reads_so, h.5) h.6,
+    h.7,
   )
 
   pub key_refused : (levels : ℕ) (above : List (List ℕ)) (error : ImageError) → BelowIsRefused split cells old levels at (above ++ name ∷ []) error → KeyIsRefused split cells old levels at above error
   key_refused levels above image_error.NoMemory h = tt
-  key_refused levels above (image_error.Fault fault) h = (h.0, h.1, name ∷ h.2, h.3 ∙ append_assoc above (name ∷ []) h.2, (parts_at split cells at read.0 subkey_list, reads_so, read.1, h.4))
+  key_refused levels above (image_error.Fault fault) h = (h.0, h.1, name ∷ h.2, h.3 ∙ append_assoc above (name ∷ []) h.2, (parts_at split cells at read.0 subkey_list, reads_so, read.1, h.4), h.5)
 
   module _ (new : CellMarks) (has : List (ℕ × List ℕ)) (below levels : ℕ) (siblings : List Sibling) (more : suc below ≡ levels) (judged : KeysAreJudged split cells mid new between has below subkey_list siblings) where
     l : LoadsKeys split cells mid new between has below subkey_list judged.0
@@ -141,6 +167,7 @@ module _ (split : Bool) (cells : Cells) (at : ℕ) (old mid : CellMarks) (had be
     names_refused path why error e lacks is = fault_here levels why path error
         (subst (λ (n : ℕ). RefusesKey split cells old n at why) more (siblings_refused split cells at old mid read.0 subkey_list read.2 new between has below judged.0 why l
         (inr (e, subst LacksNames (sym judged.2) lacks))))
+        (inr (inr (inl (e, (parts_at split cells at read.0 subkey_list, l.keys, reads_so, l.are_listed, l.loading.fits, subst LacksNames (sym judged.2 ∙ named) lacks)))))
         is
 
 -- ---- keys one after another
@@ -166,6 +193,7 @@ module _ (split : Bool) (cells : Cells) (old : CellMarks) (had : List (ℕ × Li
     at,
     in_back at first (at ∷ rest) (inl refl),
     k.4,
+    k.5,
   )
 
 -- ---- the root
@@ -180,6 +208,7 @@ module _ (split : Bool) (cells : Cells) (old new : CellMarks) (root : ℕ) (unse
   root_unread (image_error.Fault fault) h = (
     stands fault.refusal h.0 (root_refused split cells old new root unset (suc MOST_PATH_NAMES) fault.refusal refl (inr (inr h.1))),
     subst (λ (names : List (List ℕ)). NamesLeadTo (keys_in split cells) root names fault.at) (sym h.3) (inl (sym h.2)),
+    h.4,
   )
 
   pub root_below : (levels : ℕ) (error : ImageError) → levels ≡ suc MOST_PATH_NAMES → BelowIsRefused split cells old levels root [] error → RootIsRefused split cells root error
@@ -187,13 +216,15 @@ module _ (split : Bool) (cells : Cells) (old new : CellMarks) (root : ℕ) (unse
   root_below levels (image_error.Fault fault) e h = (
     stands fault.refusal h.0 (root_refused split cells old new root unset levels fault.refusal e h.1),
     subst (λ (names : List (List ℕ)). NamesLeadTo (keys_in split cells) root names fault.at) (sym h.3) h.4,
+    h.5,
   )
 
-  pub root_lent : (why : Refusal) (error : ImageError) → RefusesRoot split cells root why → IsFaultAt [] root why error → RootIsRefused split cells root error
-  root_lent why image_error.NoMemory h is = tt
-  root_lent why (image_error.Fault fault) h is = (
+  pub root_lent : (why : Refusal) (error : ImageError) → why ≡ refusal.HiveDamaged 0 cause.Shared → RefusesRoot split cells root why → IsFaultAt [] root why error → RootIsRefused split cells root error
+  root_lent why image_error.NoMemory e h is = tt
+  root_lent why (image_error.Fault fault) e h is = (
     subst (λ (r : Refusal). StandsIn split cells root r) (sym is.1) (stands why is.0 h),
     subst (λ (names : List (List ℕ)). NamesLeadTo (keys_in split cells) root names fault.at) (sym is.3) (inl (sym is.2)),
+    met_there (keys_in split cells) [] root why fault is.1 is.2 is.3 (inr (inr (inr e))),
   )
 
 -- ---- an image
@@ -209,5 +240,5 @@ module _ (bytes : List ℕ) (root minor : ℕ) (split : Bool) (is : split ≡ sp
   image_refused (Ok x) h cells shows = tt
   image_refused (Err image_error.NoMemory) h cells shows = tt
   image_refused (Err (image_error.Fault fault)) h cells shows =
-      let told : StandsIn (splits minor) cells root fault.refusal × NamesLeadTo (keys_in (splits minor) cells) root fault.path.items fault.at = subst (λ (b : Bool). StandsIn b cells root fault.refusal × NamesLeadTo (keys_in b cells) root fault.path.items fault.at) is (h cells shows) in
-      (cells, shows, told.0, told.1)
+      let told : StandsIn (splits minor) cells root fault.refusal × NamesLeadTo (keys_in (splits minor) cells) root fault.path.items fault.at × IsTrueWhereMet (keys_in (splits minor) cells) fault = subst (λ (b : Bool). StandsIn b cells root fault.refusal × NamesLeadTo (keys_in b cells) root fault.path.items fault.at × IsTrueWhereMet (keys_in b cells) fault) is (h cells shows) in
+      (cells, shows, told.0, told.1, told.2)

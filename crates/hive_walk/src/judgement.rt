@@ -1,5 +1,5 @@
 //! The keys of an image, read one by one and judged.
-ghost use Rattle.std.specs.Prelude.{◌≡◌, ◌≤◌, ◌*◌, false, ℕ, List, length, IfOk, IfErr, MatchResult, OnOk};
+ghost use Rattle.std.specs.Prelude.{◌≡◌, ◌≤◌, ◌+◌, ◌*◌, false, ℕ, List, length, IfOk, IfErr, MatchResult, OnOk};
 ghost use Rattle.reg_tree_parts.specs.Nodes.{Entries};
 ghost use Rattle.hive_cells.specs.Bins.{Cells, Shows};
 ghost use Rattle.hive_tree_model.specs.Loads.{CellMarks};
@@ -87,6 +87,7 @@ fn judge_key(
 ) -> Result<Sibling, ImageError>
     requires covers { length image.now.bytes ≤ 8 * length seen.old }
     requires known { AreDescriptors image.now.bytes known.old }
+    requires depth { length (names_on above.now) + levels ≡ MOST_PATH_NAMES }
     ensures answers { (cells : Cells) → Shows image.now.bytes cells → MatchResult result
         (λ sibling. KeyIsJudged split cells (marks_of seen.old) (marks_of seen.new) known.old known.new
         levels at sibling.name)
@@ -123,6 +124,7 @@ fn judge_below(
 ) -> Result<(), ImageError>
     requires covers { length image.now.bytes ≤ 8 * length seen.old }
     requires known { AreDescriptors image.now.bytes known.old }
+    requires depth { length (names_on path.now) + levels ≡ MOST_PATH_NAMES + 1 }
     ensures answers { (cells : Cells) → Shows image.now.bytes cells → (old : CellMarks)
         (had : List (ℕ × List ℕ)) (name : List ℕ) →
         KeyIsRead split cells old (marks_of seen.old) had known.old at name offsets.now → MatchResult result
@@ -168,6 +170,7 @@ fn judge_keys(
 ) -> Result<Vec<Sibling>, ImageError>
     requires covers { length image.now.bytes ≤ 8 * length seen.old }
     requires known { AreDescriptors image.now.bytes known.old }
+    requires depth { length (names_on above.now) + levels ≡ MOST_PATH_NAMES }
     ensures answers { (cells : Cells) → Shows image.now.bytes cells → MatchResult result
         (λ siblings. KeysAreJudged split cells (marks_of seen.old) (marks_of seen.new) known.old known.new
         levels offsets.now siblings.items)

@@ -16,7 +16,7 @@ more levels h = elim (cases_lt 0 levels) [ inl l ↦ omega (arith, l) | inr g �
 
 pub judge_below-returns-then-levels-eq0-clause-answers : goal.judge_below-returns-then-levels-eq0-clause-answers
 judge_below-returns-then-levels-eq0-clause-answers t c = λ cells shows old had name read.
-    deep_refused c.args.split cells c.args.at old (marks_of c.args.seen.now) had c.args.known.now name c.args.offsets.now read c.args.levels (names_on c.args.path.now) c.refused_at.result c.if-levels-eq0.true c.refused_at.ensures
+    deep_refused c.args.split cells c.args.at old (marks_of c.args.seen.now) had c.args.known.now name c.args.offsets.now read c.args.levels (names_on c.args.path.now) c.refused_at.result c.if-levels-eq0.true (omega (arith, c.requires.depth, c.if-levels-eq0.true)) c.refused_at.ensures
 
 pub judge_below-returns-in-Err-clause-answers : goal.judge_below-returns-in-Err-clause-answers
 judge_below-returns-in-Err-clause-answers t c = λ cells shows old had name read.
