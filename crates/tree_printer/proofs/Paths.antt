@@ -1,5 +1,5 @@
 -- The text of a path, a name longer.
-use Rattle.std.proofs.Common.{◌≡◌, ℕ, ◌<◌, List, [], ◌∷◌, ◌++◌, length, Option, Result, Ok, Err, OnOk, refl, sym, ◌∙◌, ap, arith, append_assoc, length-append}
+use Rattle.std.proofs.Common.{◌≡◌, ℕ, ◌<◌, List, [], ◌∷◌, ◌++◌, length, Option, refl, sym, ◌∙◌, ap, arith, append_assoc, length-append}
 use Rattle.std.specs.Io.KnownBytes.{Appends}
 use Rattle.script_syntax.specs.Replies.{name_text}
 use Rattle.script_syntax.proofs.Written.{appends_both}
@@ -22,8 +22,3 @@ written_behind a b c d names before last one two three =
     appends_both a c d (path_text (names ++ before ∷ []) ++ 92 ∷ []) (name_text last) (path_text ((names ++ before ∷ []) ++ last ∷ []))
     (appends_both a b c (path_text (names ++ before ∷ [])) (92 ∷ []) (path_text (names ++ before ∷ []) ++ 92 ∷ []) one two refl) three
     (append_assoc (path_text (names ++ before ∷ [])) (92 ∷ []) (name_text last) ∙ sym (behind (names ++ before ∷ []) last (omega (arith, length-append names (before ∷ [])))))
-
--- what follows if an answer is Ok
-pub on_ok : {T E P Q : Type 0} (answer : Result T E) → (P → Q) → OnOk answer P → OnOk answer Q
-on_ok (Ok x) f p = f p
-on_ok (Err e) f p = tt

@@ -1,2 +1,2 @@
 pub mod TreeTexts
-pub mod KeyPaths
+pub mod Printed

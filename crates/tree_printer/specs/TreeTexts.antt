@@ -1,21 +1,13 @@
 -- The text of a tree: its keys in the order of paths, each with its values in the order of names.
-use Rattle.std.specs.Prelude.{ℕ, List, [], ◌∷◌, ◌++◌, map, Option, Some, None, codes}
+use Rattle.std.specs.Prelude.{ℕ, List, [], ◌∷◌, ◌++◌, codes}
 use Rattle.std.specs.List.{flat_map}
 use Rattle.std.specs.Fmt.{decimal}
 use Rattle.std.specs.FinMap as finite
 use Rattle.reg_tree_parts.specs.declared.value.Value.{Value}
 use Rattle.reg_tree_parts.specs.Rows.{Row}
-use Rattle.reg_tree.specs.Maps.{TreeMap, row, beginnings}
+use Rattle.reg_tree.specs.Maps.{TreeMap}
+use Rattle.key_walk.specs.KeyRows.{NamedRow, spelled_names}
 use Rattle.script_syntax.specs.Replies.{name_text, data_text}
-
--- the name of a key as spelled, if one is there
-abbrev pub name_of_row : Option Row → List ℕ
-name_of_row None = []
-name_of_row (Some key) = key.name
-
--- the names along a path, each as spelled by the key that is there in the tree
-abbrev pub spelled_names : TreeMap → List (List ℕ) → List (List ℕ)
-spelled_names tree path = map (λ start. name_of_row (row tree start)) (beginnings path)
 
 -- names with a backslash between each two
 abbrev pub path_text : List (List ℕ) → List ℕ
@@ -32,6 +24,10 @@ value_line value = codes "val " ++ name_text value.name ++ codes " " ++ decimal 
 abbrev pub key_lines : ℕ → List (List ℕ) → Row → List ℕ
 key_lines hive names key =
     codes "key " ++ decimal hive ++ codes ":" ++ path_text names ++ codes " " ++ decimal key.time ++ codes "\n" ++ flat_map value_line (finite.values key.values)
+
+-- the same, of a key as a walk meets it
+abbrev pub named_lines : ℕ → NamedRow → List ℕ
+named_lines hive key = key_lines hive key.0 key.1
 
 -- the text of a tree as the hive of a number
 abbrev pub tree_text : ℕ → TreeMap → List ℕ

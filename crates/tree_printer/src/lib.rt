@@ -1,7 +1,7 @@
 //! The text of a registry tree: a line for its hive, a line for each key, and after it one for each of its values.
 //!
-//! [`write_tree`] writes it into any writer, a key at a time, in the order of paths. It takes no memory, so what was
-//! begun is written to its end if the writer takes it. It keeps nothing of the text: whoever calls it hands in a writer
+//! [`write_tree`] writes it into any writer, a key at a time, in the order of paths: it is a sink of `key_walk`. It takes
+//! no memory, so what was begun is written to its end if the writer takes it. It keeps nothing of the text: whoever calls it hands in a writer
 //! with a buffer.
 #![tactic(auto)]
 
@@ -9,4 +9,5 @@ mod key_path;
 mod keys;
 mod values;
 
+pub use key_path::write_key_path;
 pub use keys::write_tree;

@@ -2,8 +2,9 @@ use Rattle.std.proofs.Common.{◌≡◌, List, ℕ, ◌++◌, ◌∷◌, [], sym
 use Rattle.std.specs.Io.KnownBytes.{Appends}
 use Rattle.script_syntax.specs.Replies.{name_text}
 use Rattle.tree_printer.specs.TreeTexts.{path_text}
-use Rattle.tree_printer.specs.KeyPaths.{names_on}
-use Rattle.tree_printer.proofs.Paths.{on_ok, written_behind}
+use Rattle.key_walk.specs.KeyPaths.{names_on}
+use Rattle.key_walk.proofs.Rows.{on_ok}
+use Rattle.tree_printer.proofs.Paths.{written_behind}
 use Rattle.tree_printer.proofs.key_path.+write_key_path.Goals as goal
 
 pub returns-in_ok-write_all-in-Below-above : goal.returns-in_ok-write_all-in-Below-above

@@ -1,11 +1,16 @@
-use Rattle.std.proofs.Common.{List, ℕ, sym, ap, ◌++◌, codes, ◌∙◌}
+use Rattle.std.proofs.Common.{List, ℕ, ap, ◌++◌, codes}
 use Rattle.std.specs.Fmt.{decimal}
+use Rattle.std.specs.FinMap as finite
+use Rattle.std.proofs.lemmas.List.Folds.{flat_map-map}
 use Rattle.script_syntax.proofs.Written.{appends_both}
-use Rattle.tree_printer.specs.TreeTexts.{tree_text}
-use Rattle.tree_printer.proofs.Paths.{on_ok}
-use Rattle.tree_printer.proofs.Lines.{whole_lines}
+use Rattle.key_walk.specs.KeyRows.{spelled_names}
+use Rattle.key_walk.proofs.Rows.{on_ok}
+use Rattle.tree_printer.specs.TreeTexts.{named_lines, tree_text}
+use Rattle.std.specs.Io.KnownBytes.{Appends}
+use Rattle.tree_printer.specs.Printed.{at_end}
 use Rattle.tree_printer.proofs.keys.write_tree.Goals as goal
 
 pub returns : goal.returns
-returns g c = on_ok c.write_keys.result (λ keys.
-    appends_both _ _ _ _ _ _ c.in_ok-writeln.ensures.bytes keys (ap (λ (lines : List ℕ). codes "hive " ++ decimal c.args.hive ++ codes "\n" ++ lines) (whole_lines c.args.hive c.root.result.now c.root.ensures.node) ∙ ap (tree_text c.args.hive) (sym c.root.ensures.same))) c.write_keys.ensures
+returns g c = on_ok c.walk_tree.result (λ lines.
+    at_end (λ w. Appends (g.W.Write.contents c.args.writer.now) (g.W.Write.contents w) (tree_text c.args.hive c.args.tree.now)) (assumption) lines.2
+    (appends_both _ _ _ _ _ _ c.in_ok-writeln.ensures.bytes lines.0 (ap (λ (text : List ℕ). codes "hive " ++ decimal c.args.hive ++ codes "\n" ++ text) (flat_map-map (named_lines c.args.hive) (λ entry. (spelled_names c.args.tree.now entry.0, entry.1)) (finite.entries c.args.tree.now))))) c.walk_tree.ensures

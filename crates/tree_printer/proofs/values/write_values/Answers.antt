@@ -4,14 +4,15 @@ use Rattle.std.specs.FinMap as finite
 use Rattle.std.specs.Io.KnownBytes.{Appends}
 use Rattle.script_syntax.proofs.Written.{appends_both}
 use Rattle.tree_printer.specs.TreeTexts.{value_line}
-use Rattle.tree_printer.proofs.Lines.{is_there, next_text, values_long}
+use Rattle.key_walk.proofs.Rows.{next_rows}
+use Rattle.tree_printer.proofs.ValueLists.{is_there, values_long}
 use Rattle.tree_printer.proofs.values.write_values.Goals as goal
 
 pub unreachable-requires : goal.unreachable-requires
 unreachable-requires g c = is_there (finite.values c.args.values.now) c.loop-index.index (omega (arith, c.loop-index-test.true, c.len-index-end.ensures, values_long c.args.values.now)) c.in_default.ensures
 
 pub loop-index-preserved : goal.loop-index-preserved
-loop-index-preserved g c = appends_both _ _ _ _ _ _ c.loop-index.invariant c.in_ok-write_value.ensures (next_text value_line (finite.values c.args.values.now) c.loop-index.index c.in-Some.value.now (sym c.in-Some.ensures))
+loop-index-preserved g c = appends_both _ _ _ _ _ _ c.loop-index.invariant c.in_ok-write_value.ensures (next_rows value_line (finite.values c.args.values.now) c.loop-index.index c.in-Some.value.now (sym c.in-Some.ensures))
 
 pub returns : goal.returns
 returns g c = subst (Appends (g.W.Write.contents c.args.writer.now) (g.W.Write.contents c.loop-index.writer)) (ap (flat_map value_line) (take_all c.loop-index.index (finite.values c.args.values.now) (omega (arith, c.loop-index-test.false, c.len-index-end.ensures, values_long c.args.values.now)))) c.loop-index.invariant
