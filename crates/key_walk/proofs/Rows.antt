@@ -28,10 +28,10 @@ spelled_below whole subkey stands path =
 
 module _ (names : List (List ℕ)) (whole : Entries) where
   -- one key
-  abbrev named_row : List (List ℕ) × Row → NamedRow
+  abbrev pub named_row : List (List ℕ) × Row → NamedRow
   named_row entry = (names ++ spelled_in whole entry.0, entry.1)
 
-  below_rows : (subkey : List ℕ × Entries) → StandsBelow whole subkey → (some : Entries) → map named_row (below subkey.0 some) ≡ map (λ (entry : List (List ℕ) × Row). ((names ++ name_of_row (row_at subkey.1 []) ∷ []) ++ spelled_in subkey.1 entry.0, entry.1)) some
+  pub below_rows : (subkey : List ℕ × Entries) → StandsBelow whole subkey → (some : Entries) → map named_row (below subkey.0 some) ≡ map (λ (entry : List (List ℕ) × Row). ((names ++ name_of_row (row_at subkey.1 []) ∷ []) ++ spelled_in subkey.1 entry.0, entry.1)) some
   below_rows subkey stands [] = refl
   below_rows subkey stands (entry ∷ some) =
       ap (λ ns. (ns, entry.1) ∷ map named_row (below subkey.0 some)) (ap (λ ns. names ++ ns) (spelled_below whole subkey stands entry.0) ∙ sym (append_assoc names (name_of_row (row_at subkey.1 []) ∷ []) (spelled_in subkey.1 entry.0)))
