@@ -1,0 +1,24 @@
+use Rattle.std.proofs.Common.{List, ℕ, arith, sym, ap, subst, ◌∙◌, take_all}
+use Rattle.std.specs.List.{flat_map}
+use Rattle.std.specs.FinMap as finite
+use Rattle.std.specs.Io.KnownBytes.{Appends}
+use Rattle.reg_tree_parts.specs.declared.value.Value.{Value}
+use Rattle.script_syntax.proofs.Written.{appends_both}
+use Rattle.key_walk.specs.KeyPaths.{names_on}
+use Rattle.key_walk.proofs.Rows.{next_rows}
+use Rattle.tree_printer.proofs.ValueLists.{is_there, values_long}
+use Rattle.reg_export.specs.Moments.{utc_field}
+use Rattle.reg_export.specs.JsonTexts.{json_key_fields, json_value_line}
+use Rattle.reg_export.proofs.json_sink.write_values.Goals as goal
+
+pub unreachable-requires : goal.unreachable-requires
+unreachable-requires g c = is_there (finite.values c.values-values.result.now) c.loop-index.index (omega (arith, c.loop-index-test.true, c.len-index-end.ensures, values_long c.values-values.result.now)) c.in_default.ensures
+
+pub loop-index-preserved : goal.loop-index-preserved
+loop-index-preserved g c = appends_both _ _ _ _ _ _ c.loop-index.invariant c.in_ok-write_value.ensures (next_rows (json_value_line (json_key_fields c.args.hive (utc_field c.args.utc) (names_on c.args.path.now, c.args.key.now))) (finite.values c.values-values.result.now) c.loop-index.index c.in-Some.value.now (sym c.in-Some.ensures))
+
+pub returns : goal.returns
+returns g c =
+    let text : Value → List ℕ = json_value_line (json_key_fields c.args.hive (utc_field c.args.utc) (names_on c.args.path.now, c.args.key.now)) in
+    subst (Appends (g.W.Write.contents c.args.writer.now) (g.W.Write.contents c.loop-index.writer))
+    (ap (flat_map text) (take_all c.loop-index.index (finite.values c.values-values.result.now) (omega (arith, c.loop-index-test.false, c.len-index-end.ensures, values_long c.values-values.result.now))) ∙ ap (λ vs. flat_map text (finite.values vs)) c.values-values.ensures) c.loop-index.invariant

@@ -1,0 +1,16 @@
+pub mod Encodings
+pub mod ByteUnits
+pub mod RegTexts
+pub mod NameTests
+pub mod Scans
+pub mod RegFiles
+pub mod TypeNames
+pub mod Meanings
+pub mod UnitForms
+pub mod Moments
+pub mod JsonTexts
+pub mod TsvTexts
+pub mod Hives
+pub mod SinkLaws
+pub mod ScanLaws
+pub mod JsonLaws

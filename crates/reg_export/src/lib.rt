@@ -1,0 +1,32 @@
+//! Keys and values as text: a registration file (.reg), lines of JSON, or lines of tab-separated fields.
+//!
+//! Each form is a [`KeySink`](key_walk::KeySink), so it prints the keys of a tree as well as the keys of a hive's image,
+//! and takes no memory. A registration file is UTF-16 or ASCII as a whole. So a first walk with a [`NameScan`] says
+//! which, and whether a file can hold the names at all; then come [`write_reg_header`] and a walk with a [`RegSink`].
+//! [`write_reg`] does both for hives in memory.
+//!
+//! A text is written in small pieces: whoever calls hands in a writer with a buffer.
+#![tactic(auto)]
+
+mod byte_units;
+mod encoding;
+mod json_sink;
+mod json_value;
+mod key_names;
+mod meaning;
+mod moment;
+mod name_scan;
+mod reg_data;
+mod reg_file;
+mod reg_sink;
+mod reg_value;
+mod tsv_sink;
+mod type_name;
+mod unit_form;
+
+pub use encoding::Encoding;
+pub use json_sink::JsonSink;
+pub use name_scan::NameScan;
+pub use reg_file::{ExportError, HiveKeys, write_reg};
+pub use reg_sink::{RegSink, write_reg_header};
+pub use tsv_sink::TsvSink;
