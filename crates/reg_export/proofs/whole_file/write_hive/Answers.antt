@@ -3,7 +3,7 @@ use Rattle.tree_printer.specs.Printed.{at_end}
 use Rattle.reg_export.specs.Encodings.{Prints}
 use Rattle.reg_export.specs.RegTexts.{reg_hive_lines}
 use Rattle.reg_export.specs.Hives.{keys_of}
-use Rattle.reg_export.proofs.reg_file.write_hive.Goals as goal
+use Rattle.reg_export.proofs.whole_file.write_hive.Goals as goal
 
 pub returns : goal.returns
 returns g c = on_ok c.walk_tree.result (λ printed.

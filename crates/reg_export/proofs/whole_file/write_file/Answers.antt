@@ -6,7 +6,7 @@ use Rattle.reg_export.specs.Encodings.{encoded, mark}
 use Rattle.reg_export.specs.RegTexts.{reg_header, reg_hive_lines}
 use Rattle.reg_export.specs.Hives.{keys_of}
 use Rattle.reg_export.specs.SinkLaws.{encoded_both}
-use Rattle.reg_export.proofs.reg_file.write_file.Goals as goal
+use Rattle.reg_export.proofs.whole_file.write_file.Goals as goal
 
 pub returns : goal.returns
 returns g c =

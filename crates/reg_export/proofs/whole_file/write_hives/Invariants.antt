@@ -3,7 +3,7 @@ use Rattle.std.specs.List.{flat_map}
 use Rattle.reg_export.specs.Encodings.{Prints}
 use Rattle.reg_export.specs.RegTexts.{reg_hive_lines}
 use Rattle.reg_export.specs.Hives.{keys_of}
-use Rattle.reg_export.proofs.reg_file.write_hives.Given as goal
+use Rattle.reg_export.proofs.whole_file.write_hives.Given as goal
 
 -- the lines of the hives so far were printed
 abbrev pub invariant-loop-hive : goal.invariant-loop-hive

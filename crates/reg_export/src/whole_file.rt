@@ -36,7 +36,7 @@ pub enum ExportError {
 }
 
 impl From<io::Error> for ExportError {
-    ghost use Rattle.reg_export.specs.declared.reg_file.ExportError.TheVariants.{Write};
+    ghost use Rattle.reg_export.specs.declared.whole_file.ExportError.TheVariants.{Write};
 
     ghost from_gives = { λ error made. made ≡ Write error };
 

@@ -2,7 +2,7 @@ use Rattle.std.proofs.Common.{◌≡◌, map, take}
 use Rattle.reg_export.specs.Scans.{new_scan, scan_with}
 use Rattle.reg_export.specs.RegFiles.{file_names}
 use Rattle.reg_export.specs.Hives.{keys_of}
-use Rattle.reg_export.proofs.reg_file.scan_hives.Given as goal
+use Rattle.reg_export.proofs.whole_file.scan_hives.Given as goal
 
 -- the names of the hives so far were seen
 abbrev pub invariant-loop-hive : goal.invariant-loop-hive
