@@ -13,9 +13,11 @@ pub removes : (first last : Extension) (view : List TreeMap) (moment hive : ℕ)
     → RemovesKey view moment hive path last.ops.items × (last.view ≡ applied view last.ops.items moment)
 removes first last view moment hive path same none more gone =
     let ops : last.ops.items ≡ more.more = more.ops ∙ ap (λ (ops : List Op). ops ++ more.more) none in
-    let made : last.view ≡ applied view last.ops.items moment = more.view ∙ (λ i. applied (same i) (sym ops i) moment) in
-    (record {
-      legal = subst (λ (ops : List Op). AreLegalChanges view ops moment) (sym ops) (subst (λ trees. AreLegalChanges trees more.more moment) same more.legal);
-      below = subst (All (DeletesBelow hive path)) (sym ops) more.below;
-      gone = subst (λ trees. IsGone trees hive path) made gone;
-    }, made)
+    let made : last.view ≡ applied view last.ops.items moment = more.view ∙ (λ i. applied (same i) (sym ops i) moment) in (
+      record {
+        legal = subst (λ (ops : List Op). AreLegalChanges view ops moment) (sym ops) (subst (λ trees. AreLegalChanges trees more.more moment) same more.legal);
+        below = subst (All (DeletesBelow hive path)) (sym ops) more.below;
+        gone = subst (λ trees. IsGone trees hive path) made gone;
+      },
+      made,
+    )

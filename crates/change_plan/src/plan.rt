@@ -116,12 +116,7 @@ fn len_with(bytes: u64, ops: &[Op]) -> u64
 }
 
 // what an edit adds to trees at a moment
-fn extension_by(
-    alloc: Global,
-    view: &Trees,
-    edit: Edit,
-    moment: u64,
-) -> Result<Extension, Refusal>
+fn extension_by(alloc: Global, view: &Trees, edit: Edit, moment: u64) -> Result<Extension, Refusal>
     ensures made { IfOk result (λ made. EditAsks view.now moment edit made.ops.items
         × (made.view ≡ applied view.now made.ops.items moment)) }
     ensures refused { IfErr result (λ why. (why ≡ NoMemory) ⊎ EditRefused view.now moment edit why) }
