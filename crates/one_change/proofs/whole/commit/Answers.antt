@@ -1,0 +1,59 @@
+use Rattle.std.proofs.Common.{rules, ◌≡◌, ◌++◌, ◌∷◌, [], List, length, arith, refl, sym, ◌∙◌, ap, subst, append_assoc}
+use Rattle.std.specs.Vec.Iter.{into_iter_items, into_iter_len}
+use Rattle.reg_tree.specs.declared.op.Op.{Op}
+use Rattle.store_model.specs.Machine.{trees_now}
+use Rattle.store_model.specs.Invariant.{AreLegalChanges}
+use Rattle.script_runner.proofs.Later.{later_on}
+use Rattle.one_change.specs.Commits.{InTransaction}
+use Rattle.std.proofs.lemmas.List.{append-nil}
+use Rattle.one_change.proofs.Transacting.{legal_at, none_left}
+use Rattle.one_change.proofs.Waiting.{accepts_on, waited_keeps, waited_durable}
+use Rattle.one_change.proofs.whole.commit.Goals as goal
+
+pub loop-op-init : goal.loop-op-init
+loop-op-init g c =
+    let long : into_iter_len c.into_iter-op-iterator.result ≡ length (into_iter_items c.into_iter-op-iterator.result) = search rules in
+    (refl, c.in_ok-tx.ensures.begun c.args.moment, long, c.begin.ensures.later)
+
+pub loop-op-preserved : goal.loop-op-preserved
+loop-op-preserved g c =
+    let D = g.D.Disk in
+    let first = c.args.engine.now in
+    let all : into_iter_items c.into_iter-op-iterator.result ≡ c.loop-op.yielded ++ c.in-Some.op ∷ into_iter_items c.next.new.self = c.loop-op.invariant.0 ∙ ap (λ xs. c.loop-op.yielded ++ xs) c.in-Some.ensures.steps.0 in
+    let are_legal = subst (λ (ops : List Op). AreLegalChanges (trees_now first.machine) ops c.args.moment) (sym c.into_iter-op-iterator.ensures.into_iter_gives.0 ∙ all) c.requires.are_legal in (
+      all ∙ sym (append_assoc c.loop-op.yielded (c.in-Some.op ∷ []) (into_iter_items c.next.new.self)),
+      c.in_ok-add.ensures.added first.machine c.loop-op.yielded c.loop-op.invariant.1 (legal_at (trees_now first.machine) c.args.moment c.loop-op.yielded c.in-Some.op (into_iter_items c.next.new.self) are_legal),
+      omega (arith, c.loop-op.invariant.2, c.in-Some.ensures.steps.1, ap length c.in-Some.ensures.steps.0),
+      later_on D.faithful D.failures first c.loop-op.engine c.add.new.engine c.loop-op.invariant.3 c.add.ensures.later,
+    )
+
+pub returns-in_err-add-clause-later : goal.returns-in_err-add-clause-later
+returns-in_err-add-clause-later g c = later_on g.D.Disk.faithful g.D.Disk.failures c.args.engine.now c.loop-op.engine c.add.new.engine c.loop-op.invariant.3 c.add.ensures.later
+
+pub returns-in_err-number-clause-later : goal.returns-in_err-number-clause-later
+returns-in_err-number-clause-later g c = later_on g.D.Disk.faithful g.D.Disk.failures c.args.engine.now c.loop-op.engine c.accept.new.engine c.loop-op.invariant.3 c.accept.ensures.later
+
+pub returns-in_err-wait-clause-later : goal.returns-in_err-wait-clause-later
+returns-in_err-wait-clause-later g c = later_on g.D.Disk.faithful g.D.Disk.failures c.args.engine.now c.accept.new.engine c.wait.new.engine
+    (later_on g.D.Disk.faithful g.D.Disk.failures c.args.engine.now c.loop-op.engine c.accept.new.engine c.loop-op.invariant.3 c.accept.ensures.later) c.wait.ensures.later
+
+pub returns-clause-later : goal.returns-clause-later
+returns-clause-later g c = later_on g.D.Disk.faithful g.D.Disk.failures c.args.engine.now c.accept.new.engine c.wait.new.engine
+    (later_on g.D.Disk.faithful g.D.Disk.failures c.args.engine.now c.loop-op.engine c.accept.new.engine c.loop-op.invariant.3 c.accept.ensures.later) c.wait.ensures.later
+
+pub returns-in_err-wait-clause-refused : goal.returns-in_err-wait-clause-refused
+returns-in_err-wait-clause-refused g c =
+    let whole : c.loop-op.yielded ≡ c.args.ops.items = sym (sym c.into_iter-op-iterator.ensures.into_iter_gives.0 ∙ c.loop-op.invariant.0 ∙ ap (λ xs. c.loop-op.yielded ++ xs) (none_left (into_iter_items c.loop-op.op-iterator) (sym c.loop-op.invariant.2 ∙ c.in-None.ensures.steps.0)) ∙ append-nil c.loop-op.yielded) in
+    let accepts = c.in_ok-number.ensures.accepted.1 c.args.engine.now.machine c.args.ops.items (subst (λ (ops : List Op). InTransaction c.args.engine.now.machine c.in_ok-tx.tx c.args.moment ops c.loop-op.engine.machine) whole c.loop-op.invariant.1) in
+    let fails = accepts_on c.args.engine.now.machine c.accept.new.engine.machine c.wait.new.engine.machine c.args.moment c.args.ops.items accepts.0 (waited_keeps c.accept.new.engine.machine c.in_ok-number.number _ c.wait.new.engine.machine c.in_err-wait.ensures.waited) in
+    search rules
+
+pub returns-clause-committed : goal.returns-clause-committed
+returns-clause-committed g c =
+    let whole : c.loop-op.yielded ≡ c.args.ops.items = sym (sym c.into_iter-op-iterator.ensures.into_iter_gives.0 ∙ c.loop-op.invariant.0 ∙ ap (λ xs. c.loop-op.yielded ++ xs) (none_left (into_iter_items c.loop-op.op-iterator) (sym c.loop-op.invariant.2 ∙ c.in-None.ensures.steps.0)) ∙ append-nil c.loop-op.yielded) in
+    let accepts = c.in_ok-number.ensures.accepted.1 c.args.engine.now.machine c.args.ops.items (subst (λ (ops : List Op). InTransaction c.args.engine.now.machine c.in_ok-tx.tx c.args.moment ops c.loop-op.engine.machine) whole c.loop-op.invariant.1) in
+    record {
+      accepts = accepts_on c.args.engine.now.machine c.accept.new.engine.machine c.wait.new.engine.machine c.args.moment c.args.ops.items accepts.0 (waited_keeps c.accept.new.engine.machine c.in_ok-number.number _ c.wait.new.engine.machine c.in_ok-wait.ensures.waited);
+      numbered = accepts.1;
+      durable = waited_durable c.accept.new.engine.machine c.in_ok-number.number c.wait.new.engine.machine c.in_ok-wait.ensures.waited;
+    }
