@@ -1,0 +1,3 @@
+pub mod Taken
+pub mod LegalPlans
+pub mod Finished

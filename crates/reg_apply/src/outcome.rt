@@ -1,0 +1,72 @@
+//! How the application of a file ended.
+ghost use Rattle.std.specs.Prelude.{◌≡◌, Some};
+ghost use Rattle.reg_apply.specs.Outcomes.{outcome_status, outcome_text};
+
+use refusals::Refusal;
+use reg_file::{Fault, FaultKind};
+use script_syntax::Status;
+use std::fmt;
+
+/// How it ended. Its text is the line that is printed.
+#[derive(Clone, Copy, Debug, PartialEq, Eq)]
+pub enum Outcome {
+    /// The change of this number has all that the file asks for, and is durable. The number is 0 if the file asks for
+    /// nothing that isn't so already.
+    Applied {
+        /// The change's number.
+        number: u64,
+    },
+    /// The file is none, or has a line that is no statement.
+    BadFile {
+        /// What is wrong, and where.
+        fault: Fault,
+    },
+    /// The path of a statement lies in no hive of the store.
+    NoHive {
+        /// The number of the statement's first line.
+        line: u64,
+    },
+    /// A statement was refused.
+    Denied {
+        /// The number of the statement's first line.
+        line: u64,
+        /// Why.
+        refusal: Refusal,
+    },
+    /// The store wasn't opened, or the commit was refused.
+    Refused {
+        /// Why.
+        refusal: Refusal,
+    },
+}
+
+impl Outcome {
+    /// The status with which a command ends that printed this.
+    pub fn status(&self) -> Status
+        ensures { result ≡ outcome_status self.now }
+    {
+        match self {
+            Outcome::Applied { .. } => Status::Clean,
+            Outcome::BadFile { fault } => match fault.kind {
+                FaultKind::TooLarge => Status::Refused,
+                _ => Status::Wrong,
+            },
+            Outcome::NoHive { .. } => Status::Wrong,
+            Outcome::Denied { .. } | Outcome::Refused { .. } => Status::Refused,
+        }
+    }
+}
+
+impl fmt::Display for Outcome {
+    ghost output = { λ outcome. Some (outcome_text outcome) };
+
+    fn fmt<W: fmt::Write>(&self, f: &mut fmt::Formatter<W>) -> fmt::Result {
+        match self {
+            Outcome::Applied { number } => write!(f, "applied {number}"),
+            Outcome::BadFile { fault } => write!(f, "{fault}"),
+            Outcome::NoHive { line } => write!(f, "line {line}: no hive"),
+            Outcome::Denied { line, refusal } => write!(f, "line {line}: {refusal}"),
+            Outcome::Refused { refusal } => write!(f, "{refusal}"),
+        }
+    }
+}

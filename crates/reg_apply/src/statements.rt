@@ -1,0 +1,70 @@
+//! The statements of a file, taken into a plan.
+ghost use Rattle.std.specs.Prelude.{None, Option, IfOk, IfErr, OnOk};
+ghost use Rattle.std.specs.Option.{option_copied};
+ghost use Rattle.reg_apply.specs.declared.place.Place.{Place as AnyPlace};
+ghost use Rattle.reg_apply.specs.Statements.{Denies, StopsAt, TakesStatements, TakesStatement};
+
+use crate::place::{Denial, Place, edit_of};
+use change_plan::Plan;
+use reg_file::{NumberedStatement, Statement};
+use reg_prefixes::Prefixes;
+use std::alloc::Global;
+
+/// The first statement whose edit isn't taken.
+#[derive(Clone, Copy, Debug, PartialEq, Eq)]
+pub(crate) struct Stop {
+    /// The number of its first line.
+    pub(crate) line: u64,
+    /// Why.
+    pub(crate) denial: Denial,
+}
+
+/// Takes the edits of all statements into a plan.
+pub(crate) fn take_all(
+    alloc: Global,
+    prefixes: &Prefixes,
+    hives: usize,
+    plan: &mut Plan,
+    statements: Vec<NumberedStatement>,
+) -> Result<(), Stop>
+    ensures taken { OnOk result ((last : Option AnyPlace) ×
+        TakesStatements prefixes.now hives None plan.old statements.items last plan.new) }
+    ensures stopped { IfErr result (λ stop.
+        StopsAt prefixes.now hives plan.old statements.items stop.line stop.denial) }
+{
+    let mut current = None;
+    for numbered in statements {
+        let line = numbered.line;
+        match take(
+            alloc,
+            prefixes,
+            hives,
+            plan,
+            current.as_ref(),
+            numbered.statement,
+        ) {
+            Ok(next) => current = next,
+            Err(denial) => return Err(Stop { line, denial }),
+        }
+    }
+    Ok(())
+}
+
+// takes the edit of a statement; answers the key that is current after it
+fn take(
+    alloc: Global,
+    prefixes: &Prefixes,
+    hives: usize,
+    plan: &mut Plan,
+    current: Option<&Place>,
+    statement: Statement,
+) -> Result<Option<Place>, Denial>
+    ensures taken { IfOk result (λ next. TakesStatement prefixes.now hives (option_copied current.entry)
+        plan.old statement next plan.new) }
+    ensures denied { IfErr result
+        (Denies prefixes.now hives (option_copied current.entry) plan.old statement) }
+{
+    let (edit, next) = edit_of(alloc, prefixes, hives, current, statement)?;
+    plan.take(alloc, edit)?;
+    Ok(next)
+}
