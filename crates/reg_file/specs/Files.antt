@@ -54,7 +54,7 @@ room_after None line = (MOST_ELEMENT_BYTES + 1) - length line
 room_after (Some item) line = item.room - (length line + 1)
 
 abbrev pub stop : ℕ → FaultKind → Turn
-stop number what = Stop (record { line = number; kind = what })
+stop number what = Stop (Some (record { line = number; kind = what }))
 
 -- a statement where it ends
 abbrev pub judged : ℕ → Bool → ℕ → Statement → Turn
@@ -83,7 +83,7 @@ turn_of old has_key number item line =
 abbrev pub after_turn : (Bool → Option Item → RegFile) → Turn → RegFile
 after_turn rest (Next has_key item) = rest has_key item
 after_turn rest (Done has_key statement) = onto_file (statement ∷ []) (rest has_key None)
-after_turn rest (Stop fault) = stopped fault
+after_turn rest (Stop fault) = record { statements = []; fault = fault }
 
 -- a file may not end within a statement
 abbrev pub end_fault : Option Item → Option Fault

@@ -1,5 +1,5 @@
 -- What the values that functions hand to each other mean.
-use Rattle.std.specs.Prelude.{◌≡◌, ℕ, ◌+◌, List, [], ◌∷◌, length, Option, Some, None}
+use Rattle.std.specs.Prelude.{◌≡◌, ℕ, ◌+◌, ◌≤◌, List, [], ◌∷◌, length, Option, Some, None}
 use Rattle.std.specs.Borrow.{Bor}
 use Rattle.reg_file.specs.Scanning.{QuoteScan, QuoteCloses, QuoteStaysOpen, NoQuote, ListScan, ListEnds, ListGoesOn, NoList}
 use Rattle.reg_file.specs.declared.quote.QuoteEnd.{QuoteEnd}
@@ -8,6 +8,8 @@ use Rattle.reg_file.specs.declared.list.ListEnd.{ListEnd}
 use Rattle.reg_file.specs.declared.list.ListEnd.TheVariants as list
 use Rattle.reg_file.specs.declared.lines.NextLine.{NextLine}
 use Rattle.reg_file.specs.declared.lines.NextLine.TheVariants as next
+use Rattle.reg_file.specs.declared.turn.Turn.{Turn}
+use Rattle.reg_file.specs.declared.turn.Turn.TheVariants.{Next, Done, Stop}
 
 -- an end of text in quotes, with the units read so far
 abbrev pub quote_view : QuoteEnd → List ℕ → QuoteScan
@@ -39,3 +41,9 @@ LineGives next.End old line new = (old ≡ []) × (new ≡ [])
 abbrev pub bytes_left : Option (List ℕ) → ℕ
 bytes_left None = 0
 bytes_left (Some bytes) = length bytes + 1
+
+-- unless a file stops at a line, fewer bytes are left behind it
+abbrev pub StopsOrLess : Turn → ℕ → ℕ → Type 0
+StopsOrLess (Next has_key item) old new = new + 1 ≤ old
+StopsOrLess (Done has_key statement) old new = new + 1 ≤ old
+StopsOrLess (Stop fault) old new = Unit {0}

@@ -1,17 +1,17 @@
 //! Registration files.
 ghost use Rattle.std.specs.Prelude.{◌≡◌, ◌+◌, ◌<◌, ◌≤◌, ◌^◌, [], ◌∷◌, ◌++◌, IfOk, IfSome, OnOk, Some, None, false, length, ℕ, List, map, ◌⊎◌};
 ghost use Rattle.std.specs.Option.{option_copied};
-ghost use Rattle.reg_file.specs.Files.{reg_file_of, lines_file, file_from, header_of, is_header, ends_behind, onto_file, first_of, end_fault};
+ghost use Rattle.reg_file.specs.Files.{reg_file_of, lines_file, file_from, header_of, is_header, ends_behind, onto_file, after_turn};
 ghost use Rattle.reg_file.specs.Lines.{lines_left, file_lines};
 ghost use Rattle.reg_file.specs.Grammar.{IsFile, IsStopped, IsNoHeader};
 ghost use Rattle.reg_file.specs.declared.statement.NumberedStatement.{NumberedStatement};
-ghost use Rattle.reg_file.specs.Views.{bytes_left};
+ghost use Rattle.reg_file.specs.Views.{bytes_left, StopsOrLess};
 
 use crate::blanks::{ends_line, skip_blanks, strip};
 use crate::fault::{Fault, FaultKind};
 use crate::lines::{Lines, NextLine};
 use crate::statement::NumberedStatement;
-use crate::turn::{Item, Turn, take_line};
+use crate::turn::{Item, Turn, take_end, take_line, take_no_text};
 use std::alloc::{AllocError, Global};
 use std::marker::Model;
 
@@ -163,22 +163,7 @@ fn read_statements(alloc: Global, lines: Lines, old: bool) -> Result<RegFile, Al
     let mut has_key = false;
     let mut item = None;
     'lines: loop {
-        match lines.next_line(&mut line)? {
-            NextLine::Text => {}
-            NextLine::NotText => {
-                return Ok(RegFile {
-                    statements,
-                    fault: Some(not_text(number, item)),
-                });
-            }
-            NextLine::End => {
-                return Ok(RegFile {
-                    statements,
-                    fault: unfinished(item),
-                });
-            }
-        }
-        match take_line(alloc, old, has_key, number, item, &line)? {
+        match next_turn(alloc, old, has_key, number, item, &mut lines, &mut line)? {
             Turn::Next {
                 has_key: key,
                 item: pending,
@@ -194,38 +179,29 @@ fn read_statements(alloc: Global, lines: Lines, old: bool) -> Result<RegFile, Al
                 has_key = key;
                 item = None;
             }
-            Turn::Stop { fault } => {
-                return Ok(RegFile {
-                    statements,
-                    fault: Some(fault),
-                });
-            }
+            Turn::Stop { fault } => return Ok(RegFile { statements, fault }),
         }
         number += 1;
     }
 }
 
-// a line that is no text, in the statement that goes on, if one does
-fn not_text(number: u64, item: Option<Item>) -> Fault
-    ensures { result ≡ record { line = first_of number item; kind = FaultKind.NotText } }
+// what the next line does, which is read into `line`
+fn next_turn(
+    alloc: Global,
+    old: bool,
+    has_key: bool,
+    number: u64,
+    item: Option<Item>,
+    lines: &mut Lines,
+    line: &mut Vec<u16>,
+) -> Result<Turn, AllocError>
+    ensures turn { IfOk result (λ turn. file_from old has_key number item (lines_left lines.old.encoding (option_copied lines.old.rest))
+        ≡ after_turn (λ key pending. file_from old key (number + 1) pending (lines_left lines.new.encoding (option_copied lines.new.rest))) turn) }
+    ensures left { IfOk result (λ turn. StopsOrLess turn (bytes_left (option_copied lines.old.rest)) (bytes_left (option_copied lines.new.rest))) }
 {
-    let line = match item {
-        None => number,
-        Some(item) => item.first_line,
-    };
-    let kind = FaultKind::NotText;
-    Fault { line, kind }
-}
-
-// the fault of a file that ends within a statement
-fn unfinished(item: Option<Item>) -> Option<Fault>
-    ensures { result ≡ end_fault item }
-{
-    match item {
-        None => None,
-        Some(item) => Some(Fault {
-            line: item.first_line,
-            kind: FaultKind::NotUnderstood,
-        }),
+    match lines.next_line(line)? {
+        NextLine::Text => take_line(alloc, old, has_key, number, item, line),
+        NextLine::NotText => Ok(take_no_text(number, item)),
+        NextLine::End => Ok(take_end(item)),
     }
 }

@@ -1,6 +1,6 @@
 //! What one line of a file does.
-ghost use Rattle.std.specs.Prelude.{◌≡◌, ◌==◌, IfOk};
-ghost use Rattle.reg_file.specs.Files.{turn_of, scanned, judged, has_high, first_of, room_after, pending_of, wants_key, key_after};
+ghost use Rattle.std.specs.Prelude.{◌≡◌, IfOk, Some};
+ghost use Rattle.reg_file.specs.Files.{turn_of, scanned, judged, has_high, first_of, end_fault};
 
 use crate::fault::{Fault, FaultKind};
 use crate::line_scan::scan_line;
@@ -37,10 +37,10 @@ pub(crate) enum Turn {
         /// The statement.
         statement: NumberedStatement,
     },
-    /// A fault ends the file.
+    /// The file ends here, or a fault ends it.
     Stop {
         /// The fault.
-        fault: Fault,
+        fault: Option<Fault>,
     },
 }
 
@@ -82,10 +82,31 @@ fn has_high(line: &[u16]) -> bool
 }
 
 fn stop(line: u64, kind: FaultKind) -> Turn
-    ensures { result ≡ Turn.Stop (record { line = line; kind = kind }) }
+    ensures { result ≡ Turn.Stop (Some (record { line = line; kind = kind })) }
 {
-    let fault = Fault { line, kind };
+    let fault = Some(Fault { line, kind });
     Turn::Stop { fault }
+}
+
+/// What a line does that is no text.
+pub(crate) fn take_no_text(number: u64, item: Option<Item>) -> Turn
+    ensures { result ≡ Turn.Stop (Some (record { line = first_of number item; kind = FaultKind.NotText })) }
+{
+    let line = match item {
+        None => number,
+        Some(item) => item.first_line,
+    };
+    stop(line, FaultKind::NotText)
+}
+
+/// What the end of the file does: it may not stand within a statement.
+pub(crate) fn take_end(item: Option<Item>) -> Turn
+    ensures { result ≡ Turn.Stop (end_fault item) }
+{
+    match item {
+        None => Turn::Stop { fault: None },
+        Some(item) => stop(item.first_line, FaultKind::NotUnderstood),
+    }
 }
 
 fn turn_after(first: u64, has_key: bool, room: u64, scan: Scan) -> Turn
