@@ -1,12 +1,13 @@
 -- The lines of encoded text.
-use Rattle.std.proofs.Common.{◌≡◌, ◌≢◌, ℕ, zero, suc, ◌≤◌, ◌^◌, ◌<◌, ◌==◌, Bool, true, false, cond, List, [], ◌∷◌, ◌++◌, map, length, Option, Some, None, refl, sym, ◌∙◌, ap, arith}
-use Rattle.std.specs.Prelude.{flat_map, nat_eq, nat_lt, drop, IsAscii, chars}
+use Rattle.std.proofs.Common.{◌≡◌, ◌≢◌, ℕ, zero, suc, ◌≤◌, ◌^◌, ◌<◌, ◌==◌, Bool, true, false, cond, List, [], ◌∷◌, ◌++◌, map, length, Option, Some, None, refl, sym, ◌∙◌, ap, arith, append_assoc}
+use Rattle.std.specs.Prelude.{All, flat_map, nat_eq, nat_lt, drop, IsAscii, chars}
 use Rattle.std.specs.List.{slice_split, onto_first, starts_with, AllByRecursion}
 use Rattle.std.specs.Int.{w16, to_le_bytes, byte_at}
 use Rattle.std.specs.Char.Escape.{encode_utf16}
 use Rattle.std.proofs.lemmas.Bool.Decides.{nat_tests}
 use Rattle.std.proofs.lemmas.Str.{is_utf8-from_IsUtf8, IsUtf8-from_ascii, chars-IsAscii}
-use Rattle.std.proofs.lemmas.List.Splits.{length-slice_split}
+use Rattle.std.proofs.lemmas.List.Splits.{length-slice_split, slice_split_at}
+use Rattle.std.proofs.lemmas.List.Elements.{All-append, All-cons, All-nil}
 use Rattle.reg_file.specs.Lines.{utf8_line, onto_lines, unit_of, utf16_lines, encoded_lines, file_lines, last_is_none, unit_lines}
 use Rattle.reg_file.specs.declared.lines.Encoding.{Encoding}
 use Rattle.reg_file.specs.declared.lines.Encoding.TheVariants.{Utf8, Utf16}
@@ -144,3 +145,19 @@ read_ascii bytes h =
     ap (λ test. cond test (encoded_lines Utf16 (drop 2 bytes)) (cond (starts_with nat_eq bytes (239 ∷ 187 ∷ 191 ∷ [])) (encoded_lines Utf8 (drop 3 bytes)) (encoded_lines Utf8 bytes))) (no_mark bytes 255 (254 ∷ []) h (omega arith))
     ∙ ap (λ test. cond test (encoded_lines Utf8 (drop 3 bytes)) (encoded_lines Utf8 bytes)) (no_mark bytes 239 (187 ∷ 191 ∷ []) h (omega arith))
     ∙ ascii_lines (slice_split (λ byte. byte == 10) bytes) (ascii_parts bytes h)
+
+-- lines that are written with a carriage return and a line feed behind each are read back
+abbrev NoFeed : List ℕ → Type 0
+NoFeed line = All (λ unit. (unit == 10) ≡ false) line
+
+crlf_line : (line rest : List ℕ) → NoFeed line → slice_split (λ unit. unit == 10) ((line ++ 13 ∷ 10 ∷ []) ++ rest) ≡ (line ++ 13 ∷ []) ∷ slice_split (λ unit. unit == 10) rest
+crlf_line line rest h =
+    let regrouped : (line ++ 13 ∷ 10 ∷ []) ++ rest ≡ (line ++ 13 ∷ []) ++ 10 ∷ rest = append_assoc line (13 ∷ 10 ∷ []) rest ∙ sym (append_assoc line (13 ∷ []) (10 ∷ rest)) in
+    ap (slice_split (λ unit. unit == 10)) regrouped ∙ slice_split_at (λ unit. unit == 10) (line ++ 13 ∷ []) 10 rest (All-append (λ unit. (unit == 10) ≡ false) line (13 ∷ []) h (All-cons (λ unit. (unit == 10) ≡ false) 13 [] refl (All-nil (λ unit. (unit == 10) ≡ false)))) refl
+
+crlf_parts : (lines : List (List ℕ)) → AllByRecursion (λ line. All (λ unit. (unit == 10) ≡ false) line) lines → slice_split (λ unit. unit == 10) (flat_map (λ line. line ++ 13 ∷ 10 ∷ []) lines) ≡ map (λ line. line ++ 13 ∷ []) lines ++ [] ∷ []
+crlf_parts [] h = refl
+crlf_parts (line ∷ lines) h = crlf_line line (flat_map (λ l. l ++ 13 ∷ 10 ∷ []) lines) h.0 ∙ ap (λ parts. (line ++ 13 ∷ []) ∷ parts) (crlf_parts lines h.1)
+
+pub read_crlf : (lines : List (List ℕ)) → AllByRecursion (λ line. All (λ unit. (unit == 10) ≡ false) line) lines → unit_lines (flat_map (λ line. line ++ 13 ∷ 10 ∷ []) lines) ≡ map Some (map (λ line. line ++ 13 ∷ []) lines ++ [] ∷ [])
+read_crlf lines h = ap (map Some) (crlf_parts lines h)

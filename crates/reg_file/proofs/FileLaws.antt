@@ -10,8 +10,8 @@ use Rattle.reg_file.specs.declared.fault.Fault.{Fault}
 use Rattle.reg_file.specs.declared.fault.FaultKind.TheVariants as kind
 use Rattle.reg_file.specs.declared.file.RegFile.{RegFile}
 use Rattle.reg_file.proofs.BlankRuns.{is_or_not, skipped_to, skips, line_ends, ends, stripped, strips}
-use Rattle.reg_file.proofs.Runs.{texts, entries_run}
-use Rattle.reg_file.proofs.Prefixes.{Prefix, IsRest, prefix, stands}
+use Rattle.reg_file.proofs.EntryRuns.{texts, entries_run}
+use Rattle.reg_file.proofs.FilePrefix.{Prefix, IsRest, prefix, stands}
 
 -- the header, by what stands behind its blanks
 abbrev header_by : Bool → List ℕ → Option Bool

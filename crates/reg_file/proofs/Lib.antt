@@ -7,10 +7,10 @@ mod QuotedText
 mod HexNumbers
 mod ListLines
 mod KeyLines
-mod Meanings
-mod Comings
-mod Runs
-mod Walks
-mod Prefixes
+mod ScanToGrammar
+mod GrammarToScan
+mod EntryRuns
+mod EntryWalk
+mod FilePrefix
 mod FileLaws
 mod EncodedLines

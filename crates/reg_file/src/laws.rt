@@ -1,5 +1,5 @@
 //! Laws of registration files: what is parsed is what the grammar of `specs/Grammar` has.
-ghost use Rattle.std.specs.Prelude.{◌≡◌, ◌≢◌, ◌⊎◌, ℕ, ◌<◌, ◌^◌, ◌++◌, ◌∷◌, [], List, Option, Some, None, map, flat_map};
+ghost use Rattle.std.specs.Prelude.{◌≡◌, ◌≢◌, ◌==◌, false, All, ◌⊎◌, ℕ, ◌<◌, ◌^◌, ◌++◌, ◌∷◌, [], List, Option, Some, None, map, flat_map};
 ghost use Rattle.std.specs.List.{AllByRecursion};
 ghost use Rattle.std.specs.Int.{w16, to_le_bytes};
 ghost use Rattle.reg_file.specs.Lines.{file_lines, unit_lines, last_is_none};
@@ -25,11 +25,14 @@ pub fn files_are_parsed()
 {}
 
 /// ASCII is read byte by byte. Behind the mark FF FE are units, each with the low byte first, whichever they are; a
-/// byte more at the end makes the last line none. Lines stand between line feeds.
+/// byte more at the end makes the last line none. Lines stand between line feeds: of those that were written with a
+/// carriage return and a line feed behind each, the carriage return is left, and an empty line follows them.
 pub fn text_is_read()
     ensures ascii { (bytes : List ℕ) → AllByRecursion (λ byte. byte < 128) bytes → file_lines bytes ≡ unit_lines bytes }
     ensures wide { (units : List ℕ) → AllByRecursion (λ unit. unit < 2 ^ 16) units →
         file_lines (255 ∷ 254 ∷ flat_map (to_le_bytes w16) units) ≡ unit_lines units }
     ensures odd { (units : List ℕ) (last : ℕ) → AllByRecursion (λ unit. unit < 2 ^ 16) units →
         file_lines (255 ∷ 254 ∷ (flat_map (to_le_bytes w16) units ++ last ∷ [])) ≡ last_is_none (unit_lines units) }
+    ensures crlf { (lines : List (List ℕ)) → AllByRecursion (λ line. All (λ unit. (unit == 10) ≡ false) line) lines →
+        unit_lines (flat_map (λ line. line ++ 13 ∷ 10 ∷ []) lines) ≡ map Some (map (λ line. line ++ 13 ∷ []) lines ++ [] ∷ []) }
 {}

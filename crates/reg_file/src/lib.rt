@@ -11,7 +11,7 @@
 mod blanks;
 mod fault;
 mod file;
-mod hex;
+mod hex_number;
 mod key_line;
 pub mod laws;
 mod line_scan;

@@ -5,7 +5,7 @@ ghost use Rattle.std.specs.Option.{option_map};
 ghost use Rattle.reg_file.specs.Views.{list_view, number_view};
 
 use crate::blanks::{ends_line, is_blank, without_blanks, without_end};
-use crate::hex::digit;
+use crate::hex_number::digit;
 use crate::text::ValueData;
 use std::alloc::AllocError;
 

@@ -6,7 +6,7 @@ ghost use Rattle.reg_file.specs.Reading.{name_at, value_scan, equals_scan, data_
 ghost use Rattle.reg_file.specs.Views.{name_view, list_view, number_view};
 
 use crate::blanks::{ends_line, skip_blanks, strip};
-use crate::hex::number;
+use crate::hex_number::number;
 use crate::list::{ListEnd, goes_on, read_first};
 use crate::quote::{QuoteEnd, read_quote};
 use crate::scan::{Pending, Scan};

@@ -16,9 +16,9 @@ use Rattle.reg_file.specs.declared.turn.Item.{Item}
 use Rattle.reg_file.specs.declared.turn.Turn.TheVariants.{Done}
 use Rattle.reg_file.specs.declared.file.RegFile.{RegFile}
 use Rattle.reg_file.proofs.BlankRuns.{is_or_not}
-use Rattle.reg_file.proofs.Comings.{Comes, statement_comes, list_value_comes, plain_value_comes, blank_comes}
-use Rattle.reg_file.proofs.Runs.{texts, texts_append, rest_file, behind, room_behind, lines_come, onto_file_more, length_both}
-use Rattle.reg_file.proofs.Walks.{Details, EntryEnds, FaultStops, walk_entry}
+use Rattle.reg_file.proofs.GrammarToScan.{Comes, statement_comes, list_value_comes, plain_value_comes, blank_comes}
+use Rattle.reg_file.proofs.EntryRuns.{texts, texts_append, rest_file, behind, room_behind, lines_come, onto_file_more, length_both}
+use Rattle.reg_file.proofs.EntryWalk.{Details, EntryEnds, FaultStops, walk_entry}
 
 -- entries, and then the end or a fault
 abbrev pub IsRest : Bool → Bool → ℕ → List (Option (List ℕ)) → RegFile → Type 0

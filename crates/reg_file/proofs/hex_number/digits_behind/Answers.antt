@@ -1,7 +1,7 @@
 use Rattle.std.proofs.Common.{◌<◌, arith, ◌∙◌, sym, ap, Some}
 use Rattle.reg_file.proofs.Digits.{one_digit_more}
 use Rattle.reg_file.proofs.Scans.{digits_more}
-use Rattle.reg_file.proofs.hex.digits_behind.Goals as goal
+use Rattle.reg_file.proofs.hex_number.digits_behind.Goals as goal
 
 pub overflow_mul-number : goal.overflow_mul-number
 overflow_mul-number c =

@@ -16,8 +16,8 @@ use Rattle.reg_file.specs.declared.fault.FaultKind.TheVariants as kind
 use Rattle.reg_file.specs.declared.turn.Item.{Item}
 use Rattle.reg_file.specs.declared.turn.Turn.TheVariants.{Done}
 use Rattle.reg_file.proofs.BlankRuns.{is_or_not}
-use Rattle.reg_file.proofs.Meanings.{Ends, Means, may_go_on, first_line_means, further_line_means}
-use Rattle.reg_file.proofs.Runs.{texts, rest_file, next_item, line_goes_on}
+use Rattle.reg_file.proofs.ScanToGrammar.{Ends, Means, may_go_on, first_line_means, further_line_means}
+use Rattle.reg_file.proofs.EntryRuns.{texts, rest_file, next_item, line_goes_on}
 
 -- what a fault stands at, behind lines of the same entry
 abbrev pub Behind : Bool → (List (List ℕ) → Statement → Type 0) → List (List ℕ) → List (Option (List ℕ)) → Type 0

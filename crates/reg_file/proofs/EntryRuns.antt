@@ -16,7 +16,7 @@ use Rattle.reg_file.specs.declared.turn.Turn.TheVariants.{Done}
 use Rattle.reg_file.specs.declared.file.RegFile.{RegFile}
 use Rattle.reg_file.proofs.BlankRuns.{is_or_not}
 use Rattle.reg_file.proofs.Scans.{other_than}
-use Rattle.reg_file.proofs.Comings.{Comes, statement_comes, blank_comes}
+use Rattle.reg_file.proofs.GrammarToScan.{Comes, statement_comes, blank_comes}
 
 -- the room that lines leave
 abbrev pub room_behind : Option Item → List (List ℕ) → ℕ
