@@ -33,7 +33,7 @@ quoted text = flat_map quoted_unit text
 abbrev pub HasNoZero : List ℕ → Type 0
 HasNoZero text = AllByRecursion (λ unit. unit ≢ 0) text
 
--- a line begins with a value's name: `@` is the empty one, any other stands in quotes
+-- a line begins with a value's name: it stands in quotes, and the empty one may be `@`
 abbrev pub IsNamed : List ℕ → List ℕ → List ℕ → Type 0
 IsNamed line name rest = ((line ≡ 64 ∷ rest) × (name ≡ [])) ⊎ ((line ≡ 34 ∷ (quoted name ++ 34 ∷ rest)) × HasNoZero name)
 
