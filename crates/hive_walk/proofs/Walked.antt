@@ -1,5 +1,5 @@
 -- The keys of a subtree are its first key, and the keys below its subkeys in the order of their names.
-use Rattle.std.proofs.Common.{◌≡◌, ◌<◌, ◌+◌, ◌&&◌, inl, inr, ℕ, zero, suc, Bool, T, List, [], ◌∷◌, ◌++◌, length, map, take, get_or, refl, ◌∙◌, ap, sym, subst, arith, Result, Ok, Err, IfErr, Some, IsSome, slice_get}
+use Rattle.std.proofs.Common.{◌≡◌, ◌<◌, ◌+◌, ◌&&◌, inl, inr, ℕ, zero, suc, Bool, T, List, [], ◌∷◌, ◌++◌, length, map, take, get_or, refl, ◌∙◌, ap, sym, subst, arith, Result, Ok, Err, IfErr, Some, IsSome, slice_get, ◌⊎◌, ◌≢◌, true, false, MatchResult, OnOk}
 use Rattle.std.specs.List.{flat_map}
 use Rattle.std.specs.List.Sorted.{IsPermutation}
 use Rattle.std.proofs.lemmas.List.{take_more}
@@ -17,8 +17,9 @@ use Rattle.hive_cells.specs.Bins.{Cells}
 use Rattle.hive_tree_model.specs.Lists.{IsIn, Once}
 use Rattle.hive_tree_model.specs.Keys.{KeyParts, Keys, none, key, offsets, names, own_cells, lent_cells}
 use Rattle.hive_tree_model.specs.Trees.{same, tree_of}
+use Rattle.hive_tree_model.specs.Loads.{CellMarks}
 use Rattle.hive_tree_model.specs.Encodings.{CellsMatchKeys, Named, IsKeyTree}
-use Rattle.hive_tree_model.proofs.Basics.{in_front, in_back, once_front, once_back, yes_if, no_if, same_itself, same_not}
+use Rattle.hive_tree_model.proofs.Basics.{decided, clash, in_front, in_back, in_either, once_front, once_back, once_apart, yes_if, no_if, same_is, same_itself, same_not}
 use Rattle.hive_tree_model.proofs.ChainsAre.{key_tree}
 use Rattle.hive_records.specs.KeyNodes.{keys_in}
 use Rattle.hive_records.specs.Nodes.{IsNodeOf, AreNodesOf}
@@ -32,12 +33,14 @@ use Rattle.reg_tree.specs.Maps.{TreeMap}
 use Rattle.hive_records.specs.Images.{BinsEncodeTree}
 use Rattle.key_walk.specs.KeyRows.{node_rows, subkey_rows, tree_rows}
 use Rattle.key_walk.proofs.Rows.{node_walk, whole_rows}
+use Rattle.hive_walk.specs.declared.errors.ImageError.{ImageError}
 use Rattle.hive_walk.specs.declared.errors.ImageError.TheVariants as image_error
 use Rattle.hive_walk.specs.declared.errors.WalkError.{WalkError}
 use Rattle.hive_walk.specs.declared.errors.WalkError.TheVariants as walk_error
 use Rattle.hive_walk.specs.declared.siblings.Sibling.{Sibling}
 use Rattle.hive_walk.specs.Siblings.{keyed_all, sibling_names, siblings_in}
-use Rattle.hive_walk.specs.Walks.{AreSound, IsSound, entries_from, entries_named, nodes_of, IsNoFault, WalkRefused}
+use Rattle.hive_walk.specs.Walks.{AreSound, IsSound, entries_from, entries_named, cells_named, nodes_of, AreUnmarked, MarksOnly, IsNoFault, WalkRefused, LeavesSink}
+use Rattle.hive_walk.proofs.Order.{name_at, name_in}
 use Rattle.hive_walk.proofs.Judged.{first_root, entries_rows}
 
 module _ (split : Bool) (cells : Cells) where
@@ -121,28 +124,40 @@ module _ (split : Bool) (cells : Cells) where
       let counted : i < length (siblings_in keys) = let l = same_length keys in omega (arith, within, l) in
       (λ j. so_far j ++ is j ∷ []) ∙ sym (take_more (siblings_in keys) i new counted)
 
+  -- the key at a listed offset can be read
+  pub listed_key : (keys : Keys Row) → CellsMatchKeys (keys_in split cells) keys → (listed : List ℕ) → offsets keys ≡ listed → (i : ℕ) → i < length listed → (parts : KeyParts Row) × (keys_in split cells (get_or listed i 0) ≡ Ok parts)
+  listed_key keys fits listed e i lt =
+      let there = sibling_there keys fits i 0 (record { name = []; at = 0 }) (subst (λ (l : List ℕ). i < length l) (sym e) lt) in
+      (there.0, ap (λ (l : List ℕ). keys_in split cells (get_or l i 0)) (sym e) ∙ there.1)
+
   -- ---- a sibling's key
 
   pub sibling_key : (levels : ℕ) (keys : Keys Row) → AreSound split cells (suc levels) keys → (sibling : Sibling) → IsIn sibling (siblings_in keys) →
-      (parts : KeyParts Row) × (below : Keys Row) × IsSound split cells levels sibling.at parts below × (parts.row.name ≡ sibling.name) × (entries_named keys (folded sibling.name) ≡ entries_from parts below)
+      (parts : KeyParts Row) × (below : Keys Row) × IsSound split cells levels sibling.at parts below × (parts.row.name ≡ sibling.name) × (entries_named keys (folded sibling.name) ≡ entries_from parts below) × (cells_named keys (folded sibling.name) ≡ parts.own ++ own_cells below)
   sibling_key levels none s sibling i = absurd i
   sibling_key levels (key at p below after) s sibling (inl e) = (
     p,
     below,
     subst (λ (n : ℕ). IsSound split cells levels n p below) (sym (ap (λ (x : Sibling). x.at) e)) (first_sound levels at p below after s),
     sym (ap (λ (x : Sibling). x.name) e),
-    yes_if (same (folded sibling.name) p.name) (entries_from p below) (entries_named after (folded sibling.name)) (ap (same (folded sibling.name)) named ∙ same_itself (folded sibling.name)),
+    yes_if (same (folded sibling.name) p.name) (entries_from p below) (entries_named after (folded sibling.name)) it_is,
+    yes_if (same (folded sibling.name) p.name) (p.own ++ own_cells below) (cells_named after (folded sibling.name)) it_is,
   )
     where
       named : p.name ≡ folded sibling.name
       named = keys_named split cells at p s.fits.0 ∙ ap folded (sym (ap (λ (x : Sibling). x.name) e))
+
+      it_is : same (folded sibling.name) p.name ≡ true
+      it_is = ap (same (folded sibling.name)) named ∙ same_itself (folded sibling.name)
   sibling_key levels (key at p below after) s sibling (inr i) =
-      let found : (parts : KeyParts Row) × (under : Keys Row) × IsSound split cells levels sibling.at parts under × (parts.row.name ≡ sibling.name) × (entries_named after (folded sibling.name) ≡ entries_from parts under) = sibling_key levels after (rest_sound levels at p below after s) sibling i in (
+      let found : (parts : KeyParts Row) × (under : Keys Row) × IsSound split cells levels sibling.at parts under × (parts.row.name ≡ sibling.name) × (entries_named after (folded sibling.name) ≡ entries_from parts under) × (cells_named after (folded sibling.name) ≡ parts.own ++ own_cells under) = sibling_key levels after (rest_sound levels at p below after s) sibling i in
+      let not_it : same (folded sibling.name) p.name ≡ false = same_not (folded sibling.name) p.name (λ e. s.named.1 (subst (λ (n : List ℕ). IsIn n (names after)) e (name_among after s.fits.3 sibling i))) in (
         found.0,
         found.1,
         found.2,
         found.3,
-        no_if (same (folded sibling.name) p.name) (entries_from p below) (entries_named after (folded sibling.name)) (same_not (folded sibling.name) p.name (λ e. s.named.1 (subst (λ (n : List ℕ). IsIn n (names after)) e (name_among after s.fits.3 sibling i)))) ∙ found.4,
+        no_if (same (folded sibling.name) p.name) (entries_from p below) (entries_named after (folded sibling.name)) not_it ∙ found.4,
+        no_if (same (folded sibling.name) p.name) (p.own ++ own_cells below) (cells_named after (folded sibling.name)) not_it ∙ found.5,
       )
     where
       name_among : (keys : Keys Row) → CellsMatchKeys (keys_in split cells) keys → (sibling : Sibling) → IsIn sibling (siblings_in keys) → IsIn (folded sibling.name) (names keys)
@@ -236,6 +251,102 @@ module _ (split : Bool) (cells : Cells) where
   sibling_in [] i d lt = absurd (omega (arith, lt))
   sibling_in (s ∷ siblings) zero d lt = inl refl
   sibling_in (s ∷ siblings) (suc i) d lt = inr (sibling_in siblings i d (omega (arith, lt)))
+
+-- ---- marks
+
+pub only_joined : (a b c : CellMarks) (xs ys : List ℕ) → MarksOnly a b xs → MarksOnly b c ys → MarksOnly a c (xs ++ ys)
+only_joined a b c xs ys first second cell h = elim (second cell h) [
+  | inl m ↦ elim (first cell m) [ inl k ↦ inl k | inr i ↦ inr (in_front cell xs ys i) ]
+  | inr i ↦ inr (in_back cell xs ys i)
+]
+
+pub still_unmarked : (old now : CellMarks) (xs ys : List ℕ) → MarksOnly old now xs → ((cell : ℕ) → IsIn cell xs → IsIn cell ys → ⊥) → AreUnmarked old ys → AreUnmarked now ys
+still_unmarked old now xs ys only apart unmarked cell here = elim (decided (now cell)) [
+  | inl t ↦ elim (only cell t) [ inl m ↦ clash (old cell) m (unmarked cell here) | inr i ↦ absurd (apart cell i here) ]
+  | inr f ↦ f
+]
+
+-- the cells of a key with a name are cells of the keys
+pub cells_within : (keys : Keys Row) (n : List ℕ) (cell : ℕ) → IsIn cell (cells_named keys n) → IsIn cell (own_cells keys)
+cells_within none n cell h = h
+cells_within (key at p below after) n cell h = elim (decided (same n p.name)) [
+  | inl t ↦ in_front cell (p.own ++ own_cells below) (own_cells after) (subst (IsIn cell) (yes_if (same n p.name) (p.own ++ own_cells below) (cells_named after n) t) h)
+  | inr f ↦ in_back cell (p.own ++ own_cells below) (own_cells after) (cells_within after n cell (subst (IsIn cell) (no_if (same n p.name) (p.own ++ own_cells below) (cells_named after n) f) h))
+]
+
+-- keys with other names have other cells
+pub cells_apart : (keys : Keys Row) → Once (own_cells keys) → (n m : List ℕ) → n ≢ m → (cell : ℕ) → IsIn cell (cells_named keys n) → IsIn cell (cells_named keys m) → ⊥
+cells_apart none once n m other cell h g = h
+cells_apart (key at p below after) once n m other cell h g = by_names (λ i j. cells_apart after (once_back (p.own ++ own_cells below) (own_cells after) once) n m other cell i j) (decided (same n p.name)) (decided (same m p.name))
+  where
+    here : (k : List ℕ) → same k p.name ≡ true → IsIn cell (cells_named (key at p below after) k) → IsIn cell (p.own ++ own_cells below)
+    here k t i = subst (IsIn cell) (yes_if (same k p.name) (p.own ++ own_cells below) (cells_named after k) t) i
+
+    later : (k : List ℕ) → same k p.name ≡ false → IsIn cell (cells_named (key at p below after) k) → IsIn cell (cells_named after k)
+    later k f i = subst (IsIn cell) (no_if (same k p.name) (p.own ++ own_cells below) (cells_named after k) f) i
+
+    by_names : (IsIn cell (cells_named after n) → IsIn cell (cells_named after m) → ⊥) → (same n p.name ≡ true) ⊎ (same n p.name ≡ false) → (same m p.name ≡ true) ⊎ (same m p.name ≡ false) → ⊥
+    by_names rest (inl t) (inl u) = other (same_is n p.name t ∙ sym (same_is m p.name u))
+    by_names rest (inl t) (inr f) = once_apart cell (p.own ++ own_cells below) (own_cells after) once (here n t h) (cells_within after m cell (later m f g))
+    by_names rest (inr f) (inl u) = once_apart cell (p.own ++ own_cells below) (own_cells after) once (here m u g) (cells_within after n cell (later n f h))
+    by_names rest (inr f) (inr k) = rest (later n f h) (later m k g)
+
+-- the cells of some siblings' keys
+abbrev pub cells_of : Keys Row → List Sibling → List ℕ
+cells_of keys siblings = flat_map (λ (sibling : Sibling). cells_named keys (folded sibling.name)) siblings
+
+whose : (keys : Keys Row) (siblings : List Sibling) (cell : ℕ) → IsIn cell (cells_of keys siblings) → (s : Sibling) × IsIn s siblings × IsIn cell (cells_named keys (folded s.name))
+whose keys [] cell h = absurd h
+whose keys (s ∷ siblings) cell h = elim (in_either cell (cells_named keys (folded s.name)) (cells_of keys siblings) h) [
+  | inl i ↦ (s, inl refl, i)
+  | inr i ↦ (let its : (t : Sibling) × IsIn t siblings × IsIn cell (cells_named keys (folded t.name)) = whose keys siblings cell i in (its.0, inr its.1, its.2))
+]
+
+pub all_within : (keys : Keys Row) (siblings : List Sibling) (cell : ℕ) → IsIn cell (cells_of keys siblings) → IsIn cell (own_cells keys)
+all_within keys siblings cell h = let its = whose keys siblings cell h in cells_within keys (folded its.0.name) cell its.2
+
+-- siblings before one have other names
+named_before : (siblings : List Sibling) → Once (sibling_names siblings) → (i : ℕ) (d t : Sibling) → i < length siblings → IsIn t (take i siblings) → folded t.name ≢ name_at siblings i d
+named_before [] once i d t lt h e = absurd (omega (arith, lt))
+named_before (x ∷ siblings) once zero d t lt h e = h
+named_before (x ∷ siblings) once (suc i) d t lt (inl is) e = once.0 (subst (λ (n : List ℕ). IsIn n (sibling_names siblings)) (sym e ∙ ap (λ (s : Sibling). folded s.name) is) (name_in siblings i d (omega (arith, lt))))
+named_before (x ∷ siblings) once (suc i) d t lt (inr h) e = named_before siblings once.1 i d t (omega (arith, lt)) h e
+
+-- the cells of a sibling's key aren't among those of the siblings before it
+pub apart_before : (keys : Keys Row) → Once (own_cells keys) → (siblings : List Sibling) → Once (sibling_names siblings) → (i : ℕ) (d : Sibling) → i < length siblings → (cell : ℕ) → IsIn cell (cells_of keys (take i siblings)) → IsIn cell (cells_named keys (name_at siblings i d)) → ⊥
+apart_before keys once siblings apart i d lt cell h g =
+    let its = whose keys (take i siblings) cell h in
+    cells_apart keys once (folded its.0.name) (name_at siblings i d) (named_before siblings apart i d its.0 lt its.1) cell its.2 g
+
+pub many_nodes : (keys : Keys Row) (siblings : List Sibling) → length (nodes_of keys siblings) ≡ length siblings
+many_nodes keys [] = refl
+many_nodes keys (s ∷ siblings) = ap suc (many_nodes keys siblings)
+
+pub got : (siblings : List Sibling) (i : ℕ) (d : Sibling) → i < length siblings → slice_get siblings i ≡ Some (get_or siblings i d)
+got [] i d lt = absurd (omega (arith, lt))
+got (s ∷ siblings) zero d lt = refl
+got (s ∷ siblings) (suc i) d lt = got siblings i d (omega (arith, lt))
+
+pub on_match : {T E P Q : Type 0} (R : E → Type 0) (answer : Result T E) → (P → Q) → MatchResult answer (λ _. P) R → MatchResult answer (λ _. Q) R
+on_match R (Ok x) f p = f p
+on_match R (Err e) f r = r
+
+pub only_ok : {T E : Type 0} (P : Type 0) (R : E → Type 0) (answer : Result T E) → MatchResult answer (λ _. P) R → OnOk answer P
+only_ok P R (Ok x) p = p
+only_ok P R (Err e) r = tt
+
+pub only_err : {T E : Type 0} (P : Type 0) (R : E → Type 0) (answer : Result T E) → MatchResult answer (λ _. P) R → IfErr answer R
+only_err P R (Ok x) p = tt
+only_err P R (Err e) r = r
+
+pub memory_alone : (E : Type 0) (error : ImageError) → error ≡ image_error.NoMemory → IsNoFault {E = E} (walk_error.Image error)
+memory_alone E error e = subst (λ (it : ImageError). IsNoFault {E = E} (walk_error.Image it)) (sym e) tt
+
+pub sink_left : {S X E : Type 0} (old new : S) (result : Result X (WalkError E)) → IfErr result IsNoFault → IfErr result (LeavesSink old new)
+sink_left old new (Ok x) h = tt
+sink_left old new (Err (walk_error.Image image_error.NoMemory)) h = tt
+sink_left old new (Err (walk_error.Image (image_error.Fault fault))) h = absurd h
+sink_left old new (Err (walk_error.Sink refusal)) h = tt
 
 -- ---- a whole image
 

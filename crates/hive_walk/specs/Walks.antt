@@ -1,5 +1,5 @@
 -- What is known of keys that were judged, and what a walk hands to its sink.
-use Rattle.std.specs.Prelude.{◌≡◌, ℕ, Bool, List, [], map, if◌then◌else◌}
+use Rattle.std.specs.Prelude.{◌≡◌, ◌⊎◌, ℕ, Bool, true, false, List, [], ◌++◌, map, if◌then◌else◌}
 use Rattle.std.specs.FinMap as finite
 use Rattle.reg_names.specs.Names.{folded}
 use Rattle.reg_tree_parts.specs.Rows.{Row}
@@ -9,6 +9,7 @@ use Rattle.hive_cells.specs.Bins.{Cells}
 use Rattle.hive_tree_model.specs.Lists.{IsIn, Once}
 use Rattle.hive_tree_model.specs.Keys.{KeyParts, Keys, none, key, own_cells, lent_cells}
 use Rattle.hive_tree_model.specs.Trees.{same, tree_of}
+use Rattle.hive_tree_model.specs.Loads.{CellMarks}
 use Rattle.hive_tree_model.specs.Encodings.{CellsMatchKeys, Named, Whole, LentApart}
 use Rattle.hive_records.specs.KeyNodes.{keys_in}
 use Rattle.hive_records.specs.Images.{BinsEncodeTree}
@@ -34,6 +35,14 @@ pub record IsSound (split : Bool) (cells : Cells) (levels at : ℕ) (parts : Key
   pub apart : LentApart parts below
   pub shallow : IsShallow levels below
 
+-- no cell of a list is marked
+abbrev pub AreUnmarked : CellMarks → List ℕ → Type 0
+AreUnmarked marks cells = (cell : ℕ) → IsIn cell cells → marks cell ≡ false
+
+-- no other cells than these were marked
+abbrev pub MarksOnly : CellMarks → CellMarks → List ℕ → Type 0
+MarksOnly old new cells = (cell : ℕ) → new cell ≡ true → (old cell ≡ true) ⊎ IsIn cell cells
+
 -- the entries of a key and of all keys below it, in the order of paths
 abbrev pub entries_from : KeyParts Row → Keys Row → Entries
 entries_from parts below = finite.entries (tree_of parts below)
@@ -42,6 +51,11 @@ entries_from parts below = finite.entries (tree_of parts below)
 abbrev pub entries_named : Keys Row → List ℕ → Entries
 entries_named none name = []
 entries_named (key at parts below after) name = if same name parts.name then entries_from parts below else entries_named after name
+
+-- the cells of one key alone, of the key with a folded name and all keys below it
+abbrev pub cells_named : Keys Row → List ℕ → List ℕ
+cells_named none name = []
+cells_named (key at parts below after) name = if same name parts.name then parts.own ++ own_cells below else cells_named after name
 
 -- the entries of some of the keys, each under its folded name
 abbrev pub nodes_of : Keys Row → List Sibling → List (List ℕ × Entries)

@@ -1,14 +1,15 @@
 //! The name in a key's record.
-ghost use Rattle.std.specs.Prelude.{◌≡◌, IfOk, IfErr, Ok, Bool};
+ghost use Rattle.std.specs.Prelude.{◌≡◌, IfOk, MatchResult, Ok, Bool};
 ghost use Rattle.reg_tree_parts.specs.Rows.{Row};
 ghost use Rattle.hive_cells.specs.Bins.{Cells, Shows};
 ghost use Rattle.hive_tree_model.specs.Keys.{KeyParts};
 ghost use Rattle.hive_records.specs.KeyNodes.{keys_in};
 ghost use Rattle.hive_records.specs.RecordReaders.{units_of};
 
-use crate::errors::ImageError;
+use crate::errors::{ImageError, refused_at};
 use hive_cells::{Image, Looks};
 use hive_records::{KeyNode, StoredName};
+use key_walk::KeyPath;
 use reg_names::Name;
 use std::alloc::{AllocError, Global};
 
@@ -23,18 +24,26 @@ fn name_of(alloc: Global, stored: &StoredName) -> Result<Name, AllocError>
     Name::stored(alloc, &units)
 }
 
-/// The name of the key at an offset, which can be read: only memory may be wanting.
-pub(crate) fn key_name(alloc: Global, image: &Image, at: u32) -> Result<Name, ImageError>
-    ensures reads { (cells : Cells) → Shows image.now.bytes cells → (split : Bool) (parts : KeyParts Row) →
-        keys_in split cells at ≡ Ok parts → IfOk result (λ name. name ≡ parts.row.name) }
-    ensures memory { IfErr result (λ error. error ≡ ImageError.NoMemory) }
+/// The name of the key at an offset, listed by the key to which a way leads. A key that can be read is refused only for
+/// want of memory.
+pub(crate) fn key_name(
+    alloc: Global,
+    image: &Image,
+    above: &KeyPath<'_>,
+    at: u32,
+) -> Result<Name, ImageError>
+    ensures { (cells : Cells) → Shows image.now.bytes cells → (split : Bool) (parts : KeyParts Row) →
+        keys_in split cells at ≡ Ok parts → MatchResult result (λ name. name ≡ parts.row.name)
+        (λ error. error ≡ ImageError.NoMemory) }
 {
     let mut looks = Looks::new();
-    let Ok(cell) = image.cell(at, &mut looks) else {
-        return Err(ImageError::NoMemory);
+    let cell = match image.cell(at, &mut looks) {
+        Ok(cell) => cell,
+        Err(refusal) => return Err(refused_at(alloc, above, at, refusal)),
     };
-    let Ok(node) = KeyNode::read(cell) else {
-        return Err(ImageError::NoMemory);
+    let node = match KeyNode::read(cell) {
+        Ok(node) => node,
+        Err(refusal) => return Err(refused_at(alloc, above, at, refusal)),
     };
     Ok(name_of(alloc, &node.name)?)
 }

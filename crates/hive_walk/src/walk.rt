@@ -1,5 +1,5 @@
 //! The walk over an image that was judged.
-ghost use Rattle.std.specs.Prelude.{◌≡◌, ◌≤◌, ◌*◌, ◌∷◌, [], ℕ, Ok, Bool, T, length, IfOk, IfErr, OnOk};
+ghost use Rattle.std.specs.Prelude.{◌≡◌, ◌≤◌, ◌*◌, ◌∷◌, ◌++◌, [], ℕ, Ok, Bool, T, length, IfErr, MatchResult, OnOk};
 ghost use Rattle.std.specs.List.{flat_map};
 ghost use Rattle.std.specs.List.Sorted.{IsPermutation};
 ghost use Rattle.std.specs.FinMap.Entries.{is_sorted};
@@ -7,7 +7,8 @@ ghost use Rattle.reg_tree_parts.specs.Orders.{name_order};
 ghost use Rattle.reg_tree_parts.specs.Rows.{Row};
 ghost use Rattle.reg_tree.specs.Maps.{TreeMap};
 ghost use Rattle.hive_cells.specs.Bins.{Cells, Shows};
-ghost use Rattle.hive_tree_model.specs.Keys.{KeyParts, Keys, offsets as offsets_of};
+ghost use Rattle.hive_tree_model.specs.Keys.{KeyParts, Keys, own_cells, offsets as offsets_of};
+ghost use Rattle.hive_tree_model.specs.Lists.{Once};
 ghost use Rattle.hive_tree_model.specs.Encodings.{CellsMatchKeys};
 ghost use Rattle.hive_records.specs.KeyNodes.{keys_in};
 ghost use Rattle.hive_records.specs.Images.{splits, BinsEncodeTree};
@@ -16,9 +17,9 @@ ghost use Rattle.hive_load_parts.specs.Descriptors.{AreDescriptors};
 ghost use Rattle.key_walk.specs.KeyPaths.{names_on};
 ghost use Rattle.key_walk.specs.KeyRows.{node_rows, subkey_rows, tree_rows};
 ghost use Rattle.hive_walk.specs.Siblings.{keyed_all, siblings_in};
-ghost use Rattle.hive_walk.specs.Walks.{AreSound, IsSound, entries_from, nodes_of, IsNoFault, WalkRefused, LeavesSink};
+ghost use Rattle.hive_walk.specs.Walks.{AreSound, IsSound, AreUnmarked, MarksOnly, entries_from, nodes_of, IsNoFault, WalkRefused, LeavesSink};
 
-use crate::errors::{ImageError, WalkError};
+use crate::errors::{ImageError, WalkError, refused_at};
 use crate::fields::key_name;
 use crate::judgement::{flags_for, is_split, judge};
 use crate::siblings::{Sibling, in_order};
@@ -26,33 +27,7 @@ use hive_cells::{Image, Looks};
 use hive_load_parts::{Descriptors, Flags, key};
 use key_walk::{KeyPath, KeySink};
 use refusals::limits::MOST_PATH_NAMES;
-use reg_tree_parts::Key;
 use std::alloc::Global;
-
-// the key at an offset that was judged, and its subkeys' offsets: only memory may be wanting
-fn key_again(
-    alloc: Global,
-    image: &Image,
-    seen: &mut Flags,
-    known: &mut Descriptors,
-    split: bool,
-    at: u32,
-) -> Result<(Key, Vec<u32>), ImageError>
-    requires covers { length image.now.bytes ≤ 8 * length seen.old }
-    requires known { AreDescriptors image.now.bytes known.old }
-    ensures reads { (cells : Cells) → Shows image.now.bytes cells → (parts : KeyParts Row) →
-        keys_in split cells at ≡ Ok parts → IfOk result (λ its. (its.0 ≡ parts.row)
-        × (its.1.items ≡ parts.subkey_list)) }
-    ensures memory { IfErr result (λ error. error ≡ ImageError.NoMemory) }
-    ensures covers { length seen.new ≡ length seen.old }
-    ensures known { AreDescriptors image.now.bytes known.new }
-{
-    let mut looks = Looks::new();
-    match key(alloc, image, seen, &mut looks, known, split, at) {
-        Ok(read) => Ok(read),
-        Err(_) => Err(ImageError::NoMemory),
-    }
-}
 
 // hands a sink the key at an offset, to which a path leads; the offsets of its subkeys
 fn take_key<S: KeySink>(
@@ -67,16 +42,18 @@ fn take_key<S: KeySink>(
 ) -> Result<Vec<u32>, WalkError<S::Error>>
     requires covers { length image.now.bytes ≤ 8 * length seen.old }
     requires known { AreDescriptors image.now.bytes known.old }
-    ensures reads { (cells : Cells) → Shows image.now.bytes cells → (parts : KeyParts Row) →
-        keys_in split cells at ≡ Ok parts → IfOk result (λ listed. (listed.items ≡ parts.subkey_list)
-        × S.Took sink.old sink.new ((names_on path.now, parts.row) ∷ [])) }
-    ensures memory { IfErr result IsNoFault }
+    ensures answers { (cells : Cells) → Shows image.now.bytes cells → (parts : KeyParts Row) →
+        keys_in split cells at ≡ Ok parts → Once parts.own → AreUnmarked (marks_of seen.old) parts.own →
+        MatchResult result (λ listed. (listed.items ≡ parts.subkey_list)
+        × MarksOnly (marks_of seen.old) (marks_of seen.new) parts.own
+        × S.Took sink.old sink.new ((names_on path.now, parts.row) ∷ [])) IsNoFault }
     ensures covers { length seen.new ≡ length seen.old }
     ensures known { AreDescriptors image.now.bytes known.new }
 {
-    let (key, listed) = match key_again(alloc, image, seen, known, split, at) {
+    let mut looks = Looks::new();
+    let (key, listed) = match key(alloc, image, seen, &mut looks, known, split, at) {
         Ok(read) => read,
-        Err(error) => return Err(WalkError::Image(error)),
+        Err(refusal) => return Err(WalkError::Image(refused_at(alloc, path, at, refusal))),
     };
     match sink.take(path, &key) {
         Ok(()) => Ok(listed),
@@ -84,31 +61,46 @@ fn take_key<S: KeySink>(
     }
 }
 
-// subkeys at some offsets, in the order in which they are listed
-fn listed_siblings(alloc: Global, image: &Image, listed: &[u32]) -> Result<Vec<Sibling>, ImageError>
-    ensures reads { (cells : Cells) → Shows image.now.bytes cells → (split : Bool) (keys : Keys Row) →
+// the subkeys of a key, to which a path leads, in the order in which they are listed
+fn listed_siblings(
+    alloc: Global,
+    image: &Image,
+    above: &KeyPath<'_>,
+    listed: &[u32],
+) -> Result<Vec<Sibling>, ImageError>
+    ensures { (cells : Cells) → Shows image.now.bytes cells → (split : Bool) (keys : Keys Row) →
         CellsMatchKeys (keys_in split cells) keys → offsets_of keys ≡ listed.now →
-        IfOk result (λ siblings. siblings.items ≡ siblings_in keys) }
-    ensures memory { IfErr result (λ error. error ≡ ImageError.NoMemory) }
+        MatchResult result (λ siblings. siblings.items ≡ siblings_in keys)
+        (λ error. error ≡ ImageError.NoMemory) }
 {
     let mut siblings = Vec::new(alloc);
     for at in listed {
-        let name = key_name(alloc, image, *at)?;
+        let name = match key_name(alloc, image, above, *at) {
+            Ok(name) => name,
+            Err(error) => return Err(error),
+        };
         siblings.push(Sibling { name, at: *at })?;
     }
     Ok(siblings)
 }
 
-// subkeys at some offsets, in the order of their names
-fn siblings_at(alloc: Global, image: &Image, listed: &[u32]) -> Result<Vec<Sibling>, ImageError>
-    ensures reads { (cells : Cells) → Shows image.now.bytes cells → (split : Bool) (levels : ℕ) (keys : Keys Row) →
-        AreSound split cells levels keys → offsets_of keys ≡ listed.now →
-        IfOk result (λ siblings. IsPermutation (siblings_in keys) siblings.items
-        × T (is_sorted name_order (keyed_all siblings.items))) }
-    ensures memory { IfErr result (λ error. error ≡ ImageError.NoMemory) }
+// the same in the order of their names
+fn siblings_at(
+    alloc: Global,
+    image: &Image,
+    above: &KeyPath<'_>,
+    listed: &[u32],
+) -> Result<Vec<Sibling>, ImageError>
+    ensures { (cells : Cells) → Shows image.now.bytes cells → (split : Bool) (levels : ℕ)
+        (keys : Keys Row) → AreSound split cells levels keys → offsets_of keys ≡ listed.now →
+        MatchResult result (λ siblings. IsPermutation (siblings_in keys) siblings.items
+        × T (is_sorted name_order (keyed_all siblings.items)))
+        (λ error. error ≡ ImageError.NoMemory) }
 {
-    let siblings = listed_siblings(alloc, image, listed)?;
-    Ok(in_order(siblings))
+    match listed_siblings(alloc, image, above, listed) {
+        Ok(siblings) => Ok(in_order(siblings)),
+        Err(error) => Err(error),
+    }
 }
 
 // hands a sink the key at an offset, to which a path leads, and all keys below it, which lie on at most so many levels
@@ -126,10 +118,12 @@ fn walk_key<S: KeySink>(
 ) -> Result<(), WalkError<S::Error>>
     requires covers { length image.now.bytes ≤ 8 * length seen.old }
     requires known { AreDescriptors image.now.bytes known.old }
-    ensures took { (cells : Cells) → Shows image.now.bytes cells → (parts : KeyParts Row) (below : Keys Row) →
+    ensures answers { (cells : Cells) → Shows image.now.bytes cells → (parts : KeyParts Row) (below : Keys Row) →
         IsSound split cells levels at parts below →
-        OnOk result (S.Took sink.old sink.new (node_rows (names_on path.now) (entries_from parts below))) }
-    ensures memory { IfErr result IsNoFault }
+        AreUnmarked (marks_of seen.old) (parts.own ++ own_cells below) → MatchResult result
+        (λ _. MarksOnly (marks_of seen.old) (marks_of seen.new) (parts.own ++ own_cells below)
+        × S.Took sink.old sink.new (node_rows (names_on path.now) (entries_from parts below)))
+        IsNoFault }
     ensures covers { length seen.new ≡ length seen.old }
     ensures known { AreDescriptors image.now.bytes known.new }
 {
@@ -137,7 +131,7 @@ fn walk_key<S: KeySink>(
         Ok(listed) => listed,
         Err(error) => return Err(error),
     };
-    let siblings = match siblings_at(alloc, image, &listed) {
+    let siblings = match siblings_at(alloc, image, path, &listed) {
         Ok(siblings) => siblings,
         Err(error) => return Err(WalkError::Image(error)),
     };
@@ -146,7 +140,7 @@ fn walk_key<S: KeySink>(
     )
 }
 
-// hands a sink some of the subkeys of a key, to which a path leads, one after another, each with all keys below it
+// hands a sink the subkeys of a key, to which a path leads, one after another, each with all keys below it
 #[cycle(walking)]
 fn walk_keys<S: KeySink>(
     alloc: Global,
@@ -161,10 +155,12 @@ fn walk_keys<S: KeySink>(
 ) -> Result<(), WalkError<S::Error>>
     requires covers { length image.now.bytes ≤ 8 * length seen.old }
     requires known { AreDescriptors image.now.bytes known.old }
-    ensures took { (cells : Cells) → Shows image.now.bytes cells → (keys : Keys Row) →
+    ensures answers { (cells : Cells) → Shows image.now.bytes cells → (keys : Keys Row) →
         AreSound split cells levels keys → IsPermutation (siblings_in keys) siblings.now →
-        OnOk result (S.Took sink.old sink.new (flat_map (subkey_rows (names_on above.now)) (nodes_of keys siblings.now))) }
-    ensures memory { IfErr result IsNoFault }
+        AreUnmarked (marks_of seen.old) (own_cells keys) → MatchResult result
+        (λ _. MarksOnly (marks_of seen.old) (marks_of seen.new) (own_cells keys)
+        × S.Took sink.old sink.new (flat_map (subkey_rows (names_on above.now)) (nodes_of keys siblings.now)))
+        IsNoFault }
     ensures covers { length seen.new ≡ length seen.old }
     ensures known { AreDescriptors image.now.bytes known.new }
 {
@@ -200,10 +196,9 @@ fn walk_judged<S: KeySink>(
     minor: u32,
     sink: &mut S,
 ) -> Result<(), WalkError<S::Error>>
-    ensures took { (cells : Cells) → Shows image.now.bytes cells → (parts : KeyParts Row) (below : Keys Row) →
-        IsSound (splits minor) cells 512 root parts below →
-        OnOk result (S.Took sink.old sink.new (node_rows [] (entries_from parts below))) }
-    ensures memory { IfErr result IsNoFault }
+    ensures { (cells : Cells) → Shows image.now.bytes cells → (parts : KeyParts Row) (below : Keys Row) →
+        IsSound (splits minor) cells MOST_PATH_NAMES root parts below → MatchResult result
+        (λ _. S.Took sink.old sink.new (node_rows [] (entries_from parts below))) IsNoFault }
 {
     let mut seen = match flags_for(alloc, image.len()) {
         Ok(seen) => seen,
