@@ -18,7 +18,7 @@ use Rattle.hive_load.specs.Limits.{BinsEncodeTreeInLimits, BinsRefused}
 use Rattle.hive_file_reader.specs.Hives.{FileHasBlock, FileHasBins, FileHoldsHive, FileHasNoBins, FileHoldsNoHive, IsFilePrefix, no_sector, no_signature, not_clean, not_usable, not_tiled, no_bins, not_loaded}
 use Rattle.hive_file_reader.specs.declared.hive.ReadError.{ReadError}
 use Rattle.hive_file_reader.specs.declared.hive.ReadError.TheVariants as unread
-use Rattle.hive_file_reader.specs.Readings.{FileRefusedAs, BinsRefusalFitsFile, RefusalFitsFile, of_hive}
+use Rattle.hive_file_reader.specs.Readings.{FileRefusedAs, FileBinsRefusedAs, BinsRefusalFitsFile, RefusalFitsFile, of_hive}
 
 -- what holds of a known value for another reason
 pub some_as : {A : Type 0} {P Q : A → Type 0} (known : Option A) → ((x : A) → P x → Q x) → IfSome known P → IfSome known Q
@@ -199,3 +199,8 @@ pub none_held_as : ((bytes : List ℕ) (root minor : ℕ) (why : Refusal) → Bi
     → (hive : ℕ) (file : List ℕ) (why : Refusal) → FileRefusedAs hive file why → why ≢ refusal.NoMemory → (tree : TreeMap) → FileHoldsHive file tree → ⊥
 none_held_as law hive file why (plain, inl memory, told) some tree holds = some (told ∙ ap (of_hive hive) memory)
 none_held_as law hive file why (plain, inr stands, told) some tree holds = none_held law file plain stands (λ memory. some (told ∙ ap (of_hive hive) memory)) tree holds
+
+pub no_bins_as : ((bytes : List ℕ) (root minor : ℕ) (why : Refusal) → BinsRefused bytes root minor why → why ≢ refusal.NoMemory → (tree : TreeMap) → BinsEncodeTreeInLimits bytes root minor tree → ⊥)
+    → (hive : ℕ) (file : List ℕ) (why : Refusal) → FileBinsRefusedAs hive file why → why ≢ refusal.NoMemory → (tree : TreeMap) → FileHoldsHive file tree → ⊥
+no_bins_as law hive file why (plain, inl memory, told) some tree holds = none_held_as law hive file why (plain, inl memory, told) some tree holds
+no_bins_as law hive file why (plain, inr stands, told) some tree holds = none_held_as law hive file why (plain, inr (no_bins plain stands), told) some tree holds

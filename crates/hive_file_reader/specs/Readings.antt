@@ -29,13 +29,19 @@ abbrev pub RefusalFitsFileAs : ℕ → Option (List ℕ) → ReadError → Type 
 RefusalFitsFileAs hive known (unread.Refused why) = IfSome known (λ file. FileRefusedAs hive file why)
 RefusalFitsFileAs hive known unread.SourceFailed = Unit {0}
 
--- the same of a file whose bins data alone are read
+-- the same of a file whose bins data alone are read: memory was not given, or it has none that tile
+abbrev pub FileBinsRefused : List ℕ → Refusal → Type 0
+FileBinsRefused file why = (why ≡ refusal.NoMemory) ⊎ FileHasNoBins file why
+
+abbrev pub FileBinsRefusedAs : ℕ → List ℕ → Refusal → Type 0
+FileBinsRefusedAs hive file why = (plain : Refusal) × FileBinsRefused file plain × (why ≡ of_hive hive plain)
+
 abbrev pub BinsRefusalFitsFile : Option (List ℕ) → ReadError → Type 0
-BinsRefusalFitsFile known (unread.Refused why) = IfSome known (λ file. (why ≡ refusal.NoMemory) ⊎ FileHasNoBins file why)
+BinsRefusalFitsFile known (unread.Refused why) = IfSome known (λ file. FileBinsRefused file why)
 BinsRefusalFitsFile known unread.SourceFailed = Unit {0}
 
 abbrev pub BinsRefusalFitsFileAs : ℕ → Option (List ℕ) → ReadError → Type 0
-BinsRefusalFitsFileAs hive known (unread.Refused why) = IfSome known (λ file. (plain : Refusal) × ((plain ≡ refusal.NoMemory) ⊎ FileHasNoBins file plain) × (why ≡ of_hive hive plain))
+BinsRefusalFitsFileAs hive known (unread.Refused why) = IfSome known (λ file. FileBinsRefusedAs hive file why)
 BinsRefusalFitsFileAs hive known unread.SourceFailed = Unit {0}
 
 -- a reader's error is want of memory, or says that the file can't be read

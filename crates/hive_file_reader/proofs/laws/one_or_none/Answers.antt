@@ -1,4 +1,4 @@
-use Rattle.hive_file_reader.proofs.Files.{same_tree, none_held, none_held_as}
+use Rattle.hive_file_reader.proofs.Files.{same_tree, none_held, none_held_as, no_bins_as}
 use Rattle.hive_file_reader.proofs.laws.one_or_none.Goals as goal
 
 pub returns-clause-one : goal.returns-clause-one
@@ -9,3 +9,6 @@ returns-clause-none c = λ file why refused some tree holds. none_held c.refused
 
 pub returns-clause-refused : goal.returns-clause-refused
 returns-clause-refused c = λ hive file why refused some tree holds. none_held_as c.refused_bins_exclude_trees.ensures hive file why refused some tree holds
+
+pub returns-clause-bins : goal.returns-clause-bins
+returns-clause-bins c = λ hive file why refused some tree holds. no_bins_as c.refused_bins_exclude_trees.ensures hive file why refused some tree holds
