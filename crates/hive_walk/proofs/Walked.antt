@@ -39,14 +39,14 @@ use Rattle.hive_walk.specs.declared.errors.WalkError.{WalkError}
 use Rattle.hive_walk.specs.declared.errors.WalkError.TheVariants as walk_error
 use Rattle.hive_walk.specs.declared.siblings.Sibling.{Sibling}
 use Rattle.hive_walk.specs.Siblings.{keyed_all, sibling_names, siblings_in}
-use Rattle.hive_walk.specs.Walks.{AreSound, IsSound, entries_from, entries_named, cells_named, nodes_of, AreUnmarked, MarksOnly, IsNoFault, WalkRefused, LeavesSink}
+use Rattle.hive_walk.specs.Walks.{KeysAreSound, KeyIsSound, entries_from, entries_named, cells_named, nodes_of, AreUnmarked, MarksOnly, IsNoFault, WalkRefused, LeavesSink}
 use Rattle.hive_walk.proofs.Order.{name_at, name_in}
 use Rattle.hive_walk.proofs.Judged.{first_root, entries_rows}
 
 module _ (split : Bool) (cells : Cells) where
   -- ---- sound keys
 
-  pub subkeys_sound : (levels at : ℕ) (parts : KeyParts Row) (below : Keys Row) → IsSound split cells levels at parts below → AreSound split cells levels below
+  pub subkeys_sound : (levels at : ℕ) (parts : KeyParts Row) (below : Keys Row) → KeyIsSound split cells levels at parts below → KeysAreSound split cells levels below
   subkeys_sound levels at parts below s = record {
     fits = s.whole.fits;
     named = s.whole.named;
@@ -55,14 +55,14 @@ module _ (split : Bool) (cells : Cells) where
     shallow = s.shallow;
   }
 
-  first_sound : (levels at : ℕ) (p : KeyParts Row) (below after : Keys Row) → AreSound split cells (suc levels) (key at p below after) → IsSound split cells levels at p below
+  first_sound : (levels at : ℕ) (p : KeyParts Row) (below after : Keys Row) → KeysAreSound split cells (suc levels) (key at p below after) → KeyIsSound split cells levels at p below
   first_sound levels at p below after s = record {
     whole = record { read = s.fits.0; listed = s.fits.1; fits = s.fits.2; named = s.named.2; once = once_front (p.own ++ own_cells below) (own_cells after) s.once };
     apart = λ cell lent owned. s.apart cell (in_front cell (p.lent ++ lent_cells below) (lent_cells after) lent) (in_front cell (p.own ++ own_cells below) (own_cells after) owned);
     shallow = s.shallow.0;
   }
 
-  rest_sound : (levels at : ℕ) (p : KeyParts Row) (below after : Keys Row) → AreSound split cells (suc levels) (key at p below after) → AreSound split cells (suc levels) after
+  rest_sound : (levels at : ℕ) (p : KeyParts Row) (below after : Keys Row) → KeysAreSound split cells (suc levels) (key at p below after) → KeysAreSound split cells (suc levels) after
   rest_sound levels at p below after s = record {
     fits = s.fits.3;
     named = s.named.3;
@@ -72,7 +72,7 @@ module _ (split : Bool) (cells : Cells) where
   }
 
   -- what such a key and those below it make is a node
-  pub sound_node : (levels at : ℕ) (parts : KeyParts Row) (below : Keys Row) → IsSound split cells levels at parts below → IsNode (entries_from parts below)
+  pub sound_node : (levels at : ℕ) (parts : KeyParts Row) (below : Keys Row) → KeyIsSound split cells levels at parts below → IsNode (entries_from parts below)
   sound_node levels at parts below s = record {
     row = parts.row;
     others = first.0;
@@ -132,13 +132,13 @@ module _ (split : Bool) (cells : Cells) where
 
   -- ---- a sibling's key
 
-  pub sibling_key : (levels : ℕ) (keys : Keys Row) → AreSound split cells (suc levels) keys → (sibling : Sibling) → IsIn sibling (siblings_in keys) →
-      (parts : KeyParts Row) × (below : Keys Row) × IsSound split cells levels sibling.at parts below × (parts.row.name ≡ sibling.name) × (entries_named keys (folded sibling.name) ≡ entries_from parts below) × (cells_named keys (folded sibling.name) ≡ parts.own ++ own_cells below)
+  pub sibling_key : (levels : ℕ) (keys : Keys Row) → KeysAreSound split cells (suc levels) keys → (sibling : Sibling) → IsIn sibling (siblings_in keys) →
+      (parts : KeyParts Row) × (below : Keys Row) × KeyIsSound split cells levels sibling.at parts below × (parts.row.name ≡ sibling.name) × (entries_named keys (folded sibling.name) ≡ entries_from parts below) × (cells_named keys (folded sibling.name) ≡ parts.own ++ own_cells below)
   sibling_key levels none s sibling i = absurd i
   sibling_key levels (key at p below after) s sibling (inl e) = (
     p,
     below,
-    subst (λ (n : ℕ). IsSound split cells levels n p below) (sym (ap (λ (x : Sibling). x.at) e)) (first_sound levels at p below after s),
+    subst (λ (n : ℕ). KeyIsSound split cells levels n p below) (sym (ap (λ (x : Sibling). x.at) e)) (first_sound levels at p below after s),
     sym (ap (λ (x : Sibling). x.name) e),
     yes_if (same (folded sibling.name) p.name) (entries_from p below) (entries_named after (folded sibling.name)) it_is,
     yes_if (same (folded sibling.name) p.name) (p.own ++ own_cells below) (cells_named after (folded sibling.name)) it_is,
@@ -150,7 +150,7 @@ module _ (split : Bool) (cells : Cells) where
       it_is : same (folded sibling.name) p.name ≡ true
       it_is = ap (same (folded sibling.name)) named ∙ same_itself (folded sibling.name)
   sibling_key levels (key at p below after) s sibling (inr i) =
-      let found : (parts : KeyParts Row) × (under : Keys Row) × IsSound split cells levels sibling.at parts under × (parts.row.name ≡ sibling.name) × (entries_named after (folded sibling.name) ≡ entries_from parts under) × (cells_named after (folded sibling.name) ≡ parts.own ++ own_cells under) = sibling_key levels after (rest_sound levels at p below after s) sibling i in
+      let found : (parts : KeyParts Row) × (under : Keys Row) × KeyIsSound split cells levels sibling.at parts under × (parts.row.name ≡ sibling.name) × (entries_named after (folded sibling.name) ≡ entries_from parts under) × (cells_named after (folded sibling.name) ≡ parts.own ++ own_cells under) = sibling_key levels after (rest_sound levels at p below after s) sibling i in
       let not_it : same (folded sibling.name) p.name ≡ false = same_not (folded sibling.name) p.name (λ e. s.named.1 (subst (λ (n : List ℕ). IsIn n (names after)) e (name_among after s.fits.3 sibling i))) in (
         found.0,
         found.1,
@@ -210,28 +210,28 @@ module _ (split : Bool) (cells : Cells) where
   sorted_as keys [] = refl
   sorted_as keys (s ∷ siblings) = λ i. below_as keys (folded s.name) siblings i && sorted_as keys siblings i
 
-  are_nodes : (levels : ℕ) (keys : Keys Row) → AreSound split cells (suc levels) keys → (siblings : List Sibling) → ((s : Sibling) → IsIn s siblings → IsIn s (siblings_in keys)) → AreNodes (nodes_of keys siblings)
+  are_nodes : (levels : ℕ) (keys : Keys Row) → KeysAreSound split cells (suc levels) keys → (siblings : List Sibling) → ((s : Sibling) → IsIn s siblings → IsIn s (siblings_in keys)) → AreNodes (nodes_of keys siblings)
   are_nodes levels keys sound [] among = tt
   are_nodes levels keys sound (s ∷ siblings) among = (
     (let its = sibling_key levels keys sound s (among s (inl refl)) in subst IsNode (sym its.4) (sound_node levels s.at its.0 its.1 its.2)),
     are_nodes levels keys sound siblings (λ t i. among t (inr i)),
   )
 
-  none_at_all : (keys : Keys Row) → AreSound split cells 0 keys → keys ≡ none
+  none_at_all : (keys : Keys Row) → KeysAreSound split cells 0 keys → keys ≡ none
   none_at_all none s = refl
   none_at_all (key at p below after) s = absurd s.shallow
 
-  pub none_left : (keys : Keys Row) → AreSound split cells 0 keys → (siblings : List Sibling) → IsPermutation (siblings_in keys) siblings → siblings ≡ []
+  pub none_left : (keys : Keys Row) → KeysAreSound split cells 0 keys → (siblings : List Sibling) → IsPermutation (siblings_in keys) siblings → siblings ≡ []
   none_left none s [] moved = refl
   none_left none s (sibling ∷ siblings) moved = absurd (in_shuffled (sibling ∷ siblings) [] (IsPermutation-sym [] (sibling ∷ siblings) moved) sibling (inl refl))
   none_left (key at p below after) s siblings moved = absurd s.shallow
 
-  all_nodes : (levels : ℕ) (keys : Keys Row) → AreSound split cells levels keys → (siblings : List Sibling) → IsPermutation (siblings_in keys) siblings → AreNodes (nodes_of keys siblings)
+  all_nodes : (levels : ℕ) (keys : Keys Row) → KeysAreSound split cells levels keys → (siblings : List Sibling) → IsPermutation (siblings_in keys) siblings → AreNodes (nodes_of keys siblings)
   all_nodes zero keys s siblings moved = subst (λ (z : List Sibling). AreNodes (nodes_of keys z)) (sym (none_left keys s siblings moved)) tt
   all_nodes (suc levels) keys s siblings moved = are_nodes levels keys s siblings (λ t i. in_shuffled siblings (siblings_in keys) (IsPermutation-sym (siblings_in keys) siblings moved) t i)
 
   -- the entries of a key are its own and those of its subkeys
-  pub whole_key : (levels at : ℕ) (parts : KeyParts Row) (below : Keys Row) → IsSound split cells levels at parts below → (siblings : List Sibling) → IsPermutation (siblings_in below) siblings → T (is_sorted name_order (keyed_all siblings)) → (path : List (List ℕ)) →
+  pub whole_key : (levels at : ℕ) (parts : KeyParts Row) (below : Keys Row) → KeyIsSound split cells levels at parts below → (siblings : List Sibling) → IsPermutation (siblings_in below) siblings → T (is_sorted name_order (keyed_all siblings)) → (path : List (List ℕ)) →
       (path, parts.row) ∷ flat_map (subkey_rows path) (nodes_of below siblings) ≡ node_rows path (entries_from parts below)
   whole_key levels at parts below s siblings moved rises path =
       let sorted : T (is_sorted name_order (nodes_of below siblings)) = subst T (sym (sorted_as below siblings)) rises in
@@ -350,7 +350,7 @@ sink_left old new (Err (walk_error.Sink refusal)) h = tt
 
 -- ---- a whole image
 
-pub same_rows : (split : Bool) (cells : Cells) (levels at : ℕ) (parts : KeyParts Row) (below : Keys Row) → IsSound split cells levels at parts below → node_rows [] (entries_from parts below) ≡ tree_rows (tree_of parts below)
+pub same_rows : (split : Bool) (cells : Cells) (levels at : ℕ) (parts : KeyParts Row) (below : Keys Row) → KeyIsSound split cells levels at parts below → node_rows [] (entries_from parts below) ≡ tree_rows (tree_of parts below)
 same_rows split cells levels at parts below s =
     whole_rows (entries_from parts below) (sound_node split cells levels at parts below s)
     ∙ ap tree_rows (tree_of_node parts below (entries_from parts below) (entries_sorted (tree_of parts below)) s.whole.named (entries_rows parts below s.whole.named))

@@ -22,7 +22,7 @@ use Rattle.hive_walk.specs.Judgements.{ImageRefused}
 
 -- keys beside one another are what the cells say, each with a name of its own, on at most a number of levels. No cell of
 -- one key alone is reached twice, or belongs to other keys too
-pub record AreSound (split : Bool) (cells : Cells) (levels : ℕ) (keys : Keys Row) : Type 0 where
+pub record KeysAreSound (split : Bool) (cells : Cells) (levels : ℕ) (keys : Keys Row) : Type 0 where
   pub fits : CellsMatchKeys (keys_in split cells) keys
   pub named : Named keys
   pub once : Once (own_cells keys)
@@ -30,7 +30,7 @@ pub record AreSound (split : Bool) (cells : Cells) (levels : ℕ) (keys : Keys R
   pub shallow : IsShallow levels keys
 
 -- so is the key at an offset, with the keys below it
-pub record IsSound (split : Bool) (cells : Cells) (levels at : ℕ) (parts : KeyParts Row) (below : Keys Row) : Type 0 where
+pub record KeyIsSound (split : Bool) (cells : Cells) (levels at : ℕ) (parts : KeyParts Row) (below : Keys Row) : Type 0 where
   pub whole : Whole (keys_in split cells) at parts below
   pub apart : LentApart parts below
   pub shallow : IsShallow levels below

@@ -17,7 +17,7 @@ ghost use Rattle.hive_load_parts.specs.Descriptors.{AreDescriptors};
 ghost use Rattle.key_walk.specs.KeyPaths.{names_on};
 ghost use Rattle.key_walk.specs.KeyRows.{node_rows, subkey_rows, tree_rows};
 ghost use Rattle.hive_walk.specs.Siblings.{keyed_all, siblings_in};
-ghost use Rattle.hive_walk.specs.Walks.{AreSound, IsSound, AreUnmarked, MarksOnly, entries_from, nodes_of, IsNoFault, WalkRefused, LeavesSink};
+ghost use Rattle.hive_walk.specs.Walks.{KeysAreSound, KeyIsSound, AreUnmarked, MarksOnly, entries_from, nodes_of, IsNoFault, WalkRefused, LeavesSink};
 
 use crate::errors::{ImageError, WalkError, refused_at};
 use crate::fields::key_name;
@@ -92,7 +92,7 @@ fn siblings_at(
     listed: &[u32],
 ) -> Result<Vec<Sibling>, ImageError>
     ensures { (cells : Cells) → Shows image.now.bytes cells → (split : Bool) (levels : ℕ)
-        (keys : Keys Row) → AreSound split cells levels keys → offsets_of keys ≡ listed.now →
+        (keys : Keys Row) → KeysAreSound split cells levels keys → offsets_of keys ≡ listed.now →
         MatchResult result (λ siblings. IsPermutation (siblings_in keys) siblings.items
         × T (is_sorted name_order (keyed_all siblings.items)))
         (λ error. error ≡ ImageError.NoMemory) }
@@ -119,7 +119,7 @@ fn walk_key<S: KeySink>(
     requires covers { length image.now.bytes ≤ 8 * length seen.old }
     requires known { AreDescriptors image.now.bytes known.old }
     ensures answers { (cells : Cells) → Shows image.now.bytes cells → (parts : KeyParts Row) (below : Keys Row) →
-        IsSound split cells levels at parts below →
+        KeyIsSound split cells levels at parts below →
         AreUnmarked (marks_of seen.old) (parts.own ++ own_cells below) → MatchResult result
         (λ _. MarksOnly (marks_of seen.old) (marks_of seen.new) (parts.own ++ own_cells below)
         × S.Took sink.old sink.new (node_rows (names_on path.now) (entries_from parts below)))
@@ -156,7 +156,7 @@ fn walk_keys<S: KeySink>(
     requires covers { length image.now.bytes ≤ 8 * length seen.old }
     requires known { AreDescriptors image.now.bytes known.old }
     ensures answers { (cells : Cells) → Shows image.now.bytes cells → (keys : Keys Row) →
-        AreSound split cells levels keys → IsPermutation (siblings_in keys) siblings.now →
+        KeysAreSound split cells levels keys → IsPermutation (siblings_in keys) siblings.now →
         AreUnmarked (marks_of seen.old) (own_cells keys) → MatchResult result
         (λ _. MarksOnly (marks_of seen.old) (marks_of seen.new) (own_cells keys)
         × S.Took sink.old sink.new (flat_map (subkey_rows (names_on above.now)) (nodes_of keys siblings.now)))
@@ -197,7 +197,7 @@ fn walk_judged<S: KeySink>(
     sink: &mut S,
 ) -> Result<(), WalkError<S::Error>>
     ensures { (cells : Cells) → Shows image.now.bytes cells → (parts : KeyParts Row) (below : Keys Row) →
-        IsSound (splits minor) cells MOST_PATH_NAMES root parts below → MatchResult result
+        KeyIsSound (splits minor) cells MOST_PATH_NAMES root parts below → MatchResult result
         (λ _. S.Took sink.old sink.new (node_rows [] (entries_from parts below))) IsNoFault }
 {
     let mut seen = match flags_for(alloc, image.len()) {

@@ -21,7 +21,7 @@ use Rattle.key_walk.specs.KeyRows.{NamedRow, node_rows, subkey_rows}
 use Rattle.key_walk.proofs.Rows.{next_rows, next_subkey}
 use Rattle.hive_walk.specs.declared.siblings.Sibling.{Sibling}
 use Rattle.hive_walk.specs.Siblings.{keyed_all, sibling_names, siblings_in}
-use Rattle.hive_walk.specs.Walks.{AreSound, AreUnmarked, MarksOnly, cells_named, entries_from, entries_named, nodes_of}
+use Rattle.hive_walk.specs.Walks.{KeysAreSound, AreUnmarked, MarksOnly, cells_named, entries_from, entries_named, nodes_of}
 use Rattle.hive_walk.proofs.Judged.{entries_rows}
 use Rattle.hive_walk.proofs.Walked.{subkeys_sound, whole_key, none_left, sibling_in, sibling_key, node_there, siblings_once, only_joined, still_unmarked, cells_of, cells_within, all_within, apart_before, got, many_nodes, on_match, memory_alone}
 use Rattle.hive_walk.proofs.walk.+walking.Goals as goal
@@ -34,7 +34,7 @@ its_place : (split : Bool) (cells : Cells) (keys : Keys Row) (siblings : List Si
 its_place split cells keys siblings moved i s is lt = in_shuffled siblings (siblings_in keys) (IsPermutation-sym (siblings_in keys) siblings moved) s
     (subst (λ (x : Sibling). IsIn x siblings) (sym is) (sibling_in split cells siblings i s lt))
 
-its_unmarked : (split : Bool) (cells : Cells) (levels : ℕ) (keys : Keys Row) → AreSound split cells levels keys → (siblings : List Sibling) → IsPermutation (siblings_in keys) siblings → (i : ℕ) (s : Sibling) → s ≡ get_or siblings i s → i < length siblings → (old now : CellMarks) →
+its_unmarked : (split : Bool) (cells : Cells) (levels : ℕ) (keys : Keys Row) → KeysAreSound split cells levels keys → (siblings : List Sibling) → IsPermutation (siblings_in keys) siblings → (i : ℕ) (s : Sibling) → s ≡ get_or siblings i s → i < length siblings → (old now : CellMarks) →
     MarksOnly old now (cells_of keys (take i siblings)) → AreUnmarked old (own_cells keys) → AreUnmarked now (cells_named keys (folded s.name))
 its_unmarked split cells levels keys sound siblings moved i s is lt old now only unmarked =
     let once : Once (sibling_names siblings) = once_shuffled (sibling_names (siblings_in keys)) (sibling_names siblings) (IsPermutation-map (λ (x : Sibling). folded x.name) (siblings_in keys) siblings moved) (siblings_once split cells keys sound.fits sound.named) in
@@ -71,7 +71,7 @@ pub walk_keys-returns-then-levels-eq0-clause-answers : goal.walk_keys-returns-th
 walk_keys-returns-then-levels-eq0-clause-answers g t c = λ cells shows keys sound moved unmarked. (
   λ cell m. inl m,
   subst (λ (s : List Sibling). g.S.KeySink.Took c.args.sink.now c.args.sink.now (flat_map (subkey_rows (names_on c.args.above.now)) (nodes_of keys s)))
-      (sym (none_left c.args.split cells keys (subst (λ (n : ℕ). AreSound c.args.split cells n keys) c.if-levels-eq0.true sound) c.args.siblings.now moved))
+      (sym (none_left c.args.split cells keys (subst (λ (n : ℕ). KeysAreSound c.args.split cells n keys) c.if-levels-eq0.true sound) c.args.siblings.now moved))
       (g.met.S.KeySink.took_none c.args.sink.now),
 )
 
@@ -80,7 +80,7 @@ walk_keys-returns-in-Err-clause-answers g t c = λ cells shows keys sound moved 
     let i = c.loop-sibling.sibling-index in
     let s : Sibling = c.sibling-item.result in
     let is : s ≡ get_or c.args.siblings.now i s = c.sibling-item.is in
-    let its = sibling_key c.args.split cells (c.args.levels - 1) keys (subst (λ (n : ℕ). AreSound c.args.split cells n keys) (more c.args.levels c.if-levels-eq0.false) sound) s (its_place c.args.split cells keys c.args.siblings.now moved i s is c.loop-sibling-test.true) in
+    let its = sibling_key c.args.split cells (c.args.levels - 1) keys (subst (λ (n : ℕ). KeysAreSound c.args.split cells n keys) (more c.args.levels c.if-levels-eq0.false) sound) s (its_place c.args.split cells keys c.args.siblings.now moved i s is c.loop-sibling-test.true) in
     let own = its_unmarked c.args.split cells c.args.levels keys sound c.args.siblings.now moved i s is c.loop-sibling-test.true (marks_of c.args.seen.now) (marks_of c.loop-sibling.seen) (c.loop-sibling.invariant.took cells shows keys sound moved unmarked).0 unmarked in
     c.in-Err.ensures.answers cells shows its.0 its.1 its.2 (subst (λ (own : List ℕ). AreUnmarked (marks_of c.loop-sibling.seen) own) its.5 own)
 
@@ -94,7 +94,7 @@ walk_keys-loop-sibling-preserved g t c = record {
       let s : Sibling = c.sibling-item.result in
       let is : s ≡ get_or c.args.siblings.now i s = c.sibling-item.is in
       let so_far = c.loop-sibling.invariant.took cells shows keys sound moved unmarked in
-      let its = sibling_key c.args.split cells (c.args.levels - 1) keys (subst (λ (n : ℕ). AreSound c.args.split cells n keys) (more c.args.levels c.if-levels-eq0.false) sound) s (its_place c.args.split cells keys c.args.siblings.now moved i s is c.loop-sibling-test.true) in
+      let its = sibling_key c.args.split cells (c.args.levels - 1) keys (subst (λ (n : ℕ). KeysAreSound c.args.split cells n keys) (more c.args.levels c.if-levels-eq0.false) sound) s (its_place c.args.split cells keys c.args.siblings.now moved i s is c.loop-sibling-test.true) in
       let own = its_unmarked c.args.split cells c.args.levels keys sound c.args.siblings.now moved i s is c.loop-sibling-test.true (marks_of c.args.seen.now) (marks_of c.loop-sibling.seen) so_far.0 unmarked in
       let here = c.in-Ok.ensures.answers cells shows its.0 its.1 its.2 (subst (λ (own : List ℕ). AreUnmarked (marks_of c.loop-sibling.seen) own) its.5 own) in
       let there = ap (λ (x : Sibling). Some (entries_named keys (folded x.name))) is ∙ node_there c.args.split cells keys c.args.siblings.now i s c.loop-sibling-test.true in (
