@@ -16,7 +16,7 @@ use Rattle.hive_tree_model.proofs.Basics.{decided, clash, never}
 use Rattle.hive_load.proofs.Shuffled.{once_shuffled}
 use Rattle.hive_load.proofs.Sorting.{lt_is, as_T}
 use Rattle.hive_walk.specs.declared.siblings.Sibling.{Sibling}
-use Rattle.hive_walk.specs.Siblings.{keyed, keyed_all, sibling_names}
+use Rattle.hive_walk.specs.Siblings.{offset_by_name, offsets_by_name, sibling_names}
 
 -- the name of the sibling at an index
 abbrev pub name_at : List Sibling → ℕ → Sibling → List ℕ
@@ -70,20 +70,20 @@ back_true : (a b : Bool) → (a && b) ≡ true → b ≡ true
 back_true true b h = h
 back_true false b h = never h
 
-pub rises_if : (siblings : List Sibling) → ((k : ℕ) (d : Sibling) → k + 1 < length siblings → name_order (name_at siblings k d) (name_at siblings (suc k) d) ≡ Less) → is_sorted name_order (keyed_all siblings) ≡ true
+pub rises_if : (siblings : List Sibling) → ((k : ℕ) (d : Sibling) → k + 1 < length siblings → name_order (name_at siblings k d) (name_at siblings (suc k) d) ≡ Less) → is_sorted name_order (offsets_by_name siblings) ≡ true
 rises_if [] h = refl
 rises_if (a ∷ []) h = refl
 rises_if (a ∷ b ∷ siblings) h =
-    let rest : is_sorted name_order (keyed_all (b ∷ siblings)) ≡ true = rises_if (b ∷ siblings) (λ k d lt. h (suc k) d (omega (arith, lt))) in
+    let rest : is_sorted name_order (offsets_by_name (b ∷ siblings)) ≡ true = rises_if (b ∷ siblings) (λ k d lt. h (suc k) d (omega (arith, lt))) in
     let first : name_order (folded a.name) (folded b.name) ≡ Less = h 0 a (omega arith) in
-    let later : below_all name_order (folded b.name) (keyed_all siblings) ≡ true = front_true _ (is_sorted name_order (keyed_all siblings)) rest in
-    both_true (below_all name_order (folded a.name) (keyed_all (b ∷ siblings))) (is_sorted name_order (keyed_all (b ∷ siblings)))
-    (both_true (is_lt (name_order (folded a.name) (folded b.name))) (below_all name_order (folded a.name) (keyed_all siblings)) (ap is_lt first) (below_less _ _ (keyed_all siblings) first later))
+    let later : below_all name_order (folded b.name) (offsets_by_name siblings) ≡ true = front_true _ (is_sorted name_order (offsets_by_name siblings)) rest in
+    both_true (below_all name_order (folded a.name) (offsets_by_name (b ∷ siblings))) (is_sorted name_order (offsets_by_name (b ∷ siblings)))
+    (both_true (is_lt (name_order (folded a.name) (folded b.name))) (below_all name_order (folded a.name) (offsets_by_name siblings)) (ap is_lt first) (below_less _ _ (offsets_by_name siblings) first later))
     rest
 
-pub falls_if : (siblings : List Sibling) (k : ℕ) (d : Sibling) → k + 1 < length siblings → is_lt (name_order (name_at siblings k d) (name_at siblings (suc k) d)) ≡ false → false ≡ is_sorted name_order (keyed_all siblings)
-falls_if siblings k d lt e = elim (decided (is_sorted name_order (keyed_all siblings))) [
-  | inl t ↦ clash (is_lt (name_order (name_at siblings k d) (name_at siblings (suc k) d))) (ap is_lt (keys_rise names_total keyed siblings k (suc k) d (as_T _ t) (omega arith) (omega (arith, lt)))) e
+pub falls_if : (siblings : List Sibling) (k : ℕ) (d : Sibling) → k + 1 < length siblings → is_lt (name_order (name_at siblings k d) (name_at siblings (suc k) d)) ≡ false → false ≡ is_sorted name_order (offsets_by_name siblings)
+falls_if siblings k d lt e = elim (decided (is_sorted name_order (offsets_by_name siblings))) [
+  | inl t ↦ clash (is_lt (name_order (name_at siblings k d) (name_at siblings (suc k) d))) (ap is_lt (keys_rise names_total offset_by_name siblings k (suc k) d (as_T _ t) (omega arith) (omega (arith, lt)))) e
   | inr f ↦ sym f
 ]
 
@@ -104,7 +104,7 @@ next : (k : ℕ) → k + 1 ≡ suc k
 next k = omega arith
 
 sorted_rises : (siblings : List Sibling) → Once (sibling_names siblings) →
-    ((k : ℕ) (d : Sibling) → 0 ≤ k → k + 1 < length siblings → is_lt (name_order (name_at siblings (k + 1) d) (name_at siblings k d)) ≡ false) → is_sorted name_order (keyed_all siblings) ≡ true
+    ((k : ℕ) (d : Sibling) → 0 ≤ k → k + 1 < length siblings → is_lt (name_order (name_at siblings (k + 1) d) (name_at siblings k d)) ≡ false) → is_sorted name_order (offsets_by_name siblings) ≡ true
 sorted_rises siblings o h = rises_if siblings (λ k d lt. less_by (name_at siblings k d) (name_at siblings (suc k) d) (once_places siblings k d o lt) (name_order (name_at siblings k d) (name_at siblings (suc k) d)) refl (subst (λ (z : ℕ). is_lt (name_order (name_at siblings z d) (name_at siblings k d)) ≡ false) (next k) (h k d (omega arith) lt)))
 
 names_moved : (old new : List Sibling) → IsPermutation old new → IsPermutation (sibling_names old) (sibling_names new)
@@ -112,19 +112,19 @@ names_moved old new p = IsPermutation-map (λ (s : Sibling). folded s.name) old 
 
 -- siblings that no longer fall after their order was changed rise, if no two have the same name
 pub moved_rises : (old new : List Sibling) → IsPermutation old new → Once (sibling_names old) →
-    ((k : ℕ) (d : Sibling) → 0 ≤ k → k + 1 < length new → is_lt (name_order (name_at new (k + 1) d) (name_at new k d)) ≡ false) → T (is_sorted name_order (keyed_all new))
+    ((k : ℕ) (d : Sibling) → 0 ≤ k → k + 1 < length new → is_lt (name_order (name_at new (k + 1) d) (name_at new k d)) ≡ false) → T (is_sorted name_order (offsets_by_name new))
 moved_rises old new p o h = as_T _ (sorted_rises new (once_shuffled (sibling_names old) (sibling_names new) (names_moved old new p) o) h)
 
 -- ---- names that rise are there once
 
-below_name : (n : List ℕ) (siblings : List Sibling) → below_all name_order n (keyed_all siblings) ≡ true → IsIn n (sibling_names siblings) → ⊥
+below_name : (n : List ℕ) (siblings : List Sibling) → below_all name_order n (offsets_by_name siblings) ≡ true → IsIn n (sibling_names siblings) → ⊥
 below_name n [] h i = i
-below_name n (e ∷ es) h (inl g) = never (sym (ap (λ (z : List ℕ). is_lt (name_order n z)) (sym g) ∙ ap is_lt (tied_itself names_total n)) ∙ front_true (is_lt (name_order n (folded e.name))) (below_all name_order n (keyed_all es)) h)
-below_name n (e ∷ es) h (inr i) = below_name n es (back_true (is_lt (name_order n (folded e.name))) (below_all name_order n (keyed_all es)) h) i
+below_name n (e ∷ es) h (inl g) = never (sym (ap (λ (z : List ℕ). is_lt (name_order n z)) (sym g) ∙ ap is_lt (tied_itself names_total n)) ∙ front_true (is_lt (name_order n (folded e.name))) (below_all name_order n (offsets_by_name es)) h)
+below_name n (e ∷ es) h (inr i) = below_name n es (back_true (is_lt (name_order n (folded e.name))) (below_all name_order n (offsets_by_name es)) h) i
 
-risen_once : (siblings : List Sibling) → is_sorted name_order (keyed_all siblings) ≡ true → Once (sibling_names siblings)
+risen_once : (siblings : List Sibling) → is_sorted name_order (offsets_by_name siblings) ≡ true → Once (sibling_names siblings)
 risen_once [] h = tt
-risen_once (e ∷ es) h = (below_name (folded e.name) es (front_true (below_all name_order (folded e.name) (keyed_all es)) (is_sorted name_order (keyed_all es)) h), risen_once es (back_true (below_all name_order (folded e.name) (keyed_all es)) (is_sorted name_order (keyed_all es)) h))
+risen_once (e ∷ es) h = (below_name (folded e.name) es (front_true (below_all name_order (folded e.name) (offsets_by_name es)) (is_sorted name_order (offsets_by_name es)) h), risen_once es (back_true (below_all name_order (folded e.name) (offsets_by_name es)) (is_sorted name_order (offsets_by_name es)) h))
 
-pub apart_if : (old new : List Sibling) → IsPermutation old new → is_sorted name_order (keyed_all new) ≡ true → Once (sibling_names old)
+pub apart_if : (old new : List Sibling) → IsPermutation old new → is_sorted name_order (offsets_by_name new) ≡ true → Once (sibling_names old)
 apart_if old new p h = once_shuffled (sibling_names new) (sibling_names old) (names_moved new old (IsPermutation-sym old new p)) (risen_once new h)

@@ -38,8 +38,8 @@ use Rattle.hive_walk.specs.declared.errors.ImageError.TheVariants as image_error
 use Rattle.hive_walk.specs.declared.errors.WalkError.{WalkError}
 use Rattle.hive_walk.specs.declared.errors.WalkError.TheVariants as walk_error
 use Rattle.hive_walk.specs.declared.siblings.Sibling.{Sibling}
-use Rattle.hive_walk.specs.Siblings.{keyed_all, sibling_names, siblings_in}
-use Rattle.hive_walk.specs.Walks.{KeysAreSound, KeyIsSound, entries_from, entries_named, cells_named, nodes_of, AreUnmarked, MarksOnly, IsNoFault, WalkRefused, LeavesSink}
+use Rattle.hive_walk.specs.Siblings.{offsets_by_name, sibling_names, siblings_in}
+use Rattle.hive_walk.specs.Walks.{KeysAreSound, KeyIsSound, entries_of_key, entries_named, cells_named, nodes_of_siblings, AreUnmarked, MarksOnly, IsNoFault, WalkRefused, LeavesSink}
 use Rattle.hive_walk.proofs.Order.{name_at, name_in}
 use Rattle.hive_walk.proofs.Judged.{first_root, entries_rows}
 
@@ -72,7 +72,7 @@ module _ (split : Bool) (cells : Cells) where
   }
 
   -- what such a key and those below it make is a node
-  pub sound_node : (levels at : ℕ) (parts : KeyParts Row) (below : Keys Row) → KeyIsSound split cells levels at parts below → IsNode (entries_from parts below)
+  pub sound_node : (levels at : ℕ) (parts : KeyParts Row) (below : Keys Row) → KeyIsSound split cells levels at parts below → IsNode (entries_of_key parts below)
   sound_node levels at parts below s = record {
     row = parts.row;
     others = first.0;
@@ -82,8 +82,8 @@ module _ (split : Bool) (cells : Cells) where
     named = λ path name row h. kept.named path name row (get-entries (tree_of parts below) (path ++ name ∷ []) ∙ h);
   }
     where
-      first : (others : Entries) × (entries_from parts below ≡ ([], parts.row) ∷ others)
-      first = first_root (entries_from parts below) parts.row (entries_sorted (tree_of parts below)) (entries_rows parts below s.whole.named [])
+      first : (others : Entries) × (entries_of_key parts below ≡ ([], parts.row) ∷ others)
+      first = first_root (entries_of_key parts below) parts.row (entries_sorted (tree_of parts below)) (entries_rows parts below s.whole.named [])
 
       kept : IsKeyTree (λ (row : Row). folded row.name) (tree_of parts below)
       kept = key_tree (keys_in split cells) (λ (row : Row). folded row.name) (keys_named split cells) at (tree_of parts below) (parts, below, s.whole, refl, s.apart)
@@ -133,14 +133,14 @@ module _ (split : Bool) (cells : Cells) where
   -- ---- a sibling's key
 
   pub sibling_key : (levels : ℕ) (keys : Keys Row) → KeysAreSound split cells (suc levels) keys → (sibling : Sibling) → IsIn sibling (siblings_in keys) →
-      (parts : KeyParts Row) × (below : Keys Row) × KeyIsSound split cells levels sibling.at parts below × (parts.row.name ≡ sibling.name) × (entries_named keys (folded sibling.name) ≡ entries_from parts below) × (cells_named keys (folded sibling.name) ≡ parts.own ++ own_cells below)
+      (parts : KeyParts Row) × (below : Keys Row) × KeyIsSound split cells levels sibling.at parts below × (parts.row.name ≡ sibling.name) × (entries_named keys (folded sibling.name) ≡ entries_of_key parts below) × (cells_named keys (folded sibling.name) ≡ parts.own ++ own_cells below)
   sibling_key levels none s sibling i = absurd i
   sibling_key levels (key at p below after) s sibling (inl e) = (
     p,
     below,
     subst (λ (n : ℕ). KeyIsSound split cells levels n p below) (sym (ap (λ (x : Sibling). x.at) e)) (first_sound levels at p below after s),
     sym (ap (λ (x : Sibling). x.name) e),
-    yes_if (same (folded sibling.name) p.name) (entries_from p below) (entries_named after (folded sibling.name)) it_is,
+    yes_if (same (folded sibling.name) p.name) (entries_of_key p below) (entries_named after (folded sibling.name)) it_is,
     yes_if (same (folded sibling.name) p.name) (p.own ++ own_cells below) (cells_named after (folded sibling.name)) it_is,
   )
     where
@@ -150,13 +150,13 @@ module _ (split : Bool) (cells : Cells) where
       it_is : same (folded sibling.name) p.name ≡ true
       it_is = ap (same (folded sibling.name)) named ∙ same_itself (folded sibling.name)
   sibling_key levels (key at p below after) s sibling (inr i) =
-      let found : (parts : KeyParts Row) × (under : Keys Row) × KeyIsSound split cells levels sibling.at parts under × (parts.row.name ≡ sibling.name) × (entries_named after (folded sibling.name) ≡ entries_from parts under) × (cells_named after (folded sibling.name) ≡ parts.own ++ own_cells under) = sibling_key levels after (rest_sound levels at p below after s) sibling i in
+      let found : (parts : KeyParts Row) × (under : Keys Row) × KeyIsSound split cells levels sibling.at parts under × (parts.row.name ≡ sibling.name) × (entries_named after (folded sibling.name) ≡ entries_of_key parts under) × (cells_named after (folded sibling.name) ≡ parts.own ++ own_cells under) = sibling_key levels after (rest_sound levels at p below after s) sibling i in
       let not_it : same (folded sibling.name) p.name ≡ false = same_not (folded sibling.name) p.name (λ e. s.named.1 (subst (λ (n : List ℕ). IsIn n (names after)) e (name_among after s.fits.3 sibling i))) in (
         found.0,
         found.1,
         found.2,
         found.3,
-        no_if (same (folded sibling.name) p.name) (entries_from p below) (entries_named after (folded sibling.name)) not_it ∙ found.4,
+        no_if (same (folded sibling.name) p.name) (entries_of_key p below) (entries_named after (folded sibling.name)) not_it ∙ found.4,
         no_if (same (folded sibling.name) p.name) (p.own ++ own_cells below) (cells_named after (folded sibling.name)) not_it ∙ found.5,
       )
     where
@@ -170,23 +170,23 @@ module _ (split : Bool) (cells : Cells) where
   -- each of some keys is found by its name among all
   abbrev AreNamedIn : Keys Row → Keys Row → Type 0
   AreNamedIn all none = Unit {0}
-  AreNamedIn all (key at p below after) = (entries_named all p.name ≡ entries_from p below) × AreNamedIn all after
+  AreNamedIn all (key at p below after) = (entries_named all p.name ≡ entries_of_key p below) × AreNamedIn all after
 
   named_later : (at : ℕ) (p : KeyParts Row) (below all keys : Keys Row) → (IsIn p.name (names keys) → ⊥) → AreNamedIn all keys → AreNamedIn (key at p below all) keys
   named_later at p below all none apart h = tt
   named_later at p below all (key to q under later) apart h = (
-    no_if (same q.name p.name) (entries_from p below) (entries_named all q.name) (same_not q.name p.name (λ e. apart (inl (sym e)))) ∙ h.0,
+    no_if (same q.name p.name) (entries_of_key p below) (entries_named all q.name) (same_not q.name p.name (λ e. apart (inl (sym e)))) ∙ h.0,
     named_later at p below all later (λ i. apart (inr i)) h.1,
   )
 
   named_in : (keys : Keys Row) → Named keys → AreNamedIn keys keys
   named_in none named = tt
   named_in (key at p below after) named = (
-    yes_if (same p.name p.name) (entries_from p below) (entries_named after p.name) (same_itself p.name),
+    yes_if (same p.name p.name) (entries_of_key p below) (entries_named after p.name) (same_itself p.name),
     named_later at p below after after named.1 (named_in after named.3),
   )
 
-  listed_in : (all keys : Keys Row) → AreNamedIn all keys → CellsMatchKeys (keys_in split cells) keys → Named keys → AreListed (nodes_of all (siblings_in keys)) keys
+  listed_in : (all keys : Keys Row) → AreNamedIn all keys → CellsMatchKeys (keys_in split cells) keys → Named keys → AreListed (nodes_of_siblings all (siblings_in keys)) keys
   listed_in all none h fits named = tt
   listed_in all (key at p below after) h fits named = (
     sym (keys_named split cells at p fits.0),
@@ -194,23 +194,23 @@ module _ (split : Bool) (cells : Cells) where
     listed_in all after h.1 fits.3 named.3,
   )
 
-  nodes_found : (keys : Keys Row) → CellsMatchKeys (keys_in split cells) keys → Named keys → (siblings : List Sibling) → IsPermutation (siblings_in keys) siblings → AreNodesOf (nodes_of keys siblings) keys
+  nodes_found : (keys : Keys Row) → CellsMatchKeys (keys_in split cells) keys → Named keys → (siblings : List Sibling) → IsPermutation (siblings_in keys) siblings → AreNodesOf (nodes_of_siblings keys siblings) keys
   nodes_found keys fits named siblings moved name path =
-      let listed : AreListed (nodes_of keys (siblings_in keys)) keys = listed_in keys keys (named_in keys named) fits named in
-      let once : Once (names_of (nodes_of keys (siblings_in keys))) = subst (λ (z : List (List ℕ)). Once z) (sym (listed_names (nodes_of keys (siblings_in keys)) keys listed)) (once_named keys named) in
-      ap (λ o. row_in o path) (shuffled_found (nodes_of keys (siblings_in keys)) (nodes_of keys siblings) (IsPermutation-map (λ (s : Sibling). (folded s.name, entries_named keys (folded s.name))) (siblings_in keys) siblings moved) once name)
-      ∙ listed_rows (nodes_of keys (siblings_in keys)) keys listed name path
+      let listed : AreListed (nodes_of_siblings keys (siblings_in keys)) keys = listed_in keys keys (named_in keys named) fits named in
+      let once : Once (names_of (nodes_of_siblings keys (siblings_in keys))) = subst (λ (z : List (List ℕ)). Once z) (sym (listed_names (nodes_of_siblings keys (siblings_in keys)) keys listed)) (once_named keys named) in
+      ap (λ o. row_in o path) (shuffled_found (nodes_of_siblings keys (siblings_in keys)) (nodes_of_siblings keys siblings) (IsPermutation-map (λ (s : Sibling). (folded s.name, entries_named keys (folded s.name))) (siblings_in keys) siblings moved) once name)
+      ∙ listed_rows (nodes_of_siblings keys (siblings_in keys)) keys listed name path
 
   -- nodes rise as the names of their siblings do
-  below_as : (keys : Keys Row) (n : List ℕ) (siblings : List Sibling) → below_all name_order n (nodes_of keys siblings) ≡ below_all name_order n (keyed_all siblings)
+  below_as : (keys : Keys Row) (n : List ℕ) (siblings : List Sibling) → below_all name_order n (nodes_of_siblings keys siblings) ≡ below_all name_order n (offsets_by_name siblings)
   below_as keys n [] = refl
   below_as keys n (s ∷ siblings) = ap (λ b. is_lt (name_order n (folded s.name)) && b) (below_as keys n siblings)
 
-  sorted_as : (keys : Keys Row) (siblings : List Sibling) → is_sorted name_order (nodes_of keys siblings) ≡ is_sorted name_order (keyed_all siblings)
+  sorted_as : (keys : Keys Row) (siblings : List Sibling) → is_sorted name_order (nodes_of_siblings keys siblings) ≡ is_sorted name_order (offsets_by_name siblings)
   sorted_as keys [] = refl
   sorted_as keys (s ∷ siblings) = λ i. below_as keys (folded s.name) siblings i && sorted_as keys siblings i
 
-  are_nodes : (levels : ℕ) (keys : Keys Row) → KeysAreSound split cells (suc levels) keys → (siblings : List Sibling) → ((s : Sibling) → IsIn s siblings → IsIn s (siblings_in keys)) → AreNodes (nodes_of keys siblings)
+  are_nodes : (levels : ℕ) (keys : Keys Row) → KeysAreSound split cells (suc levels) keys → (siblings : List Sibling) → ((s : Sibling) → IsIn s siblings → IsIn s (siblings_in keys)) → AreNodes (nodes_of_siblings keys siblings)
   are_nodes levels keys sound [] among = tt
   are_nodes levels keys sound (s ∷ siblings) among = (
     (let its = sibling_key levels keys sound s (among s (inl refl)) in subst IsNode (sym its.4) (sound_node levels s.at its.0 its.1 its.2)),
@@ -226,23 +226,23 @@ module _ (split : Bool) (cells : Cells) where
   none_left none s (sibling ∷ siblings) moved = absurd (in_shuffled (sibling ∷ siblings) [] (IsPermutation-sym [] (sibling ∷ siblings) moved) sibling (inl refl))
   none_left (key at p below after) s siblings moved = absurd s.shallow
 
-  all_nodes : (levels : ℕ) (keys : Keys Row) → KeysAreSound split cells levels keys → (siblings : List Sibling) → IsPermutation (siblings_in keys) siblings → AreNodes (nodes_of keys siblings)
-  all_nodes zero keys s siblings moved = subst (λ (z : List Sibling). AreNodes (nodes_of keys z)) (sym (none_left keys s siblings moved)) tt
+  all_nodes : (levels : ℕ) (keys : Keys Row) → KeysAreSound split cells levels keys → (siblings : List Sibling) → IsPermutation (siblings_in keys) siblings → AreNodes (nodes_of_siblings keys siblings)
+  all_nodes zero keys s siblings moved = subst (λ (z : List Sibling). AreNodes (nodes_of_siblings keys z)) (sym (none_left keys s siblings moved)) tt
   all_nodes (suc levels) keys s siblings moved = are_nodes levels keys s siblings (λ t i. in_shuffled siblings (siblings_in keys) (IsPermutation-sym (siblings_in keys) siblings moved) t i)
 
   -- the entries of a key are its own and those of its subkeys
-  pub whole_key : (levels at : ℕ) (parts : KeyParts Row) (below : Keys Row) → KeyIsSound split cells levels at parts below → (siblings : List Sibling) → IsPermutation (siblings_in below) siblings → T (is_sorted name_order (keyed_all siblings)) → (path : List (List ℕ)) →
-      (path, parts.row) ∷ flat_map (subkey_rows path) (nodes_of below siblings) ≡ node_rows path (entries_from parts below)
+  pub whole_key : (levels at : ℕ) (parts : KeyParts Row) (below : Keys Row) → KeyIsSound split cells levels at parts below → (siblings : List Sibling) → IsPermutation (siblings_in below) siblings → T (is_sorted name_order (offsets_by_name siblings)) → (path : List (List ℕ)) →
+      (path, parts.row) ∷ flat_map (subkey_rows path) (nodes_of_siblings below siblings) ≡ node_rows path (entries_of_key parts below)
   whole_key levels at parts below s siblings moved rises path =
-      let sorted : T (is_sorted name_order (nodes_of below siblings)) = subst T (sym (sorted_as below siblings)) rises in
-      let up : T (is_sorted path_order (entries_of parts.row (nodes_of below siblings))) = entries_rise parts.row (nodes_of below siblings) (all_nodes levels below (subkeys_sound levels at parts below s) siblings moved) sorted in
-      let is : IsNodeOf (entries_of parts.row (nodes_of below siblings)) parts below = node_of parts below (nodes_of below siblings) sorted (nodes_found below s.whole.fits s.whole.named siblings moved) in
-      let tree : finite.from_sorted {R = path_order} (entries_of parts.row (nodes_of below siblings)) ≡ tree_of parts below = tree_of_node parts below (entries_of parts.row (nodes_of below siblings)) up s.whole.named is in
-      let made : entries_of parts.row (nodes_of below siblings) ≡ entries_from parts below = sym (entries-from_sorted path_order (entries_of parts.row (nodes_of below siblings)) up) ∙ ap finite.entries tree in
-      sym (node_walk path parts.row (nodes_of below siblings) sorted) ∙ ap (node_rows path) made
+      let sorted : T (is_sorted name_order (nodes_of_siblings below siblings)) = subst T (sym (sorted_as below siblings)) rises in
+      let up : T (is_sorted path_order (entries_of parts.row (nodes_of_siblings below siblings))) = entries_rise parts.row (nodes_of_siblings below siblings) (all_nodes levels below (subkeys_sound levels at parts below s) siblings moved) sorted in
+      let is : IsNodeOf (entries_of parts.row (nodes_of_siblings below siblings)) parts below = node_of parts below (nodes_of_siblings below siblings) sorted (nodes_found below s.whole.fits s.whole.named siblings moved) in
+      let tree : finite.from_sorted {R = path_order} (entries_of parts.row (nodes_of_siblings below siblings)) ≡ tree_of parts below = tree_of_node parts below (entries_of parts.row (nodes_of_siblings below siblings)) up s.whole.named is in
+      let made : entries_of parts.row (nodes_of_siblings below siblings) ≡ entries_of_key parts below = sym (entries-from_sorted path_order (entries_of parts.row (nodes_of_siblings below siblings)) up) ∙ ap finite.entries tree in
+      sym (node_walk path parts.row (nodes_of_siblings below siblings) sorted) ∙ ap (node_rows path) made
 
   -- the entries of the sibling at an index
-  pub node_there : (keys : Keys Row) (siblings : List Sibling) (i : ℕ) (d : Sibling) → i < length siblings → Some (entries_named keys (folded (get_or siblings i d).name)) ≡ slice_get (map (λ subkey. subkey.1) (nodes_of keys siblings)) i
+  pub node_there : (keys : Keys Row) (siblings : List Sibling) (i : ℕ) (d : Sibling) → i < length siblings → Some (entries_named keys (folded (get_or siblings i d).name)) ≡ slice_get (map (λ subkey. subkey.1) (nodes_of_siblings keys siblings)) i
   node_there keys [] i d lt = absurd (omega (arith, lt))
   node_there keys (s ∷ siblings) zero d lt = refl
   node_there keys (s ∷ siblings) (suc i) d lt = node_there keys siblings i d (omega (arith, lt))
@@ -318,7 +318,7 @@ apart_before keys once siblings apart i d lt cell h g =
     let its = whose keys (take i siblings) cell h in
     cells_apart keys once (folded its.0.name) (name_at siblings i d) (named_before siblings apart i d its.0 lt its.1) cell its.2 g
 
-pub many_nodes : (keys : Keys Row) (siblings : List Sibling) → length (nodes_of keys siblings) ≡ length siblings
+pub many_nodes : (keys : Keys Row) (siblings : List Sibling) → length (nodes_of_siblings keys siblings) ≡ length siblings
 many_nodes keys [] = refl
 many_nodes keys (s ∷ siblings) = ap suc (many_nodes keys siblings)
 
@@ -350,10 +350,10 @@ sink_left old new (Err (walk_error.Sink refusal)) h = tt
 
 -- ---- a whole image
 
-pub same_rows : (split : Bool) (cells : Cells) (levels at : ℕ) (parts : KeyParts Row) (below : Keys Row) → KeyIsSound split cells levels at parts below → node_rows [] (entries_from parts below) ≡ tree_rows (tree_of parts below)
+pub same_rows : (split : Bool) (cells : Cells) (levels at : ℕ) (parts : KeyParts Row) (below : Keys Row) → KeyIsSound split cells levels at parts below → node_rows [] (entries_of_key parts below) ≡ tree_rows (tree_of parts below)
 same_rows split cells levels at parts below s =
-    whole_rows (entries_from parts below) (sound_node split cells levels at parts below s)
-    ∙ ap tree_rows (tree_of_node parts below (entries_from parts below) (entries_sorted (tree_of parts below)) s.whole.named (entries_rows parts below s.whole.named))
+    whole_rows (entries_of_key parts below) (sound_node split cells levels at parts below s)
+    ∙ ap tree_rows (tree_of_node parts below (entries_of_key parts below) (entries_sorted (tree_of parts below)) s.whole.named (entries_rows parts below s.whole.named))
 
 pub no_fault : {X E : Type 0} (bytes : List ℕ) (root minor : ℕ) (result : Result X (WalkError E)) → IfErr result IsNoFault → (tree : TreeMap) × BinsEncodeTree bytes root minor tree → IfErr result (WalkRefused bytes root minor)
 no_fault bytes root minor (Ok x) h tree = tt

@@ -7,11 +7,11 @@ use Rattle.hive_tree_model.specs.Keys.{Keys, none, key}
 use Rattle.hive_walk.specs.declared.siblings.Sibling.{Sibling}
 
 -- a subkey's offset under its folded name
-abbrev pub keyed : Sibling → List ℕ × ℕ
-keyed sibling = (folded sibling.name, sibling.at)
+abbrev pub offset_by_name : Sibling → List ℕ × ℕ
+offset_by_name sibling = (folded sibling.name, sibling.at)
 
-abbrev pub keyed_all : List Sibling → List (List ℕ × ℕ)
-keyed_all siblings = map keyed siblings
+abbrev pub offsets_by_name : List Sibling → List (List ℕ × ℕ)
+offsets_by_name siblings = map offset_by_name siblings
 
 -- the folded names of subkeys
 abbrev pub sibling_names : List Sibling → List (List ℕ)

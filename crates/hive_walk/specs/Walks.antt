@@ -44,13 +44,13 @@ abbrev pub MarksOnly : CellMarks → CellMarks → List ℕ → Type 0
 MarksOnly old new cells = (cell : ℕ) → new cell ≡ true → (old cell ≡ true) ⊎ IsIn cell cells
 
 -- the entries of a key and of all keys below it, in the order of paths
-abbrev pub entries_from : KeyParts Row → Keys Row → Entries
-entries_from parts below = finite.entries (tree_of parts below)
+abbrev pub entries_of_key : KeyParts Row → Keys Row → Entries
+entries_of_key parts below = finite.entries (tree_of parts below)
 
 -- the entries of the key with a folded name, of keys beside one another
 abbrev pub entries_named : Keys Row → List ℕ → Entries
 entries_named none name = []
-entries_named (key at parts below after) name = if same name parts.name then entries_from parts below else entries_named after name
+entries_named (key at parts below after) name = if same name parts.name then entries_of_key parts below else entries_named after name
 
 -- the cells of one key alone, of the key with a folded name and all keys below it
 abbrev pub cells_named : Keys Row → List ℕ → List ℕ
@@ -58,8 +58,8 @@ cells_named none name = []
 cells_named (key at parts below after) name = if same name parts.name then parts.own ++ own_cells below else cells_named after name
 
 -- the entries of some of the keys, each under its folded name
-abbrev pub nodes_of : Keys Row → List Sibling → List (List ℕ × Entries)
-nodes_of keys siblings = map (λ (sibling : Sibling). (folded sibling.name, entries_named keys (folded sibling.name))) siblings
+abbrev pub nodes_of_siblings : Keys Row → List Sibling → List (List ℕ × Entries)
+nodes_of_siblings keys siblings = map (λ (sibling : Sibling). (folded sibling.name, entries_named keys (folded sibling.name))) siblings
 
 -- a walk ended for want of memory, or since its sink refused a key
 abbrev pub IsNoFault : {E : Type 0} → WalkError E → Type 0

@@ -5,7 +5,7 @@ ghost use Rattle.std.specs.FinMap.Entries.{is_sorted};
 ghost use Rattle.reg_names.specs.Names.{folded};
 ghost use Rattle.reg_tree_parts.specs.Orders.{name_order};
 ghost use Rattle.hive_tree_model.specs.Lists.{IsIn, Once};
-ghost use Rattle.hive_walk.specs.Siblings.{keyed_all, sibling_names, LacksNames};
+ghost use Rattle.hive_walk.specs.Siblings.{offsets_by_name, sibling_names, LacksNames};
 
 use reg_names::Name;
 use std::cmp::Ordering;
@@ -39,7 +39,7 @@ fn by_name(one: &Sibling, other: &Sibling) -> Ordering
 
 // whether the names of siblings rise
 fn rises(siblings: &[Sibling]) -> bool
-    ensures { result ≡ is_sorted name_order (keyed_all siblings.now) }
+    ensures { result ≡ is_sorted name_order (offsets_by_name siblings.now) }
 {
     for index in 1..siblings.len() {
         let order = by_name(&siblings[index - 1], &siblings[index]);
@@ -54,7 +54,7 @@ fn rises(siblings: &[Sibling]) -> bool
 fn sort(siblings: &mut [Sibling])
     ensures same { IsPermutation siblings.old siblings.new }
     ensures sorted { Once (sibling_names siblings.old) →
-        T (is_sorted name_order (keyed_all siblings.new)) }
+        T (is_sorted name_order (offsets_by_name siblings.new)) }
 {
     if rises(siblings) {
         return;
@@ -66,7 +66,7 @@ fn sort(siblings: &mut [Sibling])
 pub(crate) fn in_order(mut siblings: Vec<Sibling>) -> Vec<Sibling>
     ensures same { IsPermutation siblings.items result.items }
     ensures sorted { Once (sibling_names siblings.items) →
-        T (is_sorted name_order (keyed_all result.items)) }
+        T (is_sorted name_order (offsets_by_name result.items)) }
 {
     sort(&mut siblings);
     siblings

@@ -16,8 +16,8 @@ ghost use Rattle.hive_load_parts.specs.CellReads.{marks_of};
 ghost use Rattle.hive_load_parts.specs.Descriptors.{AreDescriptors};
 ghost use Rattle.key_walk.specs.KeyPaths.{names_on};
 ghost use Rattle.key_walk.specs.KeyRows.{node_rows, subkey_rows, tree_rows};
-ghost use Rattle.hive_walk.specs.Siblings.{keyed_all, siblings_in};
-ghost use Rattle.hive_walk.specs.Walks.{KeysAreSound, KeyIsSound, AreUnmarked, MarksOnly, entries_from, nodes_of, IsNoFault, WalkRefused, LeavesSink};
+ghost use Rattle.hive_walk.specs.Siblings.{offsets_by_name, siblings_in};
+ghost use Rattle.hive_walk.specs.Walks.{KeysAreSound, KeyIsSound, AreUnmarked, MarksOnly, entries_of_key, nodes_of_siblings, IsNoFault, WalkRefused, LeavesSink};
 
 use crate::errors::{ImageError, WalkError, refused_at};
 use crate::fields::key_name;
@@ -94,7 +94,7 @@ fn siblings_at(
     ensures { (cells : Cells) → Shows image.now.bytes cells → (split : Bool) (levels : ℕ)
         (keys : Keys Row) → KeysAreSound split cells levels keys → offsets_of keys ≡ listed.now →
         MatchResult result (λ siblings. IsPermutation (siblings_in keys) siblings.items
-        × T (is_sorted name_order (keyed_all siblings.items)))
+        × T (is_sorted name_order (offsets_by_name siblings.items)))
         (λ error. error ≡ ImageError.NoMemory) }
 {
     match listed_siblings(alloc, image, above, listed) {
@@ -122,7 +122,7 @@ fn walk_key<S: KeySink>(
         KeyIsSound split cells levels at parts below →
         AreUnmarked (marks_of seen.old) (parts.own ++ own_cells below) → MatchResult result
         (λ _. MarksOnly (marks_of seen.old) (marks_of seen.new) (parts.own ++ own_cells below)
-        × S.Took sink.old sink.new (node_rows (names_on path.now) (entries_from parts below)))
+        × S.Took sink.old sink.new (node_rows (names_on path.now) (entries_of_key parts below)))
         IsNoFault }
     ensures covers { length seen.new ≡ length seen.old }
     ensures known { AreDescriptors image.now.bytes known.new }
@@ -159,7 +159,7 @@ fn walk_keys<S: KeySink>(
         KeysAreSound split cells levels keys → IsPermutation (siblings_in keys) siblings.now →
         AreUnmarked (marks_of seen.old) (own_cells keys) → MatchResult result
         (λ _. MarksOnly (marks_of seen.old) (marks_of seen.new) (own_cells keys)
-        × S.Took sink.old sink.new (flat_map (subkey_rows (names_on above.now)) (nodes_of keys siblings.now)))
+        × S.Took sink.old sink.new (flat_map (subkey_rows (names_on above.now)) (nodes_of_siblings keys siblings.now)))
         IsNoFault }
     ensures covers { length seen.new ≡ length seen.old }
     ensures known { AreDescriptors image.now.bytes known.new }
@@ -198,7 +198,7 @@ fn walk_judged<S: KeySink>(
 ) -> Result<(), WalkError<S::Error>>
     ensures { (cells : Cells) → Shows image.now.bytes cells → (parts : KeyParts Row) (below : Keys Row) →
         KeyIsSound (splits minor) cells MOST_PATH_NAMES root parts below → MatchResult result
-        (λ _. S.Took sink.old sink.new (node_rows [] (entries_from parts below))) IsNoFault }
+        (λ _. S.Took sink.old sink.new (node_rows [] (entries_of_key parts below))) IsNoFault }
 {
     let mut seen = match flags_for(alloc, image.len()) {
         Ok(seen) => seen,

@@ -20,8 +20,8 @@ use Rattle.key_walk.specs.KeyPaths.{names_on}
 use Rattle.key_walk.specs.KeyRows.{NamedRow, node_rows, subkey_rows}
 use Rattle.key_walk.proofs.Rows.{next_rows, next_subkey}
 use Rattle.hive_walk.specs.declared.siblings.Sibling.{Sibling}
-use Rattle.hive_walk.specs.Siblings.{keyed_all, sibling_names, siblings_in}
-use Rattle.hive_walk.specs.Walks.{KeysAreSound, AreUnmarked, MarksOnly, cells_named, entries_from, entries_named, nodes_of}
+use Rattle.hive_walk.specs.Siblings.{offsets_by_name, sibling_names, siblings_in}
+use Rattle.hive_walk.specs.Walks.{KeysAreSound, AreUnmarked, MarksOnly, cells_named, entries_of_key, entries_named, nodes_of_siblings}
 use Rattle.hive_walk.proofs.Judged.{entries_rows}
 use Rattle.hive_walk.proofs.Walked.{subkeys_sound, whole_key, none_left, sibling_in, sibling_key, node_there, siblings_once, only_joined, still_unmarked, cells_of, cells_within, all_within, apart_before, got, many_nodes, on_match, memory_alone}
 use Rattle.hive_walk.proofs.walk.+walking.Goals as goal
@@ -58,7 +58,7 @@ walk_key-returns-clause-answers g t c = λ cells shows parts below sound unmarke
     let subkeys = subkeys_sound c.args.split cells c.args.levels c.args.at parts below sound in
     let ordered = c.in-Ok-siblings_at.ensures cells shows c.args.split c.args.levels below subkeys (sound.whole.listed ∙ sym first.0 ∙ sym c.deref.ensures.value) in
     let moved = subst (λ (s : List Sibling). IsPermutation (siblings_in below) s) (sym c.deref-2.ensures.value) ordered.0 in
-    let rises = subst (λ (s : List Sibling). T (is_sorted name_order (keyed_all s))) (sym c.deref-2.ensures.value) ordered.1 in
+    let rises = subst (λ (s : List Sibling). T (is_sorted name_order (offsets_by_name s))) (sym c.deref-2.ensures.value) ordered.1 in
     let others = still_unmarked (marks_of c.args.seen.now) (marks_of c.take_key.new.seen) parts.own (own_cells below) first.1 (λ cell i j. once_apart cell parts.own (own_cells below) sound.whole.once i j) (λ cell i. unmarked cell (in_back cell parts.own (own_cells below) i)) in
     on_match _ c.walk_keys.result (λ rest. (
       only_joined (marks_of c.args.seen.now) (marks_of c.take_key.new.seen) (marks_of c.walk_keys.new.seen) parts.own (own_cells below) first.1 rest.0,
@@ -70,7 +70,7 @@ walk_key-returns-clause-answers g t c = λ cells shows parts below sound unmarke
 pub walk_keys-returns-then-levels-eq0-clause-answers : goal.walk_keys-returns-then-levels-eq0-clause-answers
 walk_keys-returns-then-levels-eq0-clause-answers g t c = λ cells shows keys sound moved unmarked. (
   λ cell m. inl m,
-  subst (λ (s : List Sibling). g.S.KeySink.Took c.args.sink.now c.args.sink.now (flat_map (subkey_rows (names_on c.args.above.now)) (nodes_of keys s)))
+  subst (λ (s : List Sibling). g.S.KeySink.Took c.args.sink.now c.args.sink.now (flat_map (subkey_rows (names_on c.args.above.now)) (nodes_of_siblings keys s)))
       (sym (none_left c.args.split cells keys (subst (λ (n : ℕ). KeysAreSound c.args.split cells n keys) c.if-levels-eq0.true sound) c.args.siblings.now moved))
       (g.met.S.KeySink.took_none c.args.sink.now),
 )
@@ -103,9 +103,9 @@ walk_keys-loop-sibling-preserved g t c = record {
             (only_joined (marks_of c.args.seen.now) (marks_of c.loop-sibling.seen) (marks_of c.walk_key.new.seen) (cells_of keys (take i c.args.siblings.now)) (cells_named keys (folded s.name)) so_far.0
             (subst (λ (cs : List ℕ). MarksOnly (marks_of c.loop-sibling.seen) (marks_of c.walk_key.new.seen) cs) (sym its.5) here.0)),
         subst (λ (rows : List NamedRow). g.S.KeySink.Took c.args.sink.now c.walk_key.new.sink rows)
-            (next_subkey names (nodes_of keys c.args.siblings.now) i (entries_from its.0 its.1) its.0.row (ap Some (sym its.4) ∙ there) (entries_rows its.0 its.1 its.2.whole.named []))
+            (next_subkey names (nodes_of_siblings keys c.args.siblings.now) i (entries_of_key its.0 its.1) its.0.row (ap Some (sym its.4) ∙ there) (entries_rows its.0 its.1 its.2.whole.named []))
             (g.met.S.KeySink.took_more _ _ _ _ _ so_far.1
-            (subst (λ (n : List ℕ). g.S.KeySink.Took c.loop-sibling.sink c.walk_key.new.sink (node_rows (names ++ n ∷ []) (entries_from its.0 its.1))) (sym its.3) here.1)),
+            (subst (λ (n : List ℕ). g.S.KeySink.Took c.loop-sibling.sink c.walk_key.new.sink (node_rows (names ++ n ∷ []) (entries_of_key its.0 its.1))) (sym its.3) here.1)),
       );
 }
 
@@ -115,5 +115,5 @@ walk_keys-returns-clause-answers g t c = λ cells shows keys sound moved unmarke
     let many = many_nodes keys c.args.siblings.now in (
       λ cell m. elim (so_far.0 cell m) [ inl k ↦ inl k | inr i ↦ inr (all_within keys (take c.loop-sibling.sibling-index c.args.siblings.now) cell i) ],
       subst (λ (nodes : List (List ℕ × Entries)). g.S.KeySink.Took c.args.sink.now c.loop-sibling.sink (flat_map (subkey_rows (names_on c.args.above.now)) nodes))
-          (take_all c.loop-sibling.sibling-index (nodes_of keys c.args.siblings.now) (omega (arith, c.loop-sibling-test.false, many))) so_far.1,
+          (take_all c.loop-sibling.sibling-index (nodes_of_siblings keys c.args.siblings.now) (omega (arith, c.loop-sibling-test.false, many))) so_far.1,
     )

@@ -9,7 +9,7 @@ use Rattle.hive_load_parts.specs.Descriptors.{AreDescriptors}
 use Rattle.key_walk.specs.KeyPaths.{names_on}
 use Rattle.key_walk.specs.KeyRows.{subkey_rows}
 use Rattle.hive_walk.specs.Siblings.{siblings_in}
-use Rattle.hive_walk.specs.Walks.{KeysAreSound, AreUnmarked, MarksOnly, nodes_of}
+use Rattle.hive_walk.specs.Walks.{KeysAreSound, AreUnmarked, MarksOnly, nodes_of_siblings}
 use Rattle.hive_walk.proofs.Walked.{cells_of}
 use Rattle.hive_walk.proofs.walk.+walking.Given as goal
 
@@ -27,5 +27,5 @@ invariant-walk_keys-loop-sibling g l = record {
   took : (cells : Cells) → Shows l.image.bytes cells → (keys : Keys Row) → KeysAreSound l.split cells l.levels keys → IsPermutation (siblings_in keys) l.siblings →
       AreUnmarked (marks_of l.fn.seen) (own_cells keys) →
       MarksOnly (marks_of l.fn.seen) (marks_of l.seen) (cells_of keys (take l.sibling-index l.siblings))
-      × g.S.KeySink.Took l.fn.sink l.sink (flat_map (subkey_rows (names_on l.above)) (take l.sibling-index (nodes_of keys l.siblings)));
+      × g.S.KeySink.Took l.fn.sink l.sink (flat_map (subkey_rows (names_on l.above)) (take l.sibling-index (nodes_of_siblings keys l.siblings)));
 }
