@@ -3,7 +3,7 @@
 //! Each form is a [`KeySink`](key_walk::KeySink), so it prints the keys of a tree as well as the keys of a hive's image,
 //! and takes no memory. A registration file is UTF-16 or ASCII as a whole. So a first walk with a [`NameScan`] says
 //! which, and whether a file can hold the names at all; then come [`write_reg_header`] and a walk with a [`RegSink`].
-//! [`write_reg`] does both for hives in memory.
+//! [`write_reg`] does both for hives in memory, and [`write_reg_below`] for a part of one.
 //!
 //! A text is written in small pieces: whoever calls hands in a writer with a buffer.
 #![tactic(auto)]
@@ -18,6 +18,7 @@ mod moment;
 mod name_scan;
 mod reg_data;
 mod whole_file;
+mod reg_part;
 mod reg_sink;
 mod reg_value;
 mod tsv_sink;
@@ -28,5 +29,6 @@ pub use encoding::Encoding;
 pub use json_sink::JsonSink;
 pub use name_scan::NameScan;
 pub use whole_file::{ExportError, HiveKeys, write_reg};
+pub use reg_part::write_reg_below;
 pub use reg_sink::{RegSink, write_reg_header};
 pub use tsv_sink::TsvSink;
