@@ -5,7 +5,7 @@ ghost use Rattle.reg_file.specs.Files.{reg_file_of, lines_file, file_from, heade
 ghost use Rattle.reg_file.specs.Lines.{lines_left, file_lines};
 ghost use Rattle.reg_file.specs.Grammar.{IsFile, IsStopped, IsNoHeader};
 ghost use Rattle.reg_file.specs.declared.statement.NumberedStatement.{NumberedStatement};
-ghost use Rattle.reg_file.specs.Views.{bytes_left, StopsOrLess};
+ghost use Rattle.reg_file.specs.Views.{lines_of, left_of, GoesOnBy, StopsOrLess};
 
 use crate::blanks::{ends_line, skip_blanks, strip};
 use crate::fault::{Fault, FaultKind};
@@ -91,14 +91,16 @@ pub fn parse(alloc: Global, bytes: &[u8]) -> Result<RegFile, AllocError>
     // What is parsed, with a fault or without.
     ensures exact { IfOk result (λ file. file ≡ reg_file_of bytes.now) }
     // Without a fault the lines are a file with these statements.
-    ensures whole { IfOk result (λ file. file.fault ≡ None → (lines : List (List ℕ)) × (file_lines bytes.now ≡ map Some lines)
-        × IsFile lines file.statements) }
+    ensures whole { IfOk result (λ file. file.fault ≡ None →
+        (lines : List (List ℕ)) × (file_lines bytes.now ≡ map Some lines) × IsFile lines file.statements) }
     // A file with statements is parsed to them, without a fault.
-    ensures read { (lines : List (List ℕ)) (statements : List NumberedStatement) → file_lines bytes.now ≡ map Some lines →
-        IsFile lines statements → IfOk result (λ file. file ≡ record { statements = statements; fault = None }) }
+    ensures read { (lines : List (List ℕ)) (statements : List NumberedStatement) →
+        file_lines bytes.now ≡ map Some lines → IsFile lines statements →
+        IfOk result (λ file. file ≡ record { statements = statements; fault = None }) }
     // A fault stands behind entries with these statements, or in the first line.
     ensures fault { IfOk result (λ file. IfSome file.fault (λ fault.
-        IsStopped (file_lines bytes.now) file.statements fault ⊎ IsNoHeader (file_lines bytes.now) file.statements fault)) }
+        IsStopped (file_lines bytes.now) file.statements fault
+        ⊎ IsNoHeader (file_lines bytes.now) file.statements fault)) }
 {
     parse_lines(alloc, bytes)
 }
@@ -153,8 +155,8 @@ fn is_header(text: &[u8], line: &[u16]) -> bool
 
 // the statements of the lines behind the header
 fn read_statements(alloc: Global, lines: Lines, old: bool) -> Result<RegFile, AllocError>
-    requires { bytes_left (option_copied lines.rest) + 2 < 2 ^ 64 }
-    ensures { IfOk result (λ file. file ≡ file_from old false 2 None (lines_left lines.entry.encoding (option_copied lines.entry.rest))) }
+    requires { left_of lines + 2 < 2 ^ 64 }
+    ensures { IfOk result (λ file. file ≡ file_from old false 2 None (lines_of lines.entry)) }
 {
     let mut lines = lines;
     let mut statements = Statements::new(alloc);
@@ -195,9 +197,8 @@ fn next_turn(
     lines: &mut Lines,
     line: &mut Vec<u16>,
 ) -> Result<Turn, AllocError>
-    ensures turn { IfOk result (λ turn. file_from old has_key number item (lines_left lines.old.encoding (option_copied lines.old.rest))
-        ≡ after_turn (λ key pending. file_from old key (number + 1) pending (lines_left lines.new.encoding (option_copied lines.new.rest))) turn) }
-    ensures left { IfOk result (λ turn. StopsOrLess turn (bytes_left (option_copied lines.old.rest)) (bytes_left (option_copied lines.new.rest))) }
+    ensures turn { IfOk result (λ turn. GoesOnBy old has_key number item lines.old turn lines.new) }
+    ensures left { IfOk result (λ turn. StopsOrLess turn (left_of lines.old) (left_of lines.new)) }
 {
     match lines.next_line(line)? {
         NextLine::Text => take_line(alloc, old, has_key, number, item, line),

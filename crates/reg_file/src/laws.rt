@@ -12,15 +12,15 @@ ghost use Rattle.reg_file.specs.declared.fault.Fault.{Fault};
 /// without a fault are a file by the grammar. If there is a fault, the statements are those of the entries before it,
 /// and the fault is one of what follows them.
 pub fn files_are_parsed()
-    ensures read { (lines : List (List ℕ)) (statements : List NumberedStatement) → IsFile lines statements →
-        lines_file (map Some lines) ≡ record { statements = statements; fault = None } }
+    ensures read { (lines : List (List ℕ)) (statements : List NumberedStatement) →
+        IsFile lines statements → lines_file (map Some lines) ≡ record { statements = statements; fault = None } }
     ensures parsed { (lines : List (Option (List ℕ))) (statements : List NumberedStatement) →
         lines_file lines ≡ record { statements = statements; fault = None } →
         (all : List (List ℕ)) × (lines ≡ map Some all) × IsFile all statements }
-    ensures one { (lines : List (List ℕ)) (statements others : List NumberedStatement) → IsFile lines statements →
-        IsFile lines others → statements ≡ others }
-    ensures stopped { (lines : List (Option (List ℕ))) (statements : List NumberedStatement) (fault : Fault) →
-        lines ≢ [] → lines_file lines ≡ record { statements = statements; fault = Some fault } →
+    ensures one { (lines : List (List ℕ)) (statements others : List NumberedStatement) →
+        IsFile lines statements → IsFile lines others → statements ≡ others }
+    ensures stopped { (lines : List (Option (List ℕ))) (statements : List NumberedStatement)
+        (fault : Fault) → lines ≢ [] → lines_file lines ≡ record { statements = statements; fault = Some fault } →
         IsStopped lines statements fault ⊎ IsNoHeader lines statements fault }
 {}
 
@@ -28,11 +28,15 @@ pub fn files_are_parsed()
 /// byte more at the end makes the last line none. Lines stand between line feeds: of those that were written with a
 /// carriage return and a line feed behind each, the carriage return is left, and an empty line follows them.
 pub fn text_is_read()
-    ensures ascii { (bytes : List ℕ) → AllByRecursion (λ byte. byte < 128) bytes → file_lines bytes ≡ unit_lines bytes }
+    ensures ascii { (bytes : List ℕ) → AllByRecursion (λ byte. byte < 128) bytes →
+        file_lines bytes ≡ unit_lines bytes }
     ensures wide { (units : List ℕ) → AllByRecursion (λ unit. unit < 2 ^ 16) units →
         file_lines (255 ∷ 254 ∷ flat_map (to_le_bytes w16) units) ≡ unit_lines units }
     ensures odd { (units : List ℕ) (last : ℕ) → AllByRecursion (λ unit. unit < 2 ^ 16) units →
-        file_lines (255 ∷ 254 ∷ (flat_map (to_le_bytes w16) units ++ last ∷ [])) ≡ last_is_none (unit_lines units) }
-    ensures crlf { (lines : List (List ℕ)) → AllByRecursion (λ line. All (λ unit. (unit == 10) ≡ false) line) lines →
-        unit_lines (flat_map (λ line. line ++ 13 ∷ 10 ∷ []) lines) ≡ map Some (map (λ line. line ++ 13 ∷ []) lines ++ [] ∷ []) }
+        file_lines (255 ∷ 254 ∷ (flat_map (to_le_bytes w16) units ++ last ∷ []))
+        ≡ last_is_none (unit_lines units) }
+    ensures crlf { (lines : List (List ℕ)) →
+        AllByRecursion (λ line. All (λ unit. (unit == 10) ≡ false) line) lines →
+        unit_lines (flat_map (λ line. line ++ 13 ∷ 10 ∷ []) lines)
+        ≡ map Some (map (λ line. line ++ 13 ∷ []) lines ++ [] ∷ []) }
 {}

@@ -48,7 +48,8 @@ fn scan_list(
     bytes: ValueData,
     line: &[u16],
 ) -> Result<Scan, AllocError>
-    ensures { IfOk result (λ scan. scan ≡ bytes_scan old name kind line.now (onto_list bytes (list_at Before line.now))) }
+    ensures { IfOk result (λ scan. scan
+        ≡ bytes_scan old name kind line.now (onto_list bytes (list_at Before line.now))) }
 {
     let mut bytes = bytes;
     let end = read_list(&mut bytes, line)?;

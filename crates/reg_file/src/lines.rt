@@ -4,7 +4,7 @@ ghost use Rattle.std.specs.Option.{option_copied};
 ghost use Rattle.std.specs.List.{slice_split, position};
 ghost use Rattle.std.specs.Char.Escape.{encode_utf16};
 ghost use Rattle.reg_file.specs.Lines.{lines_left, file_lines, unit_of, utf16_lines, utf8_line, onto_lines};
-ghost use Rattle.reg_file.specs.Views.{LineGives, bytes_left};
+ghost use Rattle.reg_file.specs.Views.{bytes_left, lines_of, left_of, ReadsLine, LeavesLess, ReadsFirst};
 
 use std::alloc::{AllocError, Global};
 
@@ -40,8 +40,8 @@ pub(crate) enum NextLine {
 impl<'a> Lines<'a> {
     /// The lines of a file: UTF-16 behind its mark, else UTF-8, behind its mark if that is there.
     pub(crate) fn new(bytes: &'a [u8]) -> Lines<'a>
-        ensures lines { lines_left result.encoding (option_copied result.rest) ≡ file_lines bytes.now }
-        ensures left { bytes_left (option_copied result.rest) ≤ length bytes.now + 1 }
+        ensures lines { lines_of result ≡ file_lines bytes.now }
+        ensures left { left_of result ≤ length bytes.now + 1 }
     {
         if bytes.starts_with(&[0xff, 0xfe]) {
             Lines {
@@ -63,11 +63,8 @@ impl<'a> Lines<'a> {
 
     /// Reads the next line in place of the one in `line`.
     pub(crate) fn next_line(&mut self, line: &mut Vec<u16>) -> Result<NextLine, AllocError>
-        ensures line { IfOk result (λ next. LineGives next
-            (lines_left self.old.encoding (option_copied self.old.rest)) line.new.items
-            (lines_left self.new.encoding (option_copied self.new.rest))) }
-        ensures left { IfOk result (λ next. ((next ≡ NextLine.End) × (bytes_left (option_copied self.new.rest) ≤ bytes_left (option_copied self.old.rest)))
-            ⊎ (bytes_left (option_copied self.new.rest) + 1 ≤ bytes_left (option_copied self.old.rest))) }
+        ensures line { IfOk result (λ next. ReadsLine self.old next line.new.items self.new) }
+        ensures left { IfOk result (λ next. LeavesLess self.old next self.new) }
     {
         line.clear();
         let Some(bytes) = self.rest else {
@@ -88,7 +85,7 @@ fn read_utf8<'a>(
     bytes: &'a [u8],
 ) -> Result<(NextLine, Option<&'a [u8]>), AllocError>
     requires { line.old.items ≡ [] }
-    ensures line { IfOk result (λ read. LineGives read.0 (lines_left Encoding.Utf8 (Some bytes.now)) line.new.items (lines_left Encoding.Utf8 (option_copied read.1))) }
+    ensures line { IfOk result (λ read. ReadsFirst Encoding.Utf8 bytes.now read line.new.items) }
     ensures left { IfOk result (λ read. bytes_left (option_copied read.1) ≤ length bytes.now) }
 {
     let (first, rest) = first_line(bytes);
@@ -137,7 +134,7 @@ fn read_utf16<'a>(
     bytes: &'a [u8],
 ) -> Result<(NextLine, Option<&'a [u8]>), AllocError>
     requires { line.old.items ≡ [] }
-    ensures line { IfOk result (λ read. LineGives read.0 (lines_left Encoding.Utf16 (Some bytes.now)) line.new.items (lines_left Encoding.Utf16 (option_copied read.1))) }
+    ensures line { IfOk result (λ read. ReadsFirst Encoding.Utf16 bytes.now read line.new.items) }
     ensures left { IfOk result (λ read. bytes_left (option_copied read.1) ≤ length bytes.now) }
 {
     let mut rest = bytes;

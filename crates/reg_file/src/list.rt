@@ -32,7 +32,8 @@ pub(crate) fn read_first(bytes: &mut ValueData, line: &[u16]) -> Result<ListEnd,
 
 /// Adds the bytes of a line of a list to those before it.
 pub(crate) fn read_list(bytes: &mut ValueData, line: &[u16]) -> Result<ListEnd, AllocError>
-    ensures { IfOk result (λ end. list_view end bytes.new ≡ onto_list bytes.old (list_at Before line.now)) }
+    ensures { IfOk result (λ end. list_view end bytes.new
+        ≡ onto_list bytes.old (list_at Before line.now)) }
 {
     let mut rest = line;
     while let Some((unit, others)) = rest.split_first() {

@@ -22,7 +22,8 @@ pub(crate) fn read_quote<'a>(
     text: &mut Utf16Text,
     line: &'a [u16],
 ) -> Result<QuoteEnd<'a>, AllocError>
-    ensures { IfOk result (λ end. quote_view end text.new ≡ onto_quote text.old (quote_at false line.now)) }
+    ensures { IfOk result (λ end. quote_view end text.new
+        ≡ onto_quote text.old (quote_at false line.now)) }
 {
     let mut rest = line;
     let mut escaped = false;

@@ -90,7 +90,8 @@ fn stop(line: u64, kind: FaultKind) -> Turn
 
 /// What a line does that is no text.
 pub(crate) fn take_no_text(number: u64, item: Option<Item>) -> Turn
-    ensures { result ≡ Turn.Stop (Some (record { line = first_of number item; kind = FaultKind.NotText })) }
+    ensures { result
+        ≡ Turn.Stop (Some (record { line = first_of number item; kind = FaultKind.NotText })) }
 {
     let line = match item {
         None => number,

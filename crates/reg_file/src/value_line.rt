@@ -90,7 +90,8 @@ pub(crate) fn scan_text(
 
 // a text that its closing quote ended
 fn complete_text(alloc: Global, name: Utf16Text, text: Utf16Text) -> Result<Scan, AllocError>
-    ensures { IfOk result (λ scan. scan ≡ Scan.Complete (Statement.SetValue name TEXT_KIND (text_data text))) }
+    ensures { IfOk result (λ scan. scan
+        ≡ Scan.Complete (Statement.SetValue name TEXT_KIND (text_data text))) }
 {
     let bytes = ValueData::of_text(alloc, text.units())?;
     let kind = TEXT_KIND;
