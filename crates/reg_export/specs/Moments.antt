@@ -14,10 +14,10 @@ nanos_of time = (pos time -ℤ pos 116_444_736_000_000_000) *ℤ pos 100
 abbrev pub IsUtcText : ℕ → List ℕ → Type 0
 IsUtcText time text = (dt : DateTime) × (civil_nanos dt ≡ nanos_of time) × (text ≡ datetime_text false 84 (Some 7) dt ++ codes "Z")
 
--- the field of a FILETIME: its text; nothing if the moment is past the last one that a timestamp holds
+-- the field of a FILETIME: its text, if a timestamp holds the moment; else nothing
 abbrev pub IsUtcField : ℕ → List ℕ → Type 0
 IsUtcField time field =
-    ((text : List ℕ) × IsUtcText time text × (field ≡ codes ",\"utc\":\"" ++ text ++ codes "\"")) ⊎ ((¬ IsTimestampNanos (nanos_of time)) × (field ≡ []))
+    ((text : List ℕ) × IsTimestampNanos (nanos_of time) × IsUtcText time text × (field ≡ codes ",\"utc\":\"" ++ text ++ codes "\"")) ⊎ ((¬ IsTimestampNanos (nanos_of time)) × (field ≡ []))
 
 -- the field of a moment's text, if there is one
 abbrev pub utc_field : Option (Bor (List ℕ)) → List ℕ

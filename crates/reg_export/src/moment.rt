@@ -17,7 +17,7 @@ const LONGEST_TEXT: usize = 33;
 /// 9999-12-30T22:00:00.9999999Z, the last moment that a `Timestamp` holds.
 pub(crate) fn utc_text(time: u64) -> Option<ArrayString<LONGEST_TEXT>>
     ensures { MatchOption result (¬ IsTimestampNanos (nanos_of time))
-        (λ text. IsUtcText time text.bytes) }
+        (λ text. IsTimestampNanos (nanos_of time) × IsUtcText time text.bytes) }
 {
     match Timestamp::from_nanosecond((i128::from(time) - UNIX_EPOCH) * 100) {
         Ok(moment) => Some(
