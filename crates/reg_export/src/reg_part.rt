@@ -14,8 +14,8 @@ ghost use Rattle.reg_export.specs.Hives.{keys_below};
 
 use crate::encoding::Encoding;
 use crate::name_scan::NameScan;
-use crate::whole_file::{ExportError, HiveKeys};
 use crate::reg_sink::{RegSink, write_reg_header};
+use crate::whole_file::{ExportError, HiveKeys};
 use key_walk::walk_below;
 use reg_names::Name;
 use std::io;
