@@ -1,0 +1,19 @@
+//! Prints the keys and values of a store or of a hive's file: as a registration file, as lines of JSON, or as lines of
+//! fields between tabs.
+//!
+//! [`export_store`] prints the trees that an opening of a store finds, and writes nothing to its disk. [`export_hive`]
+//! prints a clean hive's file key by key, whatever it weighs. Either prints all, or one key with all below it. If
+//! something is refused, its line alone is printed.
+#![tactic(auto)]
+
+mod hive;
+mod part_sink;
+mod report;
+mod request;
+mod store;
+mod trees;
+
+pub use hive::export_hive;
+pub use report::ExportError;
+pub use request::{Form, Request, Selection};
+pub use store::export_store;
