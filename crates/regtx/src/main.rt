@@ -8,23 +8,34 @@
 //! at wrong words.
 #![tactic(auto)]
 
+mod about;
+mod apply_command;
 mod command_error;
+mod export_command;
 mod files;
 mod hint;
+mod lock_wait;
 mod script_commands;
 mod store_commands;
 mod store_disk;
+mod tasks;
 mod terminal;
+mod usages;
 mod words;
 
+use crate::about::{print_about, print_usages};
+use crate::apply_command::apply_file;
 use crate::command_error::CommandError;
+use crate::export_command::export;
 use crate::files::{Source, Target, Trouble, last_error, opened};
 use crate::hint::Hint;
+use crate::lock_wait::{LockWait, take_wait};
 use crate::script_commands::{InMemory, play_script, run_script};
 use crate::store_commands::{import_store, new_store};
 use crate::store_disk::StoreDisk;
+use crate::tasks::Task;
 use crate::terminal::TerminalOutput;
-use crate::words::{Task, parse_task};
+use crate::words::parse_task;
 use file_disk::{FileDisk, LockError, Unknown};
 use hive_dump::{DumpError, dump};
 use script_syntax::Status;
@@ -42,10 +53,19 @@ fn main(rt: HostRuntime) -> ExitCode {
     let output = TerminalOutput::to(&rt.stderr(), &rt.stdout());
     let alloc = rt.alloc();
     let status = match words_given(&rt, alloc) {
-        Ok(words) => answer(
+        Ok((wait, words)) => answer(
             &rt,
             output,
-            |folder| FileDisk::open_locked(&rt, alloc, folder),
+            |folder| wait.open(
+                &rt,
+                folder,
+                |folder| FileDisk::open_locked(&rt, alloc, folder),
+            ),
+            |folder| wait.open(
+                &rt,
+                folder,
+                |folder| FileDisk::open_read_only(&rt, alloc, folder),
+            ),
             &words,
         ),
         Err(command_error) => print_error(&rt, output, None, &command_error),
@@ -59,10 +79,12 @@ fn answer<
     R: Files<File = File> + Print + Eprint + Clock + AllocGlobal + Threads + Wait + Sync,
     D: StoreDisk + Drop + Send,
     F: FnOnce(&'a str) -> Result<D, LockError> + Drop,
->(rt: &'a R, output: TerminalOutput, opener: F, words: &'a [String]) -> Status
-    requires { F.IsAlwaysCallable opener }
+    G: FnOnce(&'a str) -> Result<D, LockError> + Drop,
+>(rt: &'a R, output: TerminalOutput, opener: F, reader: G, words: &'a [String]) -> Status
+    requires opens { F.IsAlwaysCallable opener }
+    requires reads { G.IsAlwaysCallable reader }
 {
-    match run(rt, output, opener, words) {
+    match run(rt, output, opener, reader, words) {
         Ok(status) => status,
         Err(command_error) => print_error(rt, output, words.get(1), &command_error),
     }
@@ -74,13 +96,16 @@ fn run<
     R: Files<File = File> + Print + Eprint + Clock + AllocGlobal + Threads + Wait + Sync,
     D: StoreDisk + Drop + Send,
     F: FnOnce(&'a str) -> Result<D, LockError> + Drop,
+    G: FnOnce(&'a str) -> Result<D, LockError> + Drop,
 >(
     rt: &'a R,
     output: TerminalOutput,
     opener: F,
+    reader: G,
     words: &'a [String],
 ) -> Result<Status, CommandError<'a>>
-    requires { F.IsAlwaysCallable opener }
+    requires opens { F.IsAlwaysCallable opener }
+    requires reads { G.IsAlwaysCallable reader }
 {
     match parse_task(rt.alloc(), words)? {
         Task::Play { script } => play_script(rt, output, InMemory::Play, script),
@@ -94,6 +119,18 @@ fn run<
             sources,
         } => import_store(rt, output, folder, id, &sources),
         Task::Run { folder, script } => run_script(rt, output, opener, folder, script),
+        Task::Apply {
+            folder,
+            file,
+            words,
+        } => apply_file(rt, output, opener, folder, file, &words),
+        Task::Export {
+            source,
+            form,
+            words,
+        } => export(rt, output, reader, source, form, &words),
+        Task::About => print_about(rt, output),
+        Task::Usage { word } => print_usages(rt, output, word),
     }
 }
 
@@ -135,14 +172,15 @@ fn dump_file<'a, R: Files + Print + Eprint + AllocGlobal>(
     }
 }
 
-// the words of the command line
+// the words of the command line, and how long the command waits for a store
 fn words_given<'a, R: Env + AllocGlobal>(
     rt: &R,
     alloc: Global,
-) -> Result<Vec<String>, CommandError<'a>> {
+) -> Result<(LockWait, Vec<String>), CommandError<'a>> {
     let mut words = Vec::new(alloc);
     for word in env::args(rt)? {
         words.push(word)?;
     }
-    Ok(words)
+    let wait = take_wait(&mut words)?;
+    Ok((wait, words))
 }

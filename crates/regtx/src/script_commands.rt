@@ -110,8 +110,8 @@ pub fn run_script<
     Ok(output.status(rt, ran))
 }
 
-// says what the system refused of a store, or else, if a refusal was printed, which part of the store is missing
-fn hint_at<R: Eprint + AllocGlobal, D: StoreDisk>(
+/// Says what the system refused of a store, or else, if a refusal was printed, which part of the store is missing
+pub fn hint_at<R: Eprint + AllocGlobal, D: StoreDisk>(
     rt: &R,
     output: TerminalOutput,
     folder: &str,
@@ -125,8 +125,11 @@ fn hint_at<R: Eprint + AllocGlobal, D: StoreDisk>(
     }
 }
 
-// the files of the store in a folder, as a disk, if it could be opened
-fn store_in<'a, D>(opened: Result<D, LockError>, folder: &'a str) -> Result<D, CommandError<'a>> {
+/// The files of the store in a folder, as a disk, if it could be opened.
+pub fn store_in<'a, D>(
+    opened: Result<D, LockError>,
+    folder: &'a str,
+) -> Result<D, CommandError<'a>> {
     match opened {
         Ok(disk) => Ok(disk),
         Err(lock_error) => match Hint::of_lock_error(folder, &lock_error) {

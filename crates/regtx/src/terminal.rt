@@ -1,6 +1,6 @@
 //! What a terminal shows beside the replies: how far long work has come, and why something can't be done.
 use crate::hint::Hint;
-use crate::words::{USAGES, Usage};
+use crate::usages::{USAGES, Usage};
 use progress_line::{ProgressLine, Work, WorkStage};
 use script_syntax::Status;
 use std::fs;

@@ -1,135 +1,14 @@
 //! The words of the command line: one level of sub-commands, with positional arguments alone.
-ghost use Rattle.std.specs.Prelude.{◌≤◌, length};
-ghost use Rattle.refusals.specs.declared.limits.TheConstants.{MOST_HIVES};
 
 use crate::command_error::CommandError;
+use crate::tasks::{ExportForm, HiveCount, Sources, Task};
 use clap::{Arg, ArgAction, ArgMatches, Command};
 use refusals::limits::MOST_HIVES;
 use std::alloc::{AllocError, Global};
-use std::fmt;
 use uuid::Uuid;
 
-/// What the words of the command line ask for.
-#[derive(Drop)]
-pub enum Task<'a> {
-    /// `play SCRIPT`: a script is to be played.
-    Play {
-        /// The path of the script.
-        script: &'a str,
-    },
-    /// `lab SCRIPT`: a script is to be run in the laboratory.
-    Lab {
-        /// The path of the script.
-        script: &'a str,
-    },
-    /// `sweep SCRIPT`: power cuts are to be swept over the run of a script.
-    Sweep {
-        /// The path of the script.
-        script: &'a str,
-    },
-    /// `run DIR SCRIPT`: a script is to be run over a store.
-    Run {
-        /// The folder of the store.
-        folder: &'a str,
-        /// The path of the script.
-        script: &'a str,
-    },
-    /// `dump FILE`: a hive is to be printed.
-    Dump {
-        /// The path of the hive's file.
-        file: &'a str,
-    },
-    /// `new DIR ID COUNT`: a store of empty hives is to be made.
-    New {
-        /// The folder of the store.
-        folder: &'a str,
-        /// The store's id.
-        id: Uuid,
-        /// How many hives it is to have.
-        count: HiveCount,
-    },
-    /// `import DIR ID FILE..`: a store of the hives in files is to be made.
-    Import {
-        /// The folder of the store.
-        folder: &'a str,
-        /// The store's id.
-        id: Uuid,
-        /// The paths of the hives' files.
-        sources: Sources<'a>,
-    },
-}
-
-/// How many hives a store is to have, 1 to 16.
-#[derive(Clone, Copy)]
-pub struct HiveCount {
-    /// The number.
-    pub number: usize,
-    ghost some: { 1 ≤ number },
-    ghost few: { number ≤ MOST_HIVES },
-}
-
-/// The 1 to 16 files of the hives of a store that is to be made, in the order of the hives' numbers.
-#[derive(Drop)]
-pub struct Sources<'a> {
-    /// The paths of their files.
-    pub paths: Vec<&'a str>,
-    ghost some: { 1 ≤ length paths.items },
-    ghost few: { length paths.items ≤ MOST_HIVES },
-}
-
-/// How a command is used.
-pub struct Usage {
-    /// The command's name.
-    pub name: &'static str,
-    // it with the words after it, and what it does
-    call: &'static str,
-    does: &'static str,
-}
-
-impl fmt::Display for Usage {
-    fn fmt<W: fmt::Write>(&self, f: &mut fmt::Formatter<W>) -> fmt::Result {
-        write!(f, "usage: regtx {:20} {}", self.call, self.does)
-    }
-}
-
-/// How each command is used.
-pub const USAGES: [Usage; 7] = [
-    Usage {
-        name: "new",
-        call: "new DIR ID COUNT",
-        does: "makes a store of COUNT (1 to 16) empty hives in a folder; ID is a UUID",
-    },
-    Usage {
-        name: "import",
-        call: "import DIR ID FILE..",
-        does: "makes a store of the hives in files",
-    },
-    Usage {
-        name: "run",
-        call: "run DIR SCRIPT",
-        does: "runs a script on a store, one reply per line",
-    },
-    Usage {
-        name: "dump",
-        call: "dump FILE",
-        does: "prints a clean hive: its keys and values, a line each",
-    },
-    Usage {
-        name: "play",
-        call: "play SCRIPT",
-        does: "plays a script on a store in memory",
-    },
-    Usage {
-        name: "lab",
-        call: "lab SCRIPT",
-        does: "the same in single steps, with power cuts",
-    },
-    Usage {
-        name: "sweep",
-        call: "sweep SCRIPT",
-        does: "cuts the power after each device call of a script",
-    },
-];
+/// The most words that name prefixes, a key or a unit of work.
+const MOST_WORDS: usize = 64;
 
 /// What the words ask for. Any other words are wrong.
 pub fn parse_task<'a>(alloc: Global, words: &'a [String]) -> Result<Task<'a>, CommandError<'a>> {
@@ -161,7 +40,55 @@ pub fn parse_task<'a>(alloc: Global, words: &'a [String]) -> Result<Task<'a>, Co
             id: id(given)?,
             sources: sources_named(alloc, given)?,
         }),
+        Some((name, given)) => parse_file_task(alloc, name, given),
         _ => Err(CommandError::WrongWords),
+    }
+}
+
+// what the words of a command for registration files ask for, or of one for the program itself
+fn parse_file_task<'a>(
+    alloc: Global,
+    name: &str,
+    given: &ArgMatches<'a>,
+) -> Result<Task<'a>, CommandError<'a>> {
+    match name {
+        "apply" => Ok(Task::Apply {
+            folder: text(given, "DIR")?,
+            file: text(given, "FILE")?,
+            words: words_after(alloc, given)?,
+        }),
+        "export" => export_task(alloc, ExportForm::Reg, given),
+        "export-json" => export_task(alloc, ExportForm::Json, given),
+        "export-tsv" => export_task(alloc, ExportForm::Tsv, given),
+        "about" => Ok(Task::About),
+        "usage" => Ok(Task::Usage {
+            word: given.get_str("COMMAND"),
+        }),
+        _ => Err(CommandError::WrongWords),
+    }
+}
+
+// what the words of an export ask for
+fn export_task<'a>(
+    alloc: Global,
+    form: ExportForm,
+    given: &ArgMatches<'a>,
+) -> Result<Task<'a>, CommandError<'a>> {
+    Ok(Task::Export {
+        source: text(given, "SOURCE")?,
+        form,
+        words: words_after(alloc, given)?,
+    })
+}
+
+// the words that may follow
+fn words_after<'a>(
+    alloc: Global,
+    given: &ArgMatches<'a>,
+) -> Result<Vec<&'a str>, CommandError<'a>> {
+    match given.get_strs("WORD") {
+        Some(words) => Ok(words.to_vec(alloc)?),
+        None => Ok(Vec::new(alloc)),
     }
 }
 
@@ -175,7 +102,43 @@ fn command<'a>(alloc: Global) -> Result<Command<'a>, AllocError> {
     let all = with_one(alloc, all, "dump", "FILE")?;
     let all = with_run(alloc, all)?;
     let all = with_new(alloc, all)?;
-    with_import(alloc, all)
+    let all = with_import(alloc, all)?;
+    let all = with_apply(alloc, all)?;
+    let all = with_export(alloc, all, "export")?;
+    let all = with_export(alloc, all, "export-json")?;
+    let all = with_export(alloc, all, "export-tsv")?;
+    let all = with_usage(alloc, all)?;
+    all.subcommand(Command::new(alloc, "about"))
+}
+
+// the same, and `apply`
+fn with_apply<'a>(alloc: Global, all: Command<'a>) -> Result<Command<'a>, AllocError> {
+    let apply = Command::new(alloc, "apply").arg(one(alloc, "DIR"))?;
+    let apply = apply.arg(one(alloc, "FILE"))?;
+    all.subcommand(apply.arg(others(alloc))?)
+}
+
+// the same, and an export of this name
+fn with_export<'a>(
+    alloc: Global,
+    all: Command<'a>,
+    name: &'a str,
+) -> Result<Command<'a>, AllocError> {
+    let export = Command::new(alloc, name).arg(one(alloc, "SOURCE"))?;
+    all.subcommand(export.arg(others(alloc))?)
+}
+
+// the same, and `usage`
+fn with_usage<'a>(alloc: Global, all: Command<'a>) -> Result<Command<'a>, AllocError> {
+    let word = Arg::new(alloc, "COMMAND").action(ArgAction::Set);
+    all.subcommand(Command::new(alloc, "usage").arg(word)?)
+}
+
+// words that may follow
+fn others<'a>(alloc: Global) -> Arg<'a> {
+    Arg::new(alloc, "WORD")
+        .num_args(0..=MOST_WORDS)
+        .action(ArgAction::Set)
 }
 
 // the same, and a command that takes one word

@@ -1,0 +1,51 @@
+//! What the words `about` and `usage` print.
+use crate::command_error::CommandError;
+use crate::terminal::TerminalOutput;
+use crate::usages::USAGES;
+use script_syntax::Status;
+use std::io::{self, BufWriter, Eprint, Write};
+
+/// The version of the program.
+const VERSION: &str = "0.9.0";
+
+/// Prints which program this is.
+pub fn print_about<'a, R: Print + Eprint + AllocGlobal>(
+    rt: &R,
+    output: TerminalOutput,
+) -> Result<Status, CommandError<'a>> {
+    let mut writer = BufWriter::new(rt.alloc(), io::writer(rt))?;
+    let told = write_about(&mut writer);
+    Ok(output.status(rt, told))
+}
+
+/// Prints how the command of this name is used, or each of them. A word that is no command's name is wrong.
+pub fn print_usages<'a, R: Print + Eprint + AllocGlobal>(
+    rt: &R,
+    output: TerminalOutput,
+    name: Option<&str>,
+) -> Result<Status, CommandError<'a>> {
+    if let Some(name) = name {
+        if !USAGES.iter().any(|usage| usage.name == name) {
+            return Err(CommandError::WrongWords);
+        }
+    }
+    let mut writer = BufWriter::new(rt.alloc(), io::writer(rt))?;
+    let told = write_usages(&mut writer, name);
+    Ok(output.status(rt, told))
+}
+
+fn write_about<W: Write>(writer: &mut W) -> io::Result<Status> {
+    writeln!(writer, "regtx {VERSION}")?;
+    writer.flush()?;
+    Ok(Status::Clean)
+}
+
+fn write_usages<W: Write>(writer: &mut W, name: Option<&str>) -> io::Result<Status> {
+    for usage in &USAGES {
+        if name.is_none() || name == Some(usage.name) {
+            writeln!(writer, "{usage}")?;
+        }
+    }
+    writer.flush()?;
+    Ok(Status::Clean)
+}

@@ -1,0 +1,69 @@
+//! The word `wait`: how long a command waits for a store that another program has.
+use crate::command_error::CommandError;
+use file_disk::LockError;
+use std::time::{Clock, Duration};
+
+/// How long a wait lasts between two tries, in milliseconds.
+const PAUSE: u64 = 50;
+
+/// The most seconds that a command waits: a day.
+const MOST_SECONDS: u64 = 86_400;
+
+/// How often a command tries again to open a store that another program has.
+#[derive(Clone, Copy)]
+pub struct LockWait {
+    tries: u64,
+}
+
+impl LockWait {
+    /// It doesn't try again.
+    pub fn none() -> LockWait {
+        LockWait { tries: 0 }
+    }
+
+    /// Opens a store by this, and again after a pause if another program has it.
+    pub fn open<'a, R: Clock, D: Drop, F: Fn(&'a str) -> Result<D, LockError>>(
+        self,
+        rt: &R,
+        folder: &'a str,
+        opener: F,
+    ) -> Result<D, LockError>
+        requires { F.IsAlwaysCallable opener }
+    {
+        for _ in 0..self.tries {
+            match opener(folder) {
+                Err(LockError::InUse) => std::thread::sleep(rt, Duration::from_millis(PAUSE)),
+                opened => return opened,
+            }
+        }
+        opener(folder)
+    }
+}
+
+/// Takes `wait SECONDS` out of the words before the command, if it stands there. Seconds are decimal digits, at most a
+/// day.
+pub fn take_wait<'a>(words: &mut Vec<String>) -> Result<LockWait, CommandError<'a>> {
+    if words.get(1).is_none_or(|word| word.as_str() != "wait") {
+        return Ok(LockWait::none());
+    }
+    let Some(word) = words.get(2) else {
+        return Err(CommandError::WrongWords);
+    };
+    let seconds = seconds_of(word).ok_or(CommandError::WrongWords)?;
+    words.remove(1);
+    words.remove(1);
+    Ok(LockWait {
+        tries: seconds * (1_000 / PAUSE),
+    })
+}
+
+// a number of seconds; a sign isn't allowed
+fn seconds_of(word: &str) -> Option<u64> {
+    if !word.as_bytes().iter().all(|byte| byte.is_ascii_digit()) {
+        return None;
+    }
+    match word.parse::<u64>() {
+        Ok(seconds) if seconds <= MOST_SECONDS => Some(seconds),
+        _ => None,
+    }
+}

@@ -1,0 +1,109 @@
+//! What the words of the command line ask for.
+ghost use Rattle.std.specs.Prelude.{◌≤◌, length};
+ghost use Rattle.refusals.specs.declared.limits.TheConstants.{MOST_HIVES};
+
+use uuid::Uuid;
+
+/// What the words of the command line ask for.
+#[derive(Drop)]
+pub enum Task<'a> {
+    /// `play SCRIPT`: a script is to be played.
+    Play {
+        /// The path of the script.
+        script: &'a str,
+    },
+    /// `lab SCRIPT`: a script is to be run in the laboratory.
+    Lab {
+        /// The path of the script.
+        script: &'a str,
+    },
+    /// `sweep SCRIPT`: power cuts are to be swept over the run of a script.
+    Sweep {
+        /// The path of the script.
+        script: &'a str,
+    },
+    /// `run DIR SCRIPT`: a script is to be run over a store.
+    Run {
+        /// The folder of the store.
+        folder: &'a str,
+        /// The path of the script.
+        script: &'a str,
+    },
+    /// `dump FILE`: a hive is to be printed.
+    Dump {
+        /// The path of the hive's file.
+        file: &'a str,
+    },
+    /// `new DIR ID COUNT`: a store of empty hives is to be made.
+    New {
+        /// The folder of the store.
+        folder: &'a str,
+        /// The store's id.
+        id: Uuid,
+        /// How many hives it is to have.
+        count: HiveCount,
+    },
+    /// `apply DIR FILE [PREFIX=HIVE ..] [ID]`: a registration file is to be applied to a store.
+    Apply {
+        /// The folder of the store.
+        folder: &'a str,
+        /// The path of the registration file.
+        file: &'a str,
+        /// The words after it.
+        words: Vec<&'a str>,
+    },
+    /// `export SOURCE [HIVE:PATH] [PREFIX=HIVE ..]`, or in another form: keys and values are to be printed.
+    Export {
+        /// The folder of a store, or the path of a hive's file.
+        source: &'a str,
+        /// How they are printed.
+        form: ExportForm,
+        /// The words after it.
+        words: Vec<&'a str>,
+    },
+    /// `about`: what the program is.
+    About,
+    /// `usage [WORD]`: how a command is used, or each of them.
+    Usage {
+        /// The command's name.
+        word: Option<&'a str>,
+    },
+    /// `import DIR ID FILE..`: a store of the hives in files is to be made.
+    Import {
+        /// The folder of the store.
+        folder: &'a str,
+        /// The store's id.
+        id: Uuid,
+        /// The paths of the hives' files.
+        sources: Sources<'a>,
+    },
+}
+
+/// How many hives a store is to have, 1 to 16.
+#[derive(Clone, Copy)]
+pub struct HiveCount {
+    /// The number.
+    pub number: usize,
+    ghost some: { 1 ≤ number },
+    ghost few: { number ≤ MOST_HIVES },
+}
+
+/// The 1 to 16 files of the hives of a store that is to be made, in the order of the hives' numbers.
+#[derive(Drop)]
+pub struct Sources<'a> {
+    /// The paths of their files.
+    pub paths: Vec<&'a str>,
+    ghost some: { 1 ≤ length paths.items },
+    ghost few: { length paths.items ≤ MOST_HIVES },
+}
+
+/// How keys and values are printed.
+#[derive(Clone, Copy, Debug, PartialEq, Eq)]
+pub enum ExportForm {
+    /// `export`: a registration file.
+    Reg,
+    /// `export-json`: lines of JSON.
+    Json,
+    /// `export-tsv`: lines of fields between tabs.
+    Tsv,
+}

@@ -1,0 +1,92 @@
+//! How each command is used.
+
+use std::fmt;
+
+/// How a command is used.
+pub struct Usage {
+    /// The command's name.
+    pub name: &'static str,
+    // it with the words after it, and what it does
+    call: &'static str,
+    does: &'static str,
+}
+
+impl fmt::Display for Usage {
+    fn fmt<W: fmt::Write>(&self, f: &mut fmt::Formatter<W>) -> fmt::Result {
+        write!(f, "usage: regtx {:20} {}", self.call, self.does)
+    }
+}
+
+/// How each command is used.
+pub const USAGES: [Usage; 14] = [
+    Usage {
+        name: "new",
+        call: "new DIR ID COUNT",
+        does: "makes a store of COUNT (1 to 16) empty hives in a folder; ID is a UUID",
+    },
+    Usage {
+        name: "import",
+        call: "import DIR ID FILE..",
+        does: "makes a store of the hives in files",
+    },
+    Usage {
+        name: "run",
+        call: "run DIR SCRIPT",
+        does: "runs a script on a store, one reply per line",
+    },
+    Usage {
+        name: "apply",
+        call: "apply DIR FILE [PREFIX=HIVE ..] [ID]",
+        does: "applies a registration file as one transaction",
+    },
+    Usage {
+        name: "export",
+        call: "export SOURCE [HIVE:PATH] [PREFIX=HIVE ..]",
+        does: "prints a store or a clean hive as a registration file",
+    },
+    Usage {
+        name: "export-json",
+        call: "export-json SOURCE [HIVE:PATH]",
+        does: "prints it as lines of JSON",
+    },
+    Usage {
+        name: "export-tsv",
+        call: "export-tsv SOURCE [HIVE:PATH]",
+        does: "prints it as fields between tabs, a line each",
+    },
+    Usage {
+        name: "dump",
+        call: "dump FILE",
+        does: "prints a clean hive: its keys and values, a line each",
+    },
+    Usage {
+        name: "play",
+        call: "play SCRIPT",
+        does: "plays a script on a store in memory",
+    },
+    Usage {
+        name: "lab",
+        call: "lab SCRIPT",
+        does: "the same in single steps, with power cuts",
+    },
+    Usage {
+        name: "sweep",
+        call: "sweep SCRIPT",
+        does: "cuts the power after each device call of a script",
+    },
+    Usage {
+        name: "wait",
+        call: "wait SECONDS COMMAND ..",
+        does: "does a command, and waits so long for a store that is in use",
+    },
+    Usage {
+        name: "about",
+        call: "about",
+        does: "says which program this is",
+    },
+    Usage {
+        name: "usage",
+        call: "usage [COMMAND]",
+        does: "says how a command is used, or each of them",
+    },
+];
