@@ -25,7 +25,7 @@ def u64(number):
 
 def latin(name, wide=False):
     """A name's bytes, and whether they are Latin-1 and not UTF-16."""
-    units = name.encode("utf-16-le")
+    units = name.encode("utf-16-le", "surrogatepass")
     if not wide and all(units[at + 1] == 0 for at in range(0, len(units), 2)):
         return units[::2], True
     return units, False
