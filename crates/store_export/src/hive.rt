@@ -6,7 +6,7 @@ use crate::request::{Form, Request};
 use base_block::BaseBlock;
 use hive_cells::Image;
 use hive_file_reader::{ReadError, read_image};
-use hive_walk::{ImageError, WalkError, walk_hive};
+use hive_walk::{WalkError, walk_hive};
 use key_walk::KeySink;
 use refusals::Refusal;
 use reg_export::{JsonSink, NameScan, RegSink, TsvSink, write_reg_header};
@@ -104,23 +104,32 @@ impl HiveWalk<'_> {
 
     // what the names of the keys mean for a registration file. Refused if the image is damaged, or no such key is there
     fn scan(self, path: Option<&[Name]>) -> Result<NameScan, ExportError> {
-        let (scan, found) = self.hand(NameScan::new(), path)?;
-        if found {
-            Ok(scan)
-        } else {
-            Err(ExportError::Refused(Refusal::NotFound))
+        match self.walk(NameScan::new(), path) {
+            Ok((scan, true)) => Ok(scan),
+            Ok((_, false)) => Err(ExportError::Refused(Refusal::NotFound)),
+            Err(WalkError::Image(error)) => Err(ExportError::of_image(error)),
+            Err(WalkError::Sink(never)) => match never {},
         }
     }
 
-    // hands a sink all keys, or those at a path and below it; answers the sink, and whether there was one
-    fn hand<S: KeySink + Drop>(
-        self,
-        sink: S,
-        path: Option<&[Name]>,
-    ) -> Result<(S, bool), ExportError>
+    // hands a sink all keys, or those at a path and below it
+    fn hand<S: KeySink + Drop>(self, sink: S, path: Option<&[Name]>) -> Result<(), ExportError>
     where
         ExportError: From<S::Error>,
     {
+        match self.walk(sink, path) {
+            Ok(_) => Ok(()),
+            Err(WalkError::Image(error)) => Err(ExportError::of_image(error)),
+            Err(WalkError::Sink(error)) => Err(ExportError::from(error)),
+        }
+    }
+
+    // the same; answers the sink, and whether there was such a key
+    fn walk<S: KeySink + Drop>(
+        self,
+        sink: S,
+        path: Option<&[Name]>,
+    ) -> Result<(S, bool), WalkError<S::Error>> {
         let root = self.block.root;
         let minor = self.block.minor;
         let mut part = PartSink {
@@ -128,18 +137,8 @@ impl HiveWalk<'_> {
             path: path.unwrap_or(&[]),
             found: false,
         };
-        match walk_hive(self.alloc, self.image, root, minor, &mut part) {
-            Ok(()) => {
-                let PartSink { sink, found, .. } = part;
-                Ok((sink, found))
-            }
-            Err(WalkError::Sink(error)) => Err(ExportError::from(error)),
-            Err(WalkError::Image(ImageError::NoMemory)) => {
-                Err(ExportError::Refused(Refusal::NoMemory))
-            }
-            Err(WalkError::Image(ImageError::Fault(fault))) => {
-                Err(ExportError::Refused(fault.refusal))
-            }
-        }
+        walk_hive(self.alloc, self.image, root, minor, &mut part)?;
+        let PartSink { sink, found, .. } = part;
+        Ok((sink, found))
     }
 }

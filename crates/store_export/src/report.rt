@@ -1,9 +1,9 @@
 //! What is refused of an export, and how it is told.
 
+use hive_walk::ImageError;
 use refusals::Refusal;
 use script_syntax::Status;
 use std::alloc::{AllocError, AllocFailed};
-use std::convert::Infallible;
 use std::io::{self, ErrorKind, Write};
 
 /// Why an export ended early.
@@ -44,9 +44,13 @@ impl<T: Drop> From<AllocFailed<T>> for ExportError {
     }
 }
 
-impl From<Infallible> for ExportError {
-    fn from(never: Infallible) -> ExportError {
-        match never {}
+impl ExportError {
+    // why an image is refused
+    pub(crate) fn of_image(error: ImageError) -> ExportError {
+        match error {
+            ImageError::NoMemory => ExportError::Refused(Refusal::NoMemory),
+            ImageError::Fault(fault) => ExportError::Refused(fault.refusal),
+        }
     }
 }
 
