@@ -7,6 +7,8 @@
 #![tactic(auto)]
 
 mod hive;
+mod lines;
+mod part;
 mod part_sink;
 mod report;
 mod request;

@@ -1,10 +1,12 @@
 //! What is refused of an export, and how it is told.
+ghost use Rattle.std.specs.Prelude.{◌≡◌, IfOk};
+ghost use Rattle.store_export.specs.Reports.{IsTold};
 
 use hive_walk::ImageError;
 use refusals::Refusal;
 use script_syntax::Status;
 use std::alloc::{AllocError, AllocFailed};
-use std::io::{self, ErrorKind, Write};
+use std::io::{self, Write};
 
 /// Why an export ended early.
 #[derive(Debug, Drop)]
@@ -18,11 +20,12 @@ pub enum ExportError {
 }
 
 impl From<io::Error> for ExportError {
+    ghost use Rattle.store_export.specs.declared.report.ExportError.TheVariants.{Write};
+
+    ghost from_gives = { λ error made. made ≡ Write error };
+
     fn from(error: io::Error) -> ExportError {
-        match error.kind() {
-            ErrorKind::OutOfMemory => ExportError::Refused(Refusal::NoMemory),
-            _ => ExportError::Write(error),
-        }
+        ExportError::Write(error)
     }
 }
 
@@ -33,12 +36,22 @@ impl From<Refusal> for ExportError {
 }
 
 impl From<AllocError> for ExportError {
+    ghost use Rattle.refusals.specs.declared.refusal.Refusal.TheVariants.{NoMemory};
+    ghost use Rattle.store_export.specs.declared.report.ExportError.TheVariants.{Refused};
+
+    ghost from_gives = { λ _ made. made ≡ Refused NoMemory };
+
     fn from(_: AllocError) -> ExportError {
         ExportError::Refused(Refusal::NoMemory)
     }
 }
 
 impl<T: Drop> From<AllocFailed<T>> for ExportError {
+    ghost use Rattle.refusals.specs.declared.refusal.Refusal.TheVariants.{NoMemory};
+    ghost use Rattle.store_export.specs.declared.report.ExportError.TheVariants.{Refused};
+
+    ghost from_gives = { λ _ made. made ≡ Refused NoMemory };
+
     fn from(_: AllocFailed<T>) -> ExportError {
         ExportError::Refused(Refusal::NoMemory)
     }
@@ -55,10 +68,14 @@ impl ExportError {
 }
 
 impl From<reg_export::ExportError> for ExportError {
+    ghost use Rattle.store_export.specs.Reports.{IsFileError};
+
+    ghost from_gives = { λ error made. IsFileError error made };
+
     fn from(error: reg_export::ExportError) -> ExportError {
         match error {
             reg_export::ExportError::BadName => ExportError::Refused(Refusal::BadName),
-            reg_export::ExportError::Write(error) => ExportError::from(error),
+            reg_export::ExportError::Write(error) => ExportError::Write(error),
         }
     }
 }
@@ -67,7 +84,9 @@ impl From<reg_export::ExportError> for ExportError {
 pub(crate) fn reported<W: Write>(
     writer: &mut W,
     printed: Result<(), ExportError>,
-) -> Result<Status, ExportError> {
+) -> Result<Status, ExportError>
+    ensures { IfOk result (λ status. IsTold printed (W.contents writer.old) (W.contents writer.new) status) }
+{
     match printed {
         Ok(()) => {
             writer.flush()?;

@@ -1,4 +1,6 @@
 //! What is to be printed, and how.
+ghost use Rattle.std.specs.Prelude.{◌≡◌};
+ghost use Rattle.store_export.specs.Exports.{prefix_of};
 
 use reg_names::Path;
 use reg_prefixes::Prefixes;
@@ -36,7 +38,12 @@ pub struct Request<'a> {
 
 impl<'a> Request<'a> {
     /// The prefix by which a hive is shown.
-    pub(crate) fn prefix(&self, hive: u8) -> &'a [u8] {
-        self.prefixes.shown(hive).unwrap_or(&[])
+    pub(crate) fn prefix(&self, hive: u8) -> &'a [u8]
+        ensures { result.now ≡ prefix_of self.now.prefixes.now hive }
+    {
+        match self.prefixes.shown(hive) {
+            Some(prefix) => prefix,
+            None => &[],
+        }
     }
 }

@@ -1,4 +1,8 @@
 //! The export of a store.
+ghost use Rattle.std.specs.Prelude.{◌<◌, IfOk};
+ghost use Rattle.disk_model.specs.ReadOnly.{OnlySyncs};
+ghost use Rattle.recovery.specs.Recovered.{seen_in};
+ghost use Rattle.store_export.specs.Reports.{Reports};
 
 use crate::report::{ExportError, reported};
 use crate::request::Request;
@@ -19,7 +23,13 @@ pub fn export_store<D: Disk, W: Write>(
     disk: D,
     request: &Request<'_>,
     writer: &mut W,
-) -> (D, Result<Status, ExportError>) {
+) -> (D, Result<Status, ExportError>)
+    ensures reports { IfOk result.1 (λ status. Reports (D.failures disk < D.failures result.0)
+        (D.faithful result.0) (seen_in (D.state_at disk (D.clock disk))) request.now
+        (W.contents writer.old) (W.contents writer.new) status) }
+    ensures synced { D.faithful result.0 → OnlySyncs (D.state_at disk) (D.state_at result.0)
+        (D.clock disk) (D.clock result.0) }
+{
     match open(alloc, disk) {
         Ok(opened) => {
             let printed = print_trees(alloc, writer, opened.trees(), request);

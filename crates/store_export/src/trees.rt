@@ -1,13 +1,17 @@
 //! Trees in memory, printed.
+ghost use Rattle.std.specs.Prelude.{◌≡◌, OnOk, IfOk, IfErr, map};
+ghost use Rattle.std.specs.Io.KnownBytes.{Appends};
+ghost use Rattle.reg_export.specs.Hives.{keys_of};
+ghost use Rattle.store_export.specs.Exports.{EndsEarly, MayRefuse, PrintsJson, Shows, ShowsAsked, CannotShow, all_rows, tsv_text, with_prefix};
 
+use crate::lines::{print_json, print_tsv};
+use crate::part::print_part;
 use crate::report::ExportError;
-use crate::request::{Form, Request, Selection};
-use key_walk::{walk_below, walk_tree};
-use refusals::Refusal;
-use reg_export::{HiveKeys, JsonSink, TsvSink, write_reg, write_reg_below};
-use reg_tree::{Tree, Trees};
-use std::alloc::Global;
-use std::io::Write;
+use crate::request::{Form, Request};
+use reg_export::{HiveKeys, write_reg};
+use reg_tree::Trees;
+use std::alloc::{AllocError, Global};
+use std::io::{self, Write};
 
 /// Prints trees, or a key of one of them with all below it. Refused with `NotFound` if that key isn't there, and with
 /// `BadName` if a registration file can't show a name; nothing is printed then.
@@ -16,83 +20,81 @@ pub(crate) fn print_trees<W: Write>(
     writer: &mut W,
     trees: &Trees,
     request: &Request<'_>,
-) -> Result<(), ExportError> {
+) -> Result<(), ExportError>
+    ensures shown { OnOk result (ShowsAsked request.now trees.now (W.contents writer.old)
+        (W.contents writer.new)) }
+    ensures refused { IfErr result (λ error. EndsEarly (MayRefuse request.now trees.now)
+        (W.contents writer.old) (W.contents writer.new) error) }
+{
     match request.selection {
         Some(selection) => print_part(writer, trees, request, selection),
-        None => match request.form {
-            Form::Reg => print_all_reg(alloc, writer, trees, request),
-            Form::Json => print_all_json(writer, trees),
-            Form::Tsv => print_all_tsv(writer, trees),
-        },
+        None => print_all(alloc, writer, trees, request),
     }
 }
 
-fn print_all_reg<W: Write>(
+// prints all keys of all hives
+fn print_all<W: Write>(
     alloc: Global,
     writer: &mut W,
     trees: &Trees,
     request: &Request<'_>,
-) -> Result<(), ExportError> {
-    let mut hives = Vec::with_capacity(alloc, trees.len())?;
-    for hive in 0..trees.len() as u8 {
-        if let Some(tree) = trees.tree(hive) {
-            let prefix = request.prefix(hive);
-            hives.push(HiveKeys { prefix, tree })?;
-        }
-    }
-    write_reg(writer, &hives)?;
-    Ok(())
-}
-
-fn print_all_json<W: Write>(writer: &mut W, trees: &Trees) -> Result<(), ExportError> {
-    for hive in 0..trees.len() as u8 {
-        if let Some(tree) = trees.tree(hive) {
-            walk_tree(&mut JsonSink { writer, hive }, tree)?;
-        }
-    }
-    Ok(())
-}
-
-fn print_all_tsv<W: Write>(writer: &mut W, trees: &Trees) -> Result<(), ExportError> {
-    for hive in 0..trees.len() as u8 {
-        if let Some(tree) = trees.tree(hive) {
-            walk_tree(&mut TsvSink { writer, hive }, tree)?;
-        }
-    }
-    Ok(())
-}
-
-fn print_part<W: Write>(
-    writer: &mut W,
-    trees: &Trees,
-    request: &Request<'_>,
-    selection: &Selection,
-) -> Result<(), ExportError> {
-    let Some(tree) = trees.tree(selection.hive) else {
-        return Err(ExportError::Refused(Refusal::NotFound));
-    };
-    if print_below(writer, tree, request, selection)? {
-        Ok(())
-    } else {
-        Err(ExportError::Refused(Refusal::NotFound))
-    }
-}
-
-// whether the key is there
-fn print_below<W: Write>(
-    writer: &mut W,
-    tree: &Tree,
-    request: &Request<'_>,
-    selection: &Selection,
-) -> Result<bool, ExportError> {
-    let hive = selection.hive;
-    let names = selection.path.names();
+) -> Result<(), ExportError>
+    ensures shown { OnOk result (Shows request.now.form request.now.prefixes.now
+        (all_rows 0 trees.now) (W.contents writer.old) (W.contents writer.new)) }
+    ensures refused { IfErr result (λ error. EndsEarly (CannotShow request.now (all_rows 0 trees.now))
+        (W.contents writer.old) (W.contents writer.new) error) }
+{
     match request.form {
         Form::Reg => {
-            let prefix = request.prefix(hive);
-            Ok(write_reg_below(writer, &HiveKeys { prefix, tree }, names)?)
+            let hives = hive_keys(alloc, trees, request)?;
+            Ok(write_reg(writer, &hives)?)
         }
-        Form::Json => Ok(walk_below(&mut JsonSink { writer, hive }, tree, names)?),
-        Form::Tsv => Ok(walk_below(&mut TsvSink { writer, hive }, tree, names)?),
+        Form::Json => Ok(print_all_json(writer, trees)?),
+        Form::Tsv => Ok(print_all_tsv(writer, trees)?),
     }
+}
+
+// each tree with the prefix of its hive
+fn hive_keys<'a>(
+    alloc: Global,
+    trees: &'a Trees,
+    request: &Request<'a>,
+) -> Result<Vec<HiveKeys<'a>>, AllocError>
+    ensures { IfOk result (λ hives. map keys_of hives.items
+        ≡ map (with_prefix request.now.prefixes.now) (all_rows 0 trees.now)) }
+{
+    let mut hives = Vec::with_capacity(alloc, trees.len())?;
+    for hive in 0..trees.len() {
+        let Some(tree) = trees.tree(hive as u8) else {
+            unreachable!();
+        };
+        let prefix = request.prefix(hive as u8);
+        hives.push(HiveKeys { prefix, tree })?;
+    }
+    Ok(hives)
+}
+
+fn print_all_json<W: Write>(writer: &mut W, trees: &Trees) -> io::Result<()>
+    ensures { OnOk result (PrintsJson (all_rows 0 trees.now) (W.contents writer.old) (W.contents writer.new)) }
+{
+    for hive in 0..trees.len() {
+        let Some(tree) = trees.tree(hive as u8) else {
+            unreachable!();
+        };
+        print_json(writer, hive as u8, tree)?;
+    }
+    Ok(())
+}
+
+fn print_all_tsv<W: Write>(writer: &mut W, trees: &Trees) -> io::Result<()>
+    ensures { OnOk result (Appends (W.contents writer.old) (W.contents writer.new)
+        (tsv_text (all_rows 0 trees.now))) }
+{
+    for hive in 0..trees.len() {
+        let Some(tree) = trees.tree(hive as u8) else {
+            unreachable!();
+        };
+        print_tsv(writer, hive as u8, tree)?;
+    }
+    Ok(())
 }

@@ -1,0 +1,2 @@
+mod Hives
+mod Told
