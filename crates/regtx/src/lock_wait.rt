@@ -1,4 +1,7 @@
 //! The word `wait`: how long a command waits for a store that another program has.
+ghost use Rattle.std.specs.Prelude.{◌≤◌, IfSome};
+ghost use Rattle.regtx.specs.declared.lock_wait.TheConstants.{MOST_SECONDS};
+
 use crate::command_error::CommandError;
 use file_disk::LockError;
 use std::time::{Clock, Duration};
@@ -49,7 +52,9 @@ pub fn take_wait<'a>(words: &mut Vec<String>) -> Result<LockWait, CommandError<'
     let Some(word) = words.get(2) else {
         return Err(CommandError::WrongWords);
     };
-    let seconds = seconds_of(word).ok_or(CommandError::WrongWords)?;
+    let Some(seconds) = seconds_of(word) else {
+        return Err(CommandError::WrongWords);
+    };
     words.remove(1);
     words.remove(1);
     Ok(LockWait {
@@ -58,7 +63,9 @@ pub fn take_wait<'a>(words: &mut Vec<String>) -> Result<LockWait, CommandError<'
 }
 
 // a number of seconds; a sign isn't allowed
-fn seconds_of(word: &str) -> Option<u64> {
+fn seconds_of(word: &str) -> Option<u64>
+    ensures { IfSome result (λ seconds. seconds ≤ MOST_SECONDS) }
+{
     if !word.as_bytes().iter().all(|byte| byte.is_ascii_digit()) {
         return None;
     }
