@@ -3,7 +3,10 @@ ghost use Rattle.std.specs.Prelude.{◌≤◌, IfSome};
 ghost use Rattle.regtx.specs.declared.lock_wait.TheConstants.{MOST_SECONDS};
 
 use crate::command_error::CommandError;
-use file_disk::LockError;
+use file_disk::{FileDisk, LockError, Unknown};
+use std::alloc::Global;
+use std::fs::File;
+use std::rt::Files;
 use std::time::{Clock, Duration};
 
 /// How long a wait lasts between two tries, in milliseconds.
@@ -24,22 +27,45 @@ impl LockWait {
         LockWait { tries: 0 }
     }
 
-    /// Opens a store by this, and again after a pause if another program has it.
-    pub fn open<'a, R: Clock, D: Drop, F: Fn(&'a str) -> Result<D, LockError>>(
+    /// Opens the store in a folder, and again after a pause if another program has it.
+    pub fn open<'a, R: Files<File = File> + Clock>(
         self,
-        rt: &R,
-        folder: &'a str,
-        opener: F,
-    ) -> Result<D, LockError>
-        requires { F.IsAlwaysCallable opener }
-    {
+        rt: &'a R,
+        alloc: Global,
+        access: Access,
+        folder: &str,
+    ) -> Result<FileDisk<&'a R, Unknown>, LockError> {
         for _ in 0..self.tries {
-            match opener(folder) {
+            match access.open(rt, alloc, folder) {
                 Err(LockError::InUse) => std::thread::sleep(rt, Duration::from_millis(PAUSE)),
                 opened => return opened,
             }
         }
-        opener(folder)
+        access.open(rt, alloc, folder)
+    }
+}
+
+/// What a command does with the files of a store.
+#[derive(Clone, Copy)]
+pub enum Access {
+    /// It writes them too.
+    ReadWrite,
+    /// It only reads them.
+    ReadOnly,
+}
+
+impl Access {
+    // the files of the store in a folder, as a disk
+    fn open<'a, R: Files<File = File>>(
+        self,
+        rt: &'a R,
+        alloc: Global,
+        folder: &str,
+    ) -> Result<FileDisk<&'a R, Unknown>, LockError> {
+        match self {
+            Access::ReadWrite => FileDisk::open_locked(rt, alloc, folder),
+            Access::ReadOnly => FileDisk::open_read_only(rt, alloc, folder),
+        }
     }
 }
 

@@ -29,14 +29,14 @@ use crate::command_error::CommandError;
 use crate::export_command::export;
 use crate::files::{Source, Target, Trouble, last_error, opened};
 use crate::hint::Hint;
-use crate::lock_wait::{LockWait, take_wait};
+use crate::lock_wait::{Access, LockWait, take_wait};
 use crate::script_commands::{InMemory, play_script, run_script};
 use crate::store_commands::{import_store, new_store};
 use crate::store_disk::StoreDisk;
 use crate::tasks::Task;
 use crate::terminal::TerminalOutput;
 use crate::words::parse_task;
-use file_disk::{FileDisk, LockError, Unknown};
+use file_disk::LockError;
 use hive_dump::{DumpError, dump};
 use script_syntax::Status;
 use std::alloc::Global;
@@ -56,16 +56,8 @@ fn main(rt: HostRuntime) -> ExitCode {
         Ok((wait, words)) => answer(
             &rt,
             output,
-            |folder| wait.open(
-                &rt,
-                folder,
-                |folder| FileDisk::open_locked(&rt, alloc, folder),
-            ),
-            |folder| wait.open(
-                &rt,
-                folder,
-                |folder| FileDisk::open_read_only(&rt, alloc, folder),
-            ),
+            |folder| wait.open(&rt, alloc, Access::ReadWrite, folder),
+            |folder| wait.open(&rt, alloc, Access::ReadOnly, folder),
             &words,
         ),
         Err(command_error) => print_error(&rt, output, None, &command_error),
