@@ -1,5 +1,5 @@
 -- What was read of a file, as its bytes.
-use Rattle.std.proofs.Common.{◌≡◌, ◌⊎◌, inl, inr, length-take-le, ℕ, ◌+◌, ◌≤◌, ◌<◌, ◌≢◌, zero, suc, Bool, true, false, ◌&&◌, List, [], ◌++◌, length, take, drop, Option, Some, None, IfSome, refl, sym, ◌∙◌, ap, subst, arith, length-append, drop_at}
+use Rattle.std.proofs.Common.{◌≡◌, ◌⊎◌, inl, inr, ℕ, ◌+◌, ◌≤◌, ◌<◌, ◌≢◌, zero, suc, Bool, true, false, ◌&&◌, List, [], ◌++◌, length, take, drop, Option, Some, None, IfSome, MatchOption, refl, sym, ◌∙◌, ap, subst, arith, length-append, drop_at}
 use Rattle.std.specs.Prelude.{nat_le}
 use Rattle.std.proofs.lemmas.Bool.{and_parts, le-leb}
 use Rattle.std.proofs.lemmas.List.{append-nil, take_at, take-append-le}
@@ -14,11 +14,12 @@ use Rattle.hive_records.specs.Images.{BinsEncodeTree}
 use Rattle.dirt_log.specs.WholeLog.{block_of}
 use Rattle.reg_tree.specs.Maps.{TreeMap}
 use Rattle.dirt_log.specs.FileContents.{is_clean_file, PrimaryDecodesTo}
+use Rattle.hive_cells.specs.Tiles.{DataRefused}
 use Rattle.hive_load.specs.Limits.{BinsEncodeTreeInLimits, BinsRefused}
-use Rattle.hive_file_reader.specs.Hives.{FileHasBlock, FileHasBins, FileHoldsHive, FileHasNoBins, FileHoldsNoHive, IsFilePrefix, no_sector, no_signature, not_clean, not_usable, not_tiled, no_bins, not_loaded}
+use Rattle.hive_file_reader.specs.Hives.{FileHasBlock, FileHasBins, FileHoldsHive, FileLacksBins, FileHoldsNoHive, IsFilePrefix, lacks_bins, no_sector, no_signature, not_clean, not_usable, not_tiled, no_bins, not_loaded}
 use Rattle.hive_file_reader.specs.declared.hive.ReadError.{ReadError}
 use Rattle.hive_file_reader.specs.declared.hive.ReadError.TheVariants as unread
-use Rattle.hive_file_reader.specs.Readings.{FileRefusedAs, FileBinsRefusedAs, BinsRefusalFitsFile, RefusalFitsFile, of_hive}
+use Rattle.hive_file_reader.specs.Readings.{FileRefusedAs, FileBinsRefused, FileBinsRefusedAs, FileBinsUnread, BinsRefusalFitsFile, RefusalFitsFile, of_hive}
 
 -- what holds of a known value for another reason
 pub some_as : {A : Type 0} {P Q : A → Type 0} (known : Option A) → ((x : A) → P x → Q x) → IfSome known P → IfSome known Q
@@ -31,6 +32,22 @@ read_front None now head read end = tt
 read_front (Some file) None head read end = absurd read
 read_front (Some file) (Some rest) head read end = (rest, read, end)
 
+-- a front of fewer than 4,096 bytes is the file
+whole_front : (file front : List ℕ) → IsFilePrefix front file → length front < 4096 → length file ≡ length front
+whole_front file front is short = omega (arith, ap length is.1, length-append front is.0, ap length (is.2 short))
+
+-- the first sector of a front is the file's
+sector_of : (file front : List ℕ) (sector : Option (List ℕ)) → IsFilePrefix front file → MatchOption sector (length front < 512) (λ s. (s ≡ take 512 front) × (512 ≤ length front)) → MatchOption sector (length file < 512) (λ s. (s ≡ take 512 file) × (512 ≤ length file))
+sector_of file front None is short = omega (arith, short, whole_front file front is (omega (arith, short)))
+sector_of file front (Some s) is told = (
+  told.0 ∙ sym (ap (take 512) is.1 ∙ take-append-le 512 front is.0 told.1),
+  omega (arith, told.1, ap length is.1, length-append front is.0),
+)
+
+pub sector_read : (known now : Option (List ℕ)) (head : List ℕ) (sector : Option (List ℕ)) → Consumes known now head → (length head < 4096 → IsAtEnd now) → MatchOption sector (length head < 512) (λ s. (s ≡ take 512 head) × (512 ≤ length head))
+    → IfSome known (λ file. MatchOption sector (length file < 512) (λ s. (s ≡ take 512 file) × (512 ≤ length file)))
+sector_read known now head sector read end told = some_as known (λ file is. sector_of file head sector is told) (read_front known now head read end)
+
 -- the block that was reported of each file with a front is the block of the file that was read; and the front is a
 -- whole base block
 pub read_block : (known now : Option (List ℕ)) (head : List ℕ) (block : BaseBlock) → Consumes known now head → (length head < 4096 → IsAtEnd now) → ((file : List ℕ) → IsFilePrefix head file → FileHasBlock file block × (4096 ≤ length head)) → IfSome known (λ file. FileHasBlock file block)
@@ -38,14 +55,6 @@ read_block known now head block read end told = some_as known (λ file is. (told
 
 pub read_whole : (head : List ℕ) (block : BaseBlock) → ((file : List ℕ) → IsFilePrefix head file → FileHasBlock file block × (4096 ≤ length head)) → 4096 ≤ length head
 read_whole head block told = (told head ([], sym (append-nil head), λ short. refl)).1
-
--- so of what was read into a buffer for it
-pub head_read : (known now : Option (List ℕ)) (buffer : List ℕ) (count : ℕ) (block : BaseBlock) → length buffer ≡ 4096 → count ≤ length buffer → Consumes known now (take count buffer) → (count < length buffer → IsAtEnd now)
-    → ((file : List ℕ) → IsFilePrefix (take count buffer) file → FileHasBlock file block × (4096 ≤ length (take count buffer))) → (length (take count buffer) ≡ 4096) × IfSome known (λ file. FileHasBlock file block)
-head_read known now buffer count block room few read end told =
-    let long : length (take count buffer) ≡ count = length-take-le count buffer few in
-    let whole : 4096 ≤ length (take count buffer) = read_whole (take count buffer) block told in
-    (omega (arith, room, long, whole, few), read_block known now (take count buffer) block read (λ less. end (omega (arith, room, long, less))) told)
 
 -- the bins data after a whole base block
 own_bins : (file head rest bins tail : List ℕ) (block : BaseBlock) → file ≡ head ++ rest → length head ≡ 4096 → rest ≡ bins ++ tail → FileHasBlock file block → length bins ≡ block.bins_size → PrimaryDecodesTo file block bins
@@ -65,18 +74,31 @@ read_own (Some file) (Some rest) None head bins block a b long size has = absurd
 read_own (Some file) (Some rest) (Some tail) head bins block a b long size has = (has, own_bins file head rest bins tail block a long b has size)
 
 -- a file that ends before its bins data do
-cut_short : (file : List ℕ) (block : BaseBlock) → FileHasBlock file block → length file < 4096 + block.bins_size → FileHasNoBins file (refusal.HiveDamaged 0 cause.Truncated)
+cut_short : (file : List ℕ) (block : BaseBlock) → FileHasBlock file block → length file < 4096 + block.bins_size → FileLacksBins file (refusal.HiveDamaged 0 cause.Truncated)
 cut_short file block has short =
     not_usable (refusal.HiveDamaged 0 cause.Truncated) has.clean (inr (refl, subst IsPrimary has.read has.judged, subst (λ (b : BaseBlock). length file < 4096 + b.bins_size) has.read short))
 
 -- bins data that end early
 pub read_short : (known mid now : Option (List ℕ)) (head bins : List ℕ) (block : BaseBlock) → Consumes known mid head → Consumes mid now bins → length head ≡ 4096 → length bins < block.bins_size → IsAtEnd now → IfSome known (λ file. FileHasBlock file block)
-    → IfSome known (λ file. ((refusal.HiveDamaged 0 cause.Truncated) ≡ refusal.NoMemory) ⊎ FileHasNoBins file (refusal.HiveDamaged 0 cause.Truncated))
+    → IfSome known (λ file. ((refusal.HiveDamaged 0 cause.Truncated) ≡ refusal.NoMemory) ⊎ FileLacksBins file (refusal.HiveDamaged 0 cause.Truncated))
 read_short None mid now head bins block a b long size end has = tt
 read_short (Some file) None now head bins block a b long size end has = absurd a
 read_short (Some file) (Some rest) None head bins block a b long size end has = absurd b
 read_short (Some file) (Some rest) (Some tail) head bins block a b long size end has =
     inr (cut_short file block has (omega (arith, ap length a, length-append head rest, ap length b, length-append bins tail, ap (λ (l : List ℕ). length l) end)))
+
+-- so the refusal that is made of it
+pub short_bins : (known : Option (List ℕ)) (why : Refusal) → why ≡ refusal.HiveDamaged 0 cause.Truncated → IfSome known (λ file. ((refusal.HiveDamaged 0 cause.Truncated) ≡ refusal.NoMemory) ⊎ FileLacksBins file (refusal.HiveDamaged 0 cause.Truncated))
+    → IfSome known (λ file. FileBinsUnread file why)
+short_bins known why is told = subst (λ (w : Refusal). IfSome known (λ file. FileBinsUnread file w)) (sym is) told
+
+-- bins data of a file that bins and cells don't tile
+pub untiled : (known : Option (List ℕ)) (block : BaseBlock) (bins : List ℕ) (why : Refusal) → IfSome known (λ file. FileHasBins file block bins) → DataRefused bins why → IfSome known (λ file. FileBinsRefused file why)
+untiled known block bins why has refused = some_as known (λ file own. inr (not_tiled why block bins own refused)) has
+
+-- a file that has no bins data has none that tile
+pub unread_bins : (known : Option (List ℕ)) (why : Refusal) → IfSome known (λ file. FileBinsUnread file why) → IfSome known (λ file. FileBinsRefused file why)
+unread_bins known why h = some_as known (λ file told. elim told [ inl memory ↦ inl memory | inr lacks ↦ inr (lacks_bins why lacks) ]) h
 
 -- a file whose bins data are refused holds no hive
 pub bins_refused : (known : Option (List ℕ)) (error : ReadError) → BinsRefusalFitsFile known error → RefusalFitsFile known error
@@ -90,24 +112,20 @@ sector_tells file front block is long read =
     let here : 512 ≤ length file = omega (arith, long, ap length is.1, length-append front is.0) in
     (same, here, ap (λ (t : Bool). t && is_clean_block (block_of file)) (le-leb 512 (length file) here) ∙ ap is_clean_block (sym same))
 
--- a front of fewer than 4,096 bytes is the file
-whole_front : (file front : List ℕ) → IsFilePrefix front file → length front < 4096 → length file ≡ length front
-whole_front file front is short = omega (arith, ap length is.1, length-append front is.0, ap length (is.2 short))
-
-pub told_no_sector : (file front : List ℕ) → IsFilePrefix front file → length front < 512 → FileHasNoBins file (refusal.HiveDamaged 0 cause.Truncated)
+pub told_no_sector : (file front : List ℕ) → IsFilePrefix front file → length front < 512 → FileLacksBins file (refusal.HiveDamaged 0 cause.Truncated)
 told_no_sector file front is short = no_sector (omega (arith, short, whole_front file front is (omega (arith, short))))
 
-pub told_no_signature : (file front : List ℕ) (block : BaseBlock) → IsFilePrefix front file → 512 ≤ length front → block ≡ block_at (take 512 front) → block.signature.0 ≢ 0x6667_6572 → FileHasNoBins file (refusal.HiveDamaged 0 cause.BadBase)
+pub told_no_signature : (file front : List ℕ) (block : BaseBlock) → IsFilePrefix front file → 512 ≤ length front → block ≡ block_at (take 512 front) → block.signature.0 ≢ 0x6667_6572 → FileLacksBins file (refusal.HiveDamaged 0 cause.BadBase)
 told_no_signature file front block is long read other =
     let tells = sector_tells file front block is long read in
     no_signature tells.1 (subst (λ (b : BaseBlock). b.signature.0 ≢ 0x6667_6572) tells.0 other)
 
-pub told_not_clean : (file front : List ℕ) (block : BaseBlock) → IsFilePrefix front file → 512 ≤ length front → block ≡ block_at (take 512 front) → is_clean_block block ≡ false → FileHasNoBins file (refusal.HiveDamaged 0 cause.NotClean)
+pub told_not_clean : (file front : List ℕ) (block : BaseBlock) → IsFilePrefix front file → 512 ≤ length front → block ≡ block_at (take 512 front) → is_clean_block block ≡ false → FileLacksBins file (refusal.HiveDamaged 0 cause.NotClean)
 told_not_clean file front block is long read unclean =
     let tells = sector_tells file front block is long read in
     not_clean tells.1 (ap is_clean_block (sym tells.0) ∙ unclean)
 
-pub told_not_usable : (file front : List ℕ) (block : BaseBlock) (why : Refusal) → IsFilePrefix front file → 512 ≤ length front → block ≡ block_at (take 512 front) → is_clean_block block ≡ true → PrimaryRefused block why → FileHasNoBins file why
+pub told_not_usable : (file front : List ℕ) (block : BaseBlock) (why : Refusal) → IsFilePrefix front file → 512 ≤ length front → block ≡ block_at (take 512 front) → is_clean_block block ≡ true → PrimaryRefused block why → FileLacksBins file why
 told_not_usable file front block why is long read clean refused =
     let tells = sector_tells file front block is long read in
     not_usable why (tells.2 ∙ clean) (inl (subst (λ b. PrimaryRefused b why) tells.0 refused))
@@ -117,7 +135,7 @@ told_block file front block is long read clean judged =
     let tells = sector_tells file front block is long read in
     record { clean = tells.2 ∙ clean; read = tells.0; judged = judged }
 
-pub told_cut : (file front : List ℕ) (block : BaseBlock) → IsFilePrefix front file → FileHasBlock file block → length front < 4096 → FileHasNoBins file (refusal.HiveDamaged 0 cause.Truncated)
+pub told_cut : (file front : List ℕ) (block : BaseBlock) → IsFilePrefix front file → FileHasBlock file block → length front < 4096 → FileLacksBins file (refusal.HiveDamaged 0 cause.Truncated)
 told_cut file front block is has short = cut_short file block has (omega (arith, short, whole_front file front is short))
 
 -- ---- a file holds a tree or none
@@ -186,11 +204,11 @@ other_bins law file why block bins has refused some tree holds =
 
 pub none_held : ((bytes : List ℕ) (root minor : ℕ) (why : Refusal) → BinsRefused bytes root minor why → why ≢ refusal.NoMemory → (tree : TreeMap) → BinsEncodeTreeInLimits bytes root minor tree → ⊥)
     → (file : List ℕ) (why : Refusal) → FileHoldsNoHive file why → why ≢ refusal.NoMemory → (tree : TreeMap) → FileHoldsHive file tree → ⊥
-none_held law file why (no_bins _ (no_sector short)) some tree holds = let no : ⊥ = omega (arith, short, holds.own.long) in no
-none_held law file why (no_bins _ (no_signature long other)) some tree holds = other (subst (λ (b : BaseBlock). b.signature.0 ≡ 0x6667_6572) holds.has.read holds.has.judged.0.signature)
-none_held law file why (no_bins _ (not_clean long unclean)) some tree holds = let no : ⊥ = let e : true ≡ false = sym (clean_here file holds.has.clean) ∙ unclean in cc in no
-none_held law file why (no_bins _ (not_usable _ clean (inl refused))) some tree holds = unusable (block_of file) why refused (subst IsPrimary holds.has.read holds.has.judged)
-none_held law file why (no_bins _ (not_usable _ clean (inr (is, judged, short)))) some tree holds = omega (arith, short, ap (λ (b : BaseBlock). b.bins_size) holds.has.read, holds.own.long)
+none_held law file why (no_bins _ (lacks_bins _ (no_sector short))) some tree holds = let no : ⊥ = omega (arith, short, holds.own.long) in no
+none_held law file why (no_bins _ (lacks_bins _ (no_signature long other))) some tree holds = other (subst (λ (b : BaseBlock). b.signature.0 ≡ 0x6667_6572) holds.has.read holds.has.judged.0.signature)
+none_held law file why (no_bins _ (lacks_bins _ (not_clean long unclean))) some tree holds = let no : ⊥ = let e : true ≡ false = sym (clean_here file holds.has.clean) ∙ unclean in cc in no
+none_held law file why (no_bins _ (lacks_bins _ (not_usable _ clean (inl refused)))) some tree holds = unusable (block_of file) why refused (subst IsPrimary holds.has.read holds.has.judged)
+none_held law file why (no_bins _ (lacks_bins _ (not_usable _ clean (inr (is, judged, short))))) some tree holds = omega (arith, short, ap (λ (b : BaseBlock). b.bins_size) holds.has.read, holds.own.long)
 none_held law file why (no_bins _ (not_tiled _ block bins has refused)) some tree holds = other_bins law file why block bins has (inl refused) some tree holds
 none_held law file why (not_loaded _ block bins has refused) some tree holds = other_bins law file why block bins has (inr refused) some tree holds
 

@@ -32,16 +32,21 @@ pub record FileHoldsHive (file : List ℕ) (tree : TreeMap) : Type 0 where
 abbrev pub FileHasBins : List ℕ → BaseBlock → List ℕ → Type 0
 FileHasBins file block bins = FileHasBlock file block × PrimaryDecodesTo file block bins
 
--- why a file has no bins data that tile, by what is in its bytes
-pub data FileHasNoBins (file : List ℕ) : Refusal → Type 0 where
+-- why a file has no bins data, by what is in its bytes
+pub data FileLacksBins (file : List ℕ) : Refusal → Type 0 where
   -- it has no first sector
-  no_sector : length file < 512 → FileHasNoBins file (refusal.HiveDamaged 0 cause.Truncated)
+  no_sector : length file < 512 → FileLacksBins file (refusal.HiveDamaged 0 cause.Truncated)
   -- it isn't a hive by its signature, whether its sum and its numbers are right or not
-  no_signature : 512 ≤ length file → (block_of file).signature.0 ≢ 0x6667_6572 → FileHasNoBins file (refusal.HiveDamaged 0 cause.BadBase)
+  no_signature : 512 ≤ length file → (block_of file).signature.0 ≢ 0x6667_6572 → FileLacksBins file (refusal.HiveDamaged 0 cause.BadBase)
   -- the sum is wrong, or the two numbers differ
-  not_clean : 512 ≤ length file → is_clean_block (block_of file) ≡ false → FileHasNoBins file (refusal.HiveDamaged 0 cause.NotClean)
+  not_clean : 512 ≤ length file → is_clean_block (block_of file) ≡ false → FileLacksBins file (refusal.HiveDamaged 0 cause.NotClean)
   -- it is clean, and its base block is outside the profile, or it ends before its bins data do
-  not_usable : (why : Refusal) → is_clean_file file ≡ true → PrimaryFileRefused (block_of file) (length file) why → FileHasNoBins file why
+  not_usable : (why : Refusal) → is_clean_file file ≡ true → PrimaryFileRefused (block_of file) (length file) why → FileLacksBins file why
+
+-- why a file has no bins data that tile
+pub data FileHasNoBins (file : List ℕ) : Refusal → Type 0 where
+  -- it has none at all
+  lacks_bins : (why : Refusal) → FileLacksBins file why → FileHasNoBins file why
   -- bins and cells don't tile the bins data, or memory to know it was not given
   not_tiled : (why : Refusal) (block : BaseBlock) (bins : List ℕ) → FileHasBins file block bins → DataRefused bins why → FileHasNoBins file why
 

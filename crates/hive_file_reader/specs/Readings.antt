@@ -1,8 +1,10 @@
 -- What is said of a file that is read as one of several hives.
-use Rattle.std.specs.Prelude.{◌≡◌, ◌⊎◌, ℕ, List, Option, IfSome}
+use Rattle.std.specs.Prelude.{◌≡◌, ◌⊎◌, ℕ, List, Option, IfSome, Result, Ok, Err}
+use Rattle.std.specs.Global.{Vec}
 use Rattle.refusals.specs.declared.refusal.Refusal.{Refusal}
 use Rattle.refusals.specs.declared.refusal.Refusal.TheVariants as refusal
-use Rattle.hive_file_reader.specs.Hives.{FileHasNoBins, FileHoldsNoHive}
+use Rattle.base_block.specs.declared.block.BaseBlock.{BaseBlock}
+use Rattle.hive_file_reader.specs.Hives.{FileHasBins, FileHasNoBins, FileLacksBins, FileHoldsNoHive}
 use Rattle.hive_file_reader.specs.declared.hive.ReadError.{ReadError}
 use Rattle.hive_file_reader.specs.declared.hive.ReadError.TheVariants as unread
 
@@ -29,7 +31,11 @@ abbrev pub RefusalFitsFileAs : ℕ → Option (List ℕ) → ReadError → Type 
 RefusalFitsFileAs hive known (unread.Refused why) = IfSome known (λ file. FileRefusedAs hive file why)
 RefusalFitsFileAs hive known unread.SourceFailed = Unit {0}
 
--- the same of a file whose bins data alone are read: memory was not given, or it has none that tile
+-- the same of a file whose bins data alone are read, whether they tile or not: memory was not given, or it has none
+abbrev pub FileBinsUnread : List ℕ → Refusal → Type 0
+FileBinsUnread file why = (why ≡ refusal.NoMemory) ⊎ FileLacksBins file why
+
+-- the same of one whose bins data are read as an image: memory was not given, or it has none that tile
 abbrev pub FileBinsRefused : List ℕ → Refusal → Type 0
 FileBinsRefused file why = (why ≡ refusal.NoMemory) ⊎ FileHasNoBins file why
 
@@ -43,6 +49,12 @@ BinsRefusalFitsFile known unread.SourceFailed = Unit {0}
 abbrev pub BinsRefusalFitsFileAs : ℕ → Option (List ℕ) → ReadError → Type 0
 BinsRefusalFitsFileAs hive known (unread.Refused why) = IfSome known (λ file. FileBinsRefusedAs hive file why)
 BinsRefusalFitsFileAs hive known unread.SourceFailed = Unit {0}
+
+-- bins data that were read are the file's, if its bytes are known, and its block is the one that was read; or why there are
+-- none is one of the file's reasons
+abbrev pub BinsOrRefusal : Option (List ℕ) → Result (BaseBlock × Vec ℕ) Refusal → Type 0
+BinsOrRefusal known (Ok read) = IfSome known (λ file. FileHasBins file read.0 read.1.items)
+BinsOrRefusal known (Err why) = IfSome known (λ file. FileBinsUnread file why)
 
 -- a reader's error is want of memory, or says that the file can't be read
 abbrev pub IsReadError : ReadError → Type 0

@@ -2,7 +2,7 @@
 ghost use Rattle.std.specs.Prelude.{◌≡◌, ◌≤◌, ◌<◌, length, List, ℕ, MatchResult};
 ghost use Rattle.base_block.specs.Judgements.{IsPrimary};
 ghost use Rattle.dirt_log.specs.WholeLog.{block_of};
-ghost use Rattle.hive_file_reader.specs.Hives.{IsFilePrefix, FileHasBlock, FileHasNoBins};
+ghost use Rattle.hive_file_reader.specs.Hives.{IsFilePrefix, FileHasBlock, FileLacksBins};
 
 use base_block::{BaseBlock, Signature};
 use refusals::{Cause, Refusal};
@@ -19,7 +19,7 @@ const _: () = prove!(HEAD_BYTES == 4_096);
 /// wrong or the two numbers differ. Otherwise refused as [`BaseBlock::judge_primary`] refuses it.
 pub(crate) fn judged(head: &[u8]) -> Result<BaseBlock, Refusal>
     ensures { (file : List ℕ) → IsFilePrefix head.now file → MatchResult result
-        (λ block. FileHasBlock file block × (4096 ≤ length head.now)) (FileHasNoBins file) }
+        (λ block. FileHasBlock file block × (4096 ≤ length head.now)) (FileLacksBins file) }
 {
     let Some(block) = BaseBlock::read_first(head) else {
         return Err(Refusal::from(Cause::Truncated));

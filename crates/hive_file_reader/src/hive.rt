@@ -1,15 +1,14 @@
 //! The image and the tree of a hive's file.
-ghost use Rattle.std.specs.Prelude.{◌≡◌, IfOk, IfErr, IfSome};
+ghost use Rattle.std.specs.Prelude.{◌≡◌, ℕ, List, Option, IfOk, IfErr, IfSome};
 ghost use Rattle.hive_file_reader.specs.Hives.{FileHasBins, FileHoldsHive};
 ghost use Rattle.hive_file_reader.specs.declared.hive.ReadError.TheVariants.{Refused};
-ghost use Rattle.hive_file_reader.specs.Readings.{IsReadError, RefusalFitsFile, RefusalFitsFileAs, BinsRefusalFitsFile, BinsRefusalFitsFileAs, of_hive};
+ghost use Rattle.hive_file_reader.specs.Readings.{BinsOrRefusal, IsReadError, RefusalFitsFile, RefusalFitsFileAs, BinsRefusalFitsFile, BinsRefusalFitsFileAs, of_hive};
 
-use crate::bytes::{fill, read_part};
-use crate::head::{HEAD_BYTES, judged};
+use crate::parts::read_parts;
 use base_block::BaseBlock;
 use hive_cells::{Image, Looks};
 use hive_load::load;
-use refusals::{Cause, Refusal};
+use refusals::Refusal;
 use reg_tree::Tree;
 use std::alloc::Global;
 use std::io;
@@ -81,22 +80,31 @@ pub fn read_hive<R: Read>(alloc: Global, reader: &mut R, hive: u8) -> Result<Tre
     }
 }
 
-// the block and the bins data of a hive's file, refused as hive 0
+// the block and the image of a hive's file, refused as hive 0
 fn read_bins<R: Read>(alloc: Global, reader: &mut R) -> Result<(BaseBlock, Image), ReadError>
     ensures image { IfOk result (λ read. IfSome (R.remaining reader.old) (λ file. FileHasBins file read.0 read.1.bytes)) }
     ensures unread { IfErr result (BinsRefusalFitsFile (R.remaining reader.old)) }
 {
-    let mut head = [0; HEAD_BYTES];
-    let count = fill(reader, &mut head)?;
-    let block = judged(&head[..count])?;
-    let size = block.bins_size as usize;
-    let bins = read_part(alloc, reader, size)?;
-    if bins.len() < size {
-        return Err(ReadError::Refused(Refusal::from(Cause::Truncated)));
-    }
-    match Image::open(alloc, bins) {
-        Ok(image) => Ok((block, image)),
-        Err(unopened) => Err(ReadError::Refused(unopened.refusal)),
+    let parts = read_parts(alloc, reader)?;
+    opened(alloc, parts.bins)
+}
+
+// the block and the image of bins data that were read, or why there are none
+fn opened(
+    alloc: Global,
+    bins: Result<(BaseBlock, Vec<u8>), Refusal>,
+) -> Result<(BaseBlock, Image), ReadError>
+    ensures image { IfOk result (λ read. (known : Option (List ℕ)) → BinsOrRefusal known bins →
+        IfSome known (λ file. FileHasBins file read.0 read.1.bytes)) }
+    ensures unread { IfErr result (λ error. (known : Option (List ℕ)) → BinsOrRefusal known bins →
+        BinsRefusalFitsFile known error) }
+{
+    match bins {
+        Ok((block, bytes)) => match Image::open(alloc, bytes) {
+            Ok(image) => Ok((block, image)),
+            Err(unopened) => Err(ReadError::Refused(unopened.refusal)),
+        },
+        Err(why) => Err(ReadError::Refused(why)),
     }
 }
 
