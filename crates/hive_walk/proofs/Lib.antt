@@ -3,3 +3,4 @@ pub mod NodeNames
 pub mod Judged
 pub mod Faults
 pub mod Walked
+pub mod ShortPaths

@@ -342,6 +342,11 @@ only_err P R (Err e) r = r
 pub memory_alone : (E : Type 0) (error : ImageError) → error ≡ image_error.NoMemory → IsNoFault {E = E} (walk_error.Image error)
 memory_alone E error e = subst (λ (it : ImageError). IsNoFault {E = E} (walk_error.Image it)) (sym e) tt
 
+-- what holds, holds of each refusal
+pub if_err_all : {X E P : Type 0} (answer : Result X E) → P → IfErr answer (λ _. P)
+if_err_all (Ok x) p = tt
+if_err_all (Err e) p = p
+
 pub sink_left : {S X E : Type 0} (old new : S) (result : Result X (WalkError E)) → IfErr result IsNoFault → IfErr result (LeavesSink old new)
 sink_left old new (Ok x) h = tt
 sink_left old new (Err (walk_error.Image image_error.NoMemory)) h = tt
@@ -355,7 +360,7 @@ same_rows split cells levels at parts below s =
     whole_rows (entries_of_key parts below) (sound_node split cells levels at parts below s)
     ∙ ap tree_rows (tree_of_node parts below (entries_of_key parts below) (entries_sorted (tree_of parts below)) s.whole.named (entries_rows parts below s.whole.named))
 
-pub no_fault : {X E : Type 0} (bytes : List ℕ) (root minor : ℕ) (result : Result X (WalkError E)) → IfErr result IsNoFault → (tree : TreeMap) × BinsEncodeTree bytes root minor tree → IfErr result (WalkRefused bytes root minor)
+pub no_fault : {X E : Type 0} (bytes : List ℕ) (root minor : ℕ) (result : Result X (WalkError E)) → IfErr result IsNoFault → IfErr result (λ _. (tree : TreeMap) × BinsEncodeTree bytes root minor tree) → IfErr result (WalkRefused bytes root minor)
 no_fault bytes root minor (Ok x) h tree = tt
 no_fault bytes root minor (Err (walk_error.Image image_error.NoMemory)) h tree = tt
 no_fault bytes root minor (Err (walk_error.Image (image_error.Fault fault))) h tree = absurd h

@@ -1,18 +1,19 @@
 -- What is known of keys that were judged, and what a walk hands to its sink.
-use Rattle.std.specs.Prelude.{◌≡◌, ◌⊎◌, ℕ, Bool, true, false, List, [], ◌++◌, map, if◌then◌else◌}
+use Rattle.std.specs.Prelude.{◌≡◌, ◌⊎◌, ◌≤◌, ℕ, Bool, true, false, List, [], ◌++◌, length, map, if◌then◌else◌, Some}
 use Rattle.std.specs.FinMap as finite
+use Rattle.refusals.specs.declared.limits.TheConstants.{MOST_PATH_NAMES}
 use Rattle.reg_names.specs.Names.{folded}
 use Rattle.reg_tree_parts.specs.Rows.{Row}
 use Rattle.reg_tree_parts.specs.Nodes.{Entries}
-use Rattle.reg_tree.specs.Maps.{TreeMap}
-use Rattle.hive_cells.specs.Bins.{Cells}
+use Rattle.reg_tree.specs.Maps.{TreeMap, row}
+use Rattle.hive_cells.specs.Bins.{Cells, Shows}
 use Rattle.hive_tree_model.specs.Lists.{IsIn, Once}
 use Rattle.hive_tree_model.specs.Keys.{KeyParts, Keys, none, key, own_cells, lent_cells}
 use Rattle.hive_tree_model.specs.Trees.{same, tree_of}
 use Rattle.hive_tree_model.specs.Loads.{CellMarks}
 use Rattle.hive_tree_model.specs.Encodings.{CellsMatchKeys, Named, Whole, LentApart}
 use Rattle.hive_records.specs.KeyNodes.{keys_in}
-use Rattle.hive_records.specs.Images.{BinsEncodeTree}
+use Rattle.hive_records.specs.Images.{splits, BinsEncodeTree}
 use Rattle.hive_load.specs.Answers.{IsShallow}
 use Rattle.hive_walk.specs.declared.errors.ImageError.TheVariants as image_error
 use Rattle.hive_walk.specs.declared.errors.WalkError.{WalkError}
@@ -34,6 +35,10 @@ pub record KeyIsSound (split : Bool) (cells : Cells) (levels at : ℕ) (parts : 
   pub whole : Whole (keys_in split cells) at parts below
   pub apart : LentApart parts below
   pub shallow : IsShallow levels below
+
+-- an image's keys from the root at an offset on are what its cells say, and it encodes a tree of these keys
+abbrev pub IsSoundImage : List ℕ → ℕ → ℕ → Type 0
+IsSoundImage bytes root minor = (cells : Cells) × Shows bytes cells × (parts : KeyParts Row) × (below : Keys Row) × KeyIsSound (splits minor) cells MOST_PATH_NAMES root parts below × BinsEncodeTree bytes root minor (tree_of parts below)
 
 -- no cell of a list is marked
 abbrev pub AreUnmarked : CellMarks → List ℕ → Type 0
@@ -60,6 +65,10 @@ cells_named (key at parts below after) name = if same name parts.name then parts
 -- the entries of some of the keys, each under its folded name
 abbrev pub nodes_of_siblings : Keys Row → List Sibling → List (List ℕ × Entries)
 nodes_of_siblings keys siblings = map (λ (sibling : Sibling). (folded sibling.name, entries_named keys (folded sibling.name))) siblings
+
+-- no key of the tree lies deeper than a path may have names
+abbrev pub HasShortPaths : TreeMap → Type 0
+HasShortPaths tree = (path : List (List ℕ)) (key : Row) → row tree path ≡ Some key → length path ≤ MOST_PATH_NAMES
 
 -- a walk ended for want of memory, or since its sink refused a key
 abbrev pub IsNoFault : {E : Type 0} → WalkError E → Type 0

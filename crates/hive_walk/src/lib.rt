@@ -11,7 +11,8 @@ mod fields;
 mod judgement;
 pub mod laws;
 mod siblings;
+mod sound_image;
 mod walk;
 
 pub use crate::errors::{Fault, ImageError, WalkError};
-pub use crate::walk::walk_hive;
+pub use crate::sound_image::{SoundImage, walk_hive};

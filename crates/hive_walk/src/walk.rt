@@ -188,8 +188,8 @@ fn walk_keys<S: KeySink>(
     Ok(())
 }
 
-// walks an image that was judged
-fn walk_judged<S: KeySink>(
+/// Walks an image that was judged.
+pub(crate) fn walk_judged<S: KeySink>(
     alloc: Global,
     image: &Image,
     root: u32,
@@ -218,29 +218,4 @@ fn walk_judged<S: KeySink>(
         MOST_PATH_NAMES,
         root,
     )
-}
-
-/// Hands a sink each key of the tree that an image encodes, from the key node at an offset on, in the order of folded
-/// paths, the root first. Below minor version 4 big data lie in one cell, from it on in segments. No path may have more
-/// than 512 names; the tree may have any weight.
-///
-/// A fault of the image is found before the sink takes a key. It comes only if the image encodes no tree, or a key lies
-/// too deep. The first refusal of the sink ends the walk. If memory is wanting, the sink may have taken some keys.
-pub fn walk_hive<S: KeySink>(
-    alloc: Global,
-    image: &Image,
-    root: u32,
-    minor: u32,
-    sink: &mut S,
-) -> Result<(), WalkError<S::Error>>
-    ensures took { OnOk result ((tree : TreeMap) × BinsEncodeTree image.now.bytes root minor tree
-        × S.Took sink.old sink.new (tree_rows tree)) }
-    ensures refused { IfErr result (WalkRefused image.now.bytes root minor) }
-    ensures untaken { IfErr result (LeavesSink sink.old sink.new) }
-{
-    image.tiles(0); // for the prover
-    match judge(alloc, image, root, minor) {
-        Ok(()) => walk_judged(alloc, image, root, minor, sink),
-        Err(error) => Err(WalkError::Image(error)),
-    }
 }
