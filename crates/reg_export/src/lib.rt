@@ -25,8 +25,10 @@ mod type_name;
 mod unit_form;
 mod whole_file;
 
+pub use byte_units::first_unit;
 pub use encoding::Encoding;
 pub use json_sink::JsonSink;
+pub use moment::utc_text;
 pub use name_scan::NameScan;
 pub use reg_part::write_reg_below;
 pub use reg_sink::{RegSink, write_reg_header};

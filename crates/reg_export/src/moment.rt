@@ -15,7 +15,7 @@ const LONGEST_TEXT: usize = 33;
 
 /// The date and the time of a FILETIME in UTC, such as `2024-02-29T00:00:00.1234567Z`. None if it is past
 /// 9999-12-30T22:00:00.9999999Z, the last moment that a `Timestamp` holds.
-pub(crate) fn utc_text(time: u64) -> Option<ArrayString<LONGEST_TEXT>>
+pub fn utc_text(time: u64) -> Option<ArrayString<LONGEST_TEXT>>
     ensures { MatchOption result (¬ IsTimestampNanos (nanos_of time))
         (λ text. IsTimestampNanos (nanos_of time) × IsUtcText time text.bytes) }
 {
