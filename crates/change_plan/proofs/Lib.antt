@@ -3,3 +3,4 @@ pub mod Deletions
 pub mod Refused
 pub mod Answered
 pub mod Removed
+pub mod LegalPlans

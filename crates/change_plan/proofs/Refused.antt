@@ -1,5 +1,6 @@
 -- Why a removal is refused, seen from before the deletions that were made, and from the key above.
 use Rattle.std.proofs.Common.{◌≡◌, ◌≢◌, ◌⊎◌, inl, inr, ℕ, true, List, [], ◌∷◌, ◌++◌, Err, sym, ◌∙◌, ap, subst, arith}
+use Rattle.std.specs.List.{All}
 use Rattle.std.proofs.lemmas.List.{map-append}
 use Rattle.std.proofs.lemmas.List.Elements.{All-append}
 use Rattle.refusals.specs.declared.refusal.Refusal.{Refusal}
@@ -10,10 +11,11 @@ use Rattle.reg_tree.specs.Maps.{TreeMap}
 use Rattle.reg_tree.specs.Reads.{IsMissingOrNoMemory}
 use Rattle.reg_tree.specs.Judgement.{applied, legal}
 use Rattle.reg_tree.specs.TreeLists.{subkeys_in}
+use Rattle.reg_tree.specs.declared.op.Op.{Op}
 use Rattle.reg_tree.specs.declared.op.Op.TheVariants.{DeleteKey}
 use Rattle.store_model.specs.Invariant.{AreLegalChanges}
 use Rattle.change_plan.specs.declared.extension.Extension.{Extension}
-use Rattle.change_plan.specs.Edits.{DeletesBelow, RemovalRefused, is_root, is_kept, is_unnamed, is_deep}
+use Rattle.change_plan.specs.Edits.{DeletesBelow, HasSubkey, RemovalRefused, is_root, is_kept, is_unnamed, is_deep}
 use Rattle.change_plan.specs.Removals.{ChildRefused, DeletesMore}
 use Rattle.change_plan.proofs.Sequences.{all_below_parent, applied_on, begins_self, front_begins, legal_on}
 use Rattle.change_plan.proofs.Deletions.{not_legal}
@@ -40,15 +42,23 @@ pub later_refuses : (first between : Extension) (moment hive : ℕ) (path : List
 later_refuses first between moment hive path why more (inl lacking) = inl lacking
 later_refuses first between moment hive path why more (inr refused) = inr (by_cause why refused)
   where
+    legal_both : (ops : List Op) → AreLegalChanges between.view ops moment → AreLegalChanges first.view (more.more ++ ops) moment
+    legal_both ops are_legal = legal_on first.view more.more ops moment more.legal (subst (λ trees. AreLegalChanges trees ops moment) more.view are_legal)
+
+    below_both : (ops : List Op) → All (DeletesBelow hive path) ops → All (DeletesBelow hive path) (more.more ++ ops)
+    below_both ops below = All-append (DeletesBelow hive path) more.more ops more.below below
+
+    trees_both : (ops : List Op) → applied first.view (more.more ++ ops) moment ≡ applied between.view ops moment
+    trees_both ops = applied_on first.view more.more ops moment ∙ ap (λ trees. applied trees ops moment) (sym more.view)
+
     by_cause : (why : Refusal) → RemovalRefused between.view moment hive path why → RemovalRefused first.view moment hive path why
     by_cause _ (is_root root) = is_root root
     by_cause why (is_kept _ ops kept are_legal below on not_kept) =
-        is_kept why (more.more ++ ops) kept
-        (legal_on first.view more.more ops moment more.legal (subst (λ trees. AreLegalChanges trees ops moment) more.view are_legal))
-        (All-append (DeletesBelow hive path) more.more ops more.below below) on
-        (ap (λ trees. legal trees (DeleteKey hive kept)) (applied_on first.view more.more ops moment ∙ ap (λ trees. applied trees ops moment) (sym more.view)) ∙ not_kept)
-    by_cause _ (is_unnamed name none) = is_unnamed name none
-    by_cause _ (is_deep way on deep) = is_deep way on deep
+        is_kept why (more.more ++ ops) kept (legal_both ops are_legal) (below_both ops below) on (ap (λ trees. legal trees (DeleteKey hive kept)) (trees_both ops) ∙ not_kept)
+    by_cause _ (is_unnamed ops way name are_legal below on has none) =
+        is_unnamed (more.more ++ ops) way name (legal_both ops are_legal) (below_both ops below) on (subst (λ trees. HasSubkey trees hive way name) (sym (trees_both ops)) has) none
+    by_cause _ (is_deep ops way name are_legal below on has deep) =
+        is_deep (more.more ++ ops) way name (legal_both ops are_legal) (below_both ops below) on (subst (λ trees. HasSubkey trees hive way name) (sym (trees_both ops)) has) deep
 
 pub child_refuses : (trees : List TreeMap) (moment hive : ℕ) (path : List (List ℕ)) (name : List ℕ) (why : Refusal) → Refuses trees moment hive (path ++ name ∷ []) why → Refuses trees moment hive path why
 child_refuses trees moment hive path name why (inl lacking) = inl lacking
@@ -64,10 +74,21 @@ child_refuses trees moment hive path name why (inr refused) = inr (by_cause why 
     by_cause : (why : Refusal) → RemovalRefused trees moment hive (path ++ name ∷ []) why → RemovalRefused trees moment hive path why
     by_cause _ (is_root root) = absurd (not_root path root)
     by_cause why (is_kept _ ops kept are_legal below on not_kept) = is_kept why ops kept are_legal (all_below_parent hive path name ops below) (on_path kept on) not_kept
-    by_cause _ (is_unnamed other none) = is_unnamed other none
-    by_cause _ (is_deep way on deep) = is_deep way (on_path way on) deep
+    by_cause _ (is_unnamed ops way other are_legal below on has none) = is_unnamed ops way other are_legal (all_below_parent hive path name ops below) (on_path way on) has none
+    by_cause _ (is_deep ops way other are_legal below on has deep) = is_deep ops way other are_legal (all_below_parent hive path name ops below) (on_path way on) has deep
 
-pub unmade_refuses : (trees : List TreeMap) (moment hive : ℕ) (path : List (List ℕ)) (name : List ℕ) (why : Refusal) → (why ≡ NoMemory) ⊎ ChildRefused path name why → Refuses trees moment hive path why
-unmade_refuses trees moment hive path name why (inl lacking) = inl lacking
-unmade_refuses trees moment hive path name why (inr (inl bad)) = inr (subst (RemovalRefused trees moment hive path) (sym bad.0) (is_unnamed name bad.1))
-unmade_refuses trees moment hive path name why (inr (inr deep)) = inr (subst (RemovalRefused trees moment hive path) (sym deep.0) (is_deep path (begins_self path) deep.1))
+-- the refusal of a subkey is one of the key above it, which has that subkey
+pub subkey_refuses : (first between : Extension) (moment hive : ℕ) (path : List (List ℕ)) (name : List ℕ) (why : Refusal) → HasSubkey first.view hive path name → DeletesMore first moment hive path between
+    → (why ≡ NoMemory) ⊎ (ChildRefused path name why ⊎ RemovalRefused between.view moment hive path why) → Refuses first.view moment hive path why
+subkey_refuses first between moment hive path name why has more (inl lacking) = inl lacking
+subkey_refuses first between moment hive path name why has more (inr (inl (inl bad))) =
+    inr (subst (RemovalRefused first.view moment hive path) (sym bad.0) (is_unnamed [] path name tt no_ops (begins_self path) has bad.1))
+  where
+    no_ops : All (DeletesBelow hive path) []
+    no_ops k d lt = absurd (let no : ⊥ = omega (arith, lt) in no)
+subkey_refuses first between moment hive path name why has more (inr (inl (inr deep))) =
+    inr (subst (RemovalRefused first.view moment hive path) (sym deep.0) (is_deep [] path name tt no_ops (begins_self path) has deep.1))
+  where
+    no_ops : All (DeletesBelow hive path) []
+    no_ops k d lt = absurd (let no : ⊥ = omega (arith, lt) in no)
+subkey_refuses first between moment hive path name why has more (inr (inr refused)) = later_refuses first between moment hive path why more (inr refused)

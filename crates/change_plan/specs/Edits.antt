@@ -1,6 +1,6 @@
 -- Which operations an edit asks for on trees, and why it is refused.
-use Rattle.std.specs.Prelude.{◌≡◌, ◌⊎◌, ℕ, true, false, List, [], ◌∷◌, None, IsSome, Ok, Err, length}
-use Rattle.std.specs.List.{All}
+use Rattle.std.specs.Prelude.{◌≡◌, ◌⊎◌, ℕ, true, false, List, [], ◌∷◌, Some, None, IsSome, Ok, Err, length}
+use Rattle.std.specs.List.{All, Contains}
 use Rattle.refusals.specs.declared.refusal.Refusal.{Refusal}
 use Rattle.refusals.specs.declared.refusal.Refusal.TheVariants.{BadName, Fixed, TooDeep}
 use Rattle.refusals.specs.declared.limits.TheConstants.{MOST_PATH_NAMES}
@@ -8,7 +8,7 @@ use Rattle.reg_names.specs.Names.{folded_path, is_key_name}
 use Rattle.reg_tree_parts.specs.Nodes.{begins_path}
 use Rattle.reg_tree.specs.Maps.{TreeMap}
 use Rattle.reg_tree.specs.Judgement.{applied, legal}
-use Rattle.reg_tree.specs.TreeLists.{info_in, value_in}
+use Rattle.reg_tree.specs.TreeLists.{info_in, subkeys_in, value_in}
 use Rattle.reg_tree.specs.declared.op.Op.{Op}
 use Rattle.reg_tree.specs.declared.op.Op.TheVariants.{DeleteKey, DeleteValue}
 use Rattle.reg_tree.specs.declared.op.Legality.TheVariants.{Legal, Opened}
@@ -39,6 +39,10 @@ EditAsks trees moment (RemoveValue hive path name) ops =
     ⊎ (IsSome (value_in trees hive (folded_path path) name) × OperationAsks trees (DeleteValue hive path name) ops)
 EditAsks trees moment (RemoveKey hive path) ops = RemovesKey trees moment hive path ops
 
+-- the key at a way has a subkey of this name
+abbrev pub HasSubkey : List TreeMap → ℕ → List (List ℕ) → List ℕ → Type 0
+HasSubkey trees hive way name = (names : List (List ℕ)) × (subkeys_in trees hive (folded_path way) ≡ Some names) × Contains names name
+
 -- Why a key isn't removed with all keys below it.
 pub data RemovalRefused (trees : List TreeMap) (moment hive : ℕ) (path : List (List ℕ)) : Refusal → Type 0 where
   -- it is the root
@@ -46,10 +50,12 @@ pub data RemovalRefused (trees : List TreeMap) (moment hive : ℕ) (path : List 
   -- after legal deletions of others the deletion of a key, at the path or below it, isn't legal
   is_kept : (why : Refusal) (ops : List Op) (kept : List (List ℕ)) → AreLegalChanges trees ops moment → All (DeletesBelow hive path) ops
       → begins_path (folded_path path) (folded_path kept) ≡ true → legal (applied trees ops moment) (DeleteKey hive kept) ≡ Err why → RemovalRefused trees moment hive path why
-  -- a key below it has a name that no call may name
-  is_unnamed : (name : List ℕ) → is_key_name name ≡ false → RemovalRefused trees moment hive path BadName
-  -- a key below it lies deeper than any path leads
-  is_deep : (way : List (List ℕ)) → begins_path (folded_path path) (folded_path way) ≡ true → length way ≡ MOST_PATH_NAMES → RemovalRefused trees moment hive path TooDeep
+  -- after legal deletions of others a key, at the path or below it, has a subkey whose name no call may name
+  is_unnamed : (ops : List Op) (way : List (List ℕ)) (name : List ℕ) → AreLegalChanges trees ops moment → All (DeletesBelow hive path) ops
+      → begins_path (folded_path path) (folded_path way) ≡ true → HasSubkey (applied trees ops moment) hive way name → is_key_name name ≡ false → RemovalRefused trees moment hive path BadName
+  -- after legal deletions of others a key, at the path or below it, has a subkey, and its way has as many names as paths may have
+  is_deep : (ops : List Op) (way : List (List ℕ)) (name : List ℕ) → AreLegalChanges trees ops moment → All (DeletesBelow hive path) ops
+      → begins_path (folded_path path) (folded_path way) ≡ true → HasSubkey (applied trees ops moment) hive way name → length way ≡ MOST_PATH_NAMES → RemovalRefused trees moment hive path TooDeep
 
 -- why an edit is refused
 abbrev pub EditRefused : List TreeMap → ℕ → Edit → Refusal → Type 0

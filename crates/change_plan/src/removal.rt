@@ -54,8 +54,9 @@ fn remove(
         (why ≡ NoMemory) ⊎ RemovalRefused made.old.view moment hive path.now why) }
 {
     let names = made.view.subkey_names(alloc, hive, path)?;
-    for name in names.list().iter().rev() {
-        remove_child(alloc, made, hive, path, name, moment)?;
+    let names = names.list();
+    for index in (0..names.len()).rev() {
+        remove_child(alloc, made, hive, path, &names[index], moment)?;
     }
     made.delete(alloc, hive, path.clone()?, moment)
 }
@@ -71,8 +72,8 @@ fn remove_child(
     moment: u64,
 ) -> Result<(), Refusal>
     ensures deleted { OnOk result (DeletesMore made.old moment hive path.now made.new) }
-    ensures refused { IfErr result (λ why.
-        (why ≡ NoMemory) ⊎ RemovalRefused made.old.view moment hive path.now why) }
+    ensures refused { IfErr result (λ why. (why ≡ NoMemory) ⊎ (ChildRefused path.now name.now why
+        ⊎ RemovalRefused made.old.view moment hive path.now why)) }
 {
     let child = child_of(alloc, path, name)?;
     remove(alloc, made, hive, &child, moment)

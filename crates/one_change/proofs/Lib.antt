@@ -1,2 +1,3 @@
 pub mod Transacting
 pub mod Waiting
+pub mod Steps

@@ -5,7 +5,8 @@ use Rattle.store_model.specs.Machine.{trees_now}
 use Rattle.store_model.specs.Invariant.{AreLegalChanges}
 use Rattle.script_runner.proofs.Later.{later_same}
 use Rattle.change_plan.specs.Plans.{Planned}
-use Rattle.reg_apply.proofs.LegalPlans.{IsLegalPlan, fresh_plan, same_moment, statements_on}
+use Rattle.change_plan.proofs.LegalPlans.{IsLegalPlan, fresh_plan}
+use Rattle.reg_apply.proofs.LegalPlans.{same_moment, statements_on}
 use Rattle.reg_apply.proofs.run.change.Goals as goal
 
 pub returns-in_default-clause-later : goal.returns-in_default-clause-later

@@ -1,7 +1,8 @@
 use Rattle.std.proofs.Common.{Some, None, refl}
 use Rattle.script_runner.proofs.Later.{later_same}
 use Rattle.one_change.proofs.Transacting.{keeps_same}
-use Rattle.reg_apply.proofs.Finished.{no_steps, steps_keep}
+use Rattle.one_change.proofs.Steps.{steps_keep}
+use Rattle.reg_apply.proofs.Finished.{no_steps}
 use Rattle.reg_apply.proofs.run.report.Goals as goal
 
 pub returns-in_err-status-clause-later : goal.returns-in_err-status-clause-later
