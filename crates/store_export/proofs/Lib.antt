@@ -1,2 +1,4 @@
 mod Hives
 mod Told
+pub mod Parts
+mod FilePrints

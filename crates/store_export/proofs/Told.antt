@@ -24,13 +24,13 @@ appends_kept (Some xs) None new text a k = absurd a
 appends_kept (Some xs) (Some ys) None text a k = absurd k
 appends_kept (Some xs) (Some ys) (Some zs) text a k = k ∙ a
 
-kept_appends : (old mid new : Option (List ℕ)) (text : List ℕ) → Keeps old mid → Appends mid new text → Appends old new text
+pub kept_appends : (old mid new : Option (List ℕ)) (text : List ℕ) → Keeps old mid → Appends mid new text → Appends old new text
 kept_appends None mid new text k a = tt
 kept_appends (Some xs) None new text k a = absurd k
 kept_appends (Some xs) (Some ys) None text k a = absurd a
 kept_appends (Some xs) (Some ys) (Some zs) text k a = a ∙ ap (λ bytes. bytes ++ text) k
 
-rows_kept : (request : Request) (rows : Option (List HiveRows)) (old mid new : Option (List ℕ)) → ShowsRows request rows old mid → Keeps mid new → ShowsRows request rows old new
+pub rows_kept : (request : Request) (rows : Option (List HiveRows)) (old mid new : Option (List ℕ)) → ShowsRows request rows old mid → Keeps mid new → ShowsRows request rows old new
 rows_kept request None old mid new shown kept = absurd shown
 rows_kept request (Some hives) old mid new shown kept = (shown.0, shown.1, appends_kept old mid new shown.0 shown.2 kept)
 

@@ -1,2 +1,5 @@
 pub mod Exports
 pub mod Reports
+pub mod HiveExports
+pub mod PartLaws
+pub mod HivePrints

@@ -7,6 +7,7 @@
 #![tactic(auto)]
 
 mod hive;
+mod hive_part;
 mod lines;
 mod part;
 mod part_sink;

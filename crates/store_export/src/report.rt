@@ -1,6 +1,7 @@
 //! What is refused of an export, and how it is told.
 ghost use Rattle.std.specs.Prelude.{◌≡◌, IfOk};
 ghost use Rattle.store_export.specs.Reports.{IsTold};
+ghost use Rattle.store_export.specs.HivePrints.{image_refusal};
 
 use hive_walk::ImageError;
 use refusals::Refusal;
@@ -59,7 +60,9 @@ impl<T: Drop> From<AllocFailed<T>> for ExportError {
 
 impl ExportError {
     // why an image is refused
-    pub(crate) fn of_image(error: ImageError) -> ExportError {
+    pub(crate) fn of_image(error: ImageError) -> ExportError
+        ensures { result ≡ image_refusal error }
+    {
         match error {
             ImageError::NoMemory => ExportError::Refused(Refusal::NoMemory),
             ImageError::Fault(fault) => ExportError::Refused(fault.refusal),

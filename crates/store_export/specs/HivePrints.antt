@@ -1,0 +1,99 @@
+-- Steps of an export of a hive's file.
+use Rattle.std.specs.Prelude.{◌≡◌, ◌⊎◌, ℕ, true, false, Bool, List, [], ◌∷◌, Option, Some, None, IfSome, Result, Ok, Err}
+use Rattle.std.specs.List.{flat_map, list_all}
+use Rattle.std.specs.Io.KnownBytes.{Appends, Keeps}
+use Rattle.std.specs.declared.io.Error.{Error}
+use Rattle.refusals.specs.declared.refusal.Refusal.{Refusal}
+use Rattle.refusals.specs.declared.refusal.Refusal.TheVariants.{BadName, NoMemory, NotFound}
+use Rattle.hive_walk.specs.declared.errors.WalkError.{WalkError}
+use Rattle.hive_walk.specs.declared.errors.WalkError.TheVariants as walk_error
+use Rattle.hive_walk.specs.declared.errors.ImageError.{ImageError}
+use Rattle.hive_walk.specs.declared.errors.ImageError.TheVariants as image_error
+use Rattle.hive_file_reader.specs.Readings.{FileBinsRefusedAs}
+use Rattle.reg_tree.specs.Maps.{TreeMap}
+use Rattle.key_walk.specs.KeyRows.{NamedRow, tree_rows}
+use Rattle.reg_export.specs.NameTests.{fits_line}
+use Rattle.reg_export.specs.RegFiles.{file_names, reg_text}
+use Rattle.reg_export.specs.JsonTexts.{AreJsonLines}
+use Rattle.reg_export.specs.TsvTexts.{tsv_key_lines}
+use Rattle.store_export.specs.declared.request.Form.{Form}
+use Rattle.store_export.specs.declared.request.Form.TheVariants.{Reg, Json, Tsv}
+use Rattle.store_export.specs.declared.request.Request.{Request}
+use Rattle.store_export.specs.declared.report.ExportError.{ExportError}
+use Rattle.store_export.specs.declared.report.ExportError.TheVariants as error
+use Rattle.store_export.specs.Exports.{prefix_of}
+use Rattle.store_export.specs.HiveExports.{HiveRefused, ShowsFile, StopsFile, are_some, part_of}
+
+-- it is printed; or memory is lacking, or a write failed
+abbrev pub IsPrinted : {T : Type 0} → Type 0 → Result T ExportError → Type 0
+IsPrinted printed (Ok done) = printed
+IsPrinted printed (Err (error.Refused why)) = why ≡ NoMemory
+IsPrinted printed (Err error.CannotRead) = ⊥
+IsPrinted printed (Err (error.Write fault)) = Unit {0}
+
+-- how a walk ended, as the answer of an export
+abbrev pub AnswersWalk : {T : Type 0} → Result Bool (WalkError Error) → Result T ExportError → Type 0
+AnswersWalk (Ok walked) (Ok done) = Unit {0}
+AnswersWalk (Ok walked) (Err stopped) = ⊥
+AnswersWalk (Err (walk_error.Image image)) (Ok done) = ⊥
+AnswersWalk (Err (walk_error.Image image)) (Err stopped) = stopped ≡ error.Refused NoMemory
+AnswersWalk (Err (walk_error.Sink fault)) (Ok done) = ⊥
+AnswersWalk (Err (walk_error.Sink fault)) (Err stopped) = stopped ≡ error.Write fault
+
+-- why keys are not looked at: memory is lacking, or there are none
+abbrev pub ScanRefused : List NamedRow → ExportError → Type 0
+ScanRefused keys (error.Refused why) = (why ≡ NoMemory) ⊎ ((why ≡ NotFound) × (are_some keys ≡ false))
+ScanRefused keys error.CannotRead = ⊥
+ScanRefused keys (error.Write fault) = ⊥
+
+-- a text shows keys of hive 0 in a form, behind this prefix
+abbrev pub IsKeysText : Form → List ℕ → List NamedRow → List ℕ → Type 0
+IsKeysText Reg prefix keys text = text ≡ reg_text ((prefix, keys) ∷ [])
+IsKeysText Json prefix keys text = AreJsonLines 0 keys text
+IsKeysText Tsv prefix keys text = text ≡ flat_map (tsv_key_lines 0) keys
+
+-- known bytes grew by such a text
+abbrev pub ShowsKeys : Form → List ℕ → List NamedRow → Option (List ℕ) → Option (List ℕ) → Type 0
+ShowsKeys form prefix keys before after = (text : List ℕ) × IsKeysText form prefix keys text × Appends before after text
+
+-- why keys are not shown: there are none; or a registration file can't show a name
+abbrev pub KeysRefused : Form → List ℕ → List NamedRow → Refusal → Type 0
+KeysRefused form prefix keys why =
+    ((why ≡ NotFound) × (are_some keys ≡ false))
+    ⊎ ((why ≡ BadName) × (are_some keys ≡ true) × (form ≡ Reg) × (list_all fits_line (file_names ((prefix, keys) ∷ [])) ≡ false))
+
+-- there are keys, and they are shown; or why not, before which nothing was printed unless memory is lacking
+abbrev pub AnswersKeys : {T : Type 0} → Form → List ℕ → List NamedRow → Option (List ℕ) → Option (List ℕ) → Result T ExportError → Type 0
+AnswersKeys form prefix keys before after (Ok done) = (are_some keys ≡ true) × ShowsKeys form prefix keys before after
+AnswersKeys form prefix keys before after (Err (error.Refused why)) = (why ≡ NoMemory) ⊎ (KeysRefused form prefix keys why × Keeps before after)
+AnswersKeys form prefix keys before after (Err error.CannotRead) = ⊥
+AnswersKeys form prefix keys before after (Err (error.Write fault)) = Unit {0}
+
+-- keys that are there are shown; or why not, before which nothing was printed unless memory is lacking
+abbrev pub AnswersScanned : {T : Type 0} → Form → List ℕ → List NamedRow → Option (List ℕ) → Option (List ℕ) → Result T ExportError → Type 0
+AnswersScanned form prefix keys before after (Ok done) = ShowsKeys form prefix keys before after
+AnswersScanned form prefix keys before after (Err (error.Refused why)) =
+    (why ≡ NoMemory) ⊎ ((why ≡ BadName) × (form ≡ Reg) × (list_all fits_line (file_names ((prefix, keys) ∷ [])) ≡ false) × Keeps before after)
+AnswersScanned form prefix keys before after (Err error.CannotRead) = ⊥
+AnswersScanned form prefix keys before after (Err (error.Write fault)) = Unit {0}
+
+-- the keys at the path that is asked for are answered; no path is one that isn't there
+abbrev pub AnswersAsked : {T : Type 0} → Request → Option (List (List ℕ)) → TreeMap → Option (List ℕ) → Option (List ℕ) → Result T ExportError → Type 0
+AnswersAsked request None tree before after answer = (answer ≡ Err (error.Refused NotFound)) × Keeps before after
+AnswersAsked request (Some path) tree before after answer = AnswersKeys request.form (prefix_of request.prefixes.now 0) (part_of path (tree_rows tree)) before after answer
+
+-- why a file's bins data are not there
+abbrev pub BinsStopped : List ℕ → ExportError → Type 0
+BinsStopped file (error.Refused why) = FileBinsRefusedAs 0 file why
+BinsStopped file error.CannotRead = Unit {0}
+BinsStopped file (error.Write fault) = ⊥
+
+-- why an image is refused, as an export's error
+abbrev pub image_refusal : ImageError → ExportError
+image_refusal image_error.NoMemory = error.Refused NoMemory
+image_refusal (image_error.Fault fault) = error.Refused fault.refusal
+
+-- a file's keys that are asked for are shown, or why not
+abbrev pub AnswersFile : {T : Type 0} → Option (List ℕ) → Request → Option (List ℕ) → Option (List ℕ) → Result T ExportError → Type 0
+AnswersFile known request before after (Ok done) = IfSome known (λ file. ShowsFile request file before after)
+AnswersFile known request before after (Err stopped) = IfSome known (λ file. StopsFile (HiveRefused request file) before after stopped)
