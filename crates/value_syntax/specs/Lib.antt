@@ -1,0 +1,4 @@
+pub mod TypeWords
+pub mod Data
+pub mod Steps
+pub mod Printed
