@@ -1,0 +1,39 @@
+-- How a change of a store ends.
+use Rattle.std.proofs.Common.{◌≡◌, ◌⊎◌, inl, inr, ℕ, List, [], ◌∷◌, Result, Ok, Err, sym, ◌∙◌, ap, subst}
+use Rattle.refusals.specs.declared.refusal.Refusal.{Refusal}
+use Rattle.reg_tree.specs.Maps.{TreeMap}
+use Rattle.store_model.specs.Machine.{Machine}
+use Rattle.store_model.specs.Invariant.{AreLegalChanges}
+use Rattle.change_plan.specs.declared.edit.Edit.{Edit}
+use Rattle.change_plan.specs.Plans.{Planned}
+use Rattle.change_plan.proofs.LegalPlans.{IsLegalPlan, edit_on, fresh_plan}
+use Rattle.one_change.specs.Commits.{AcceptsOps, KeepsAccepted}
+use Rattle.one_change.proofs.Transacting.{keeps_on}
+use Rattle.one_change.proofs.Waiting.{accepts_on}
+use Rattle.store_values.specs.declared.change.Change.{Change}
+use Rattle.store_values.specs.Changes.{IsPlanned, TakesEdits, edits_of, first_plan}
+use Rattle.store_values.specs.Outcomes.{AllOrNothing, Ends}
+
+edits_on : (trees : List TreeMap) (old new : Planned) (edits : List Edit) → IsLegalPlan trees old → TakesEdits old edits new → IsLegalPlan trees new
+edits_on trees old new [] is takes = subst (IsLegalPlan trees) (sym takes) is
+edits_on trees old new (its ∷ edits) is takes = edits_on trees takes.0 new edits (edit_on trees old its takes.0 is takes.1) takes.2
+
+same_moment : (old new : Planned) (edits : List Edit) → TakesEdits old edits new → new.moment ≡ old.moment
+same_moment old new [] takes = ap (λ (plan : Planned). plan.moment) takes
+same_moment old new (its ∷ edits) takes = same_moment takes.0 new edits takes.2 ∙ takes.1.moment
+
+-- the operations of a change that was planned are legal, one after another
+pub planned_legal : (trees : List TreeMap) (moment : ℕ) (change : Change) (plan : Planned) → IsPlanned trees moment change plan → AreLegalChanges trees plan.ops moment
+planned_legal trees moment change plan is =
+    let legal = edits_on trees (first_plan trees moment) plan (edits_of change) (fresh_plan trees moment) is.taken in
+    subst (AreLegalChanges trees plan.ops) (same_moment (first_plan trees moment) plan (edits_of change) is.taken) legal.legal
+
+-- however it ends, all was accepted or nothing
+pub all_or_nothing : (moment : ℕ) (change : Change) (old mid new : Machine) (outcome : Result ℕ Refusal) → Ends moment change old outcome mid → KeepsAccepted mid new → AllOrNothing moment change old new
+all_or_nothing moment change old mid new (Ok number) ends keeps = inr (ends.0, ends.1, accepts_on old mid new moment _ ends.2.accepts keeps)
+all_or_nothing moment change old mid new (Err why) (inl denied) keeps = inl (keeps_on old mid new denied.0 keeps)
+all_or_nothing moment change old mid new (Err why) (inr failed) keeps = by_case failed.2
+  where
+    by_case : KeepsAccepted old mid ⊎ AcceptsOps old moment failed.0.ops mid → AllOrNothing moment change old new
+    by_case (inl none) = inl (keeps_on old mid new none keeps)
+    by_case (inr accepts) = inr (failed.0, failed.1, accepts_on old mid new moment _ accepts keeps)

@@ -1,0 +1,4 @@
+pub mod Answers
+pub mod Listed
+pub mod Changes
+pub mod Outcomes

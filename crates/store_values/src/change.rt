@@ -1,0 +1,36 @@
+//! What is asked of a store.
+
+use reg_names::{Path, ValueName};
+use value_syntax::Datum;
+
+/// A change of a key or of one of its values.
+#[derive(Drop)]
+pub enum Change {
+    /// A value is written. Its key is created if it isn't there, and so are the keys that are missing above it.
+    SetValue {
+        /// The hive's number.
+        hive: u8,
+        /// The key's path.
+        path: Path,
+        /// The value's name.
+        name: ValueName,
+        /// Its type and data.
+        datum: Datum,
+    },
+    /// A value is deleted.
+    DeleteValue {
+        /// The hive's number.
+        hive: u8,
+        /// The key's path.
+        path: Path,
+        /// The value's name.
+        name: ValueName,
+    },
+    /// A key is deleted with all keys below it.
+    DeleteKey {
+        /// The hive's number.
+        hive: u8,
+        /// The key's path.
+        path: Path,
+    },
+}

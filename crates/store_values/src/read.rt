@@ -1,0 +1,105 @@
+//! What is read of a store.
+ghost use Rattle.std.specs.Prelude.{◌<◌, IfOk};
+ghost use Rattle.disk_model.specs.ReadOnly.{OnlySyncs};
+ghost use Rattle.recovery.specs.Recovered.{seen_in};
+ghost use Rattle.store_values.specs.Answers.{PrintsAnswer, Reports, key_answer, value_answer};
+
+use crate::key_lines::{write_datum_line, write_subkeys, write_values};
+use crate::reply::print_refusal;
+use disk_model::Disk;
+use recovery::open;
+use refusals::Refusal;
+use reg_names::{Path, ValueName};
+use reg_tree::Trees;
+use script_syntax::Status;
+use std::alloc::Global;
+use std::io::{self, Write};
+
+/// Prints type and data of a value, in a line. The disk is read and synced, and not written; it is handed back.
+///
+/// Refused, in a line that alone is printed, as an opening is; and with `NotFound` if there is no such hive, key or
+/// value.
+pub fn get_value<D: Disk, W: Write>(
+    alloc: Global,
+    disk: D,
+    hive: u8,
+    path: &Path,
+    name: &ValueName,
+    writer: &mut W,
+) -> (D, io::Result<Status>)
+    ensures reports { IfOk result.1 (Reports (D.failures disk < D.failures result.0)
+        (D.faithful result.0) (seen_in (D.state_at disk (D.clock disk)))
+        (value_answer hive path.now name.now) (W.contents writer.old) (W.contents writer.new)) }
+    ensures synced { D.faithful result.0 → OnlySyncs (D.state_at disk) (D.state_at result.0)
+        (D.clock disk) (D.clock result.0) }
+{
+    match open(alloc, disk) {
+        Ok(opened) => {
+            let status = print_value(writer, opened.trees(), hive, path, name);
+            (opened.into_disk(), status)
+        }
+        Err((refusal, disk)) => (disk, print_refusal(writer, refusal)),
+    }
+}
+
+/// Prints a line for each subkey of a key and then for each of its values, in their orders. The disk is read and synced,
+/// and not written; it is handed back.
+///
+/// Refused, in a line that alone is printed, as an opening is; and with `NotFound` if there is no such hive or key.
+pub fn list_key<D: Disk, W: Write>(
+    alloc: Global,
+    disk: D,
+    hive: u8,
+    path: &Path,
+    writer: &mut W,
+) -> (D, io::Result<Status>)
+    ensures reports { IfOk result.1 (Reports (D.failures disk < D.failures result.0)
+        (D.faithful result.0) (seen_in (D.state_at disk (D.clock disk)))
+        (key_answer hive path.now) (W.contents writer.old) (W.contents writer.new)) }
+    ensures synced { D.faithful result.0 → OnlySyncs (D.state_at disk) (D.state_at result.0)
+        (D.clock disk) (D.clock result.0) }
+{
+    match open(alloc, disk) {
+        Ok(opened) => {
+            let status = print_key(writer, opened.trees(), hive, path);
+            (opened.into_disk(), status)
+        }
+        Err((refusal, disk)) => (disk, print_refusal(writer, refusal)),
+    }
+}
+
+fn print_value<W: Write>(
+    writer: &mut W,
+    trees: &Trees,
+    hive: u8,
+    path: &Path,
+    name: &ValueName,
+) -> io::Result<Status>
+    ensures { IfOk result (PrintsAnswer (value_answer hive path.now name.now trees.now)
+        (W.contents writer.old) (W.contents writer.new)) }
+{
+    match trees.get_value(hive, path, name.name()) {
+        Ok(value) => {
+            write_datum_line(writer, value)?;
+            writer.flush()?;
+            Ok(Status::Clean)
+        }
+        Err(_) => print_refusal(writer, Refusal::NotFound),
+    }
+}
+
+fn print_key<W: Write>(writer: &mut W, trees: &Trees, hive: u8, path: &Path) -> io::Result<Status>
+    ensures { IfOk result (PrintsAnswer (key_answer hive path.now trees.now)
+        (W.contents writer.old) (W.contents writer.new)) }
+{
+    let Some(tree) = trees.tree(hive) else {
+        return print_refusal(writer, Refusal::NotFound);
+    };
+    let Ok(info) = tree.query_info(path) else {
+        return print_refusal(writer, Refusal::NotFound);
+    };
+    write_subkeys(writer, tree, path, info.subkeys)?;
+    write_values(writer, tree, path, info.values)?;
+    writer.flush()?;
+    Ok(Status::Clean)
+}
