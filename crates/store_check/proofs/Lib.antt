@@ -1,0 +1,2 @@
+pub mod Hives
+pub mod Found

@@ -1,0 +1,78 @@
+-- The text of what is found of a store.
+use Rattle.std.specs.Prelude.{ℕ, ◌+◌, ◌-◌, ◌==◌, Bool, if◌then◌else◌, List, [], ◌∷◌, ◌++◌, length, drop, filter, codes}
+use Rattle.std.specs.List.{list_any}
+use Rattle.std.specs.Fmt.{decimal}
+use Rattle.uuid.specs.Text.{hyphenated_text, lower}
+use Rattle.refusals.specs.Refusals.{refusal_text}
+use Rattle.refusals.specs.declared.refusal.Refusal.{Refusal}
+use Rattle.refusals.specs.declared.limits.TheConstants.{MOST_JOURNAL_BYTES}
+use Rattle.reg_tree.specs.declared.element.Element.{Element}
+use Rattle.change_codec.specs.Changes.{hives_of}
+use Rattle.commit_journal.specs.Store.{room_of}
+use Rattle.commit_journal.specs.Journals.{choice_of, store_of}
+use Rattle.hive_flush.specs.HiveStates.{dirty_pages, file_choice}
+use Rattle.hive_flush.specs.declared.hive.HiveFile.{HiveFile}
+use Rattle.recovery.specs.declared.found.RecoveredStore.{RecoveredStore}
+use Rattle.store_check.specs.Advice.{advice}
+
+-- ---- hives
+
+-- whether a change has an operation on a hive
+abbrev pub is_on : ℕ → Element → Bool
+is_on hive change = list_any (λ one. one == hive) (hives_of change)
+
+-- how many of some changes, the first of which has the number `below` + 1, are on a hive and above a number
+abbrev pub lacking : ℕ → ℕ → List Element → ℕ → ℕ
+lacking hive below changes applied = length (filter (is_on hive) (drop (applied - below) changes))
+
+-- what a hive's files lack
+abbrev pub lacks_text : ℕ → List ℕ
+lacks_text count = if count == 0 then codes ", has all changes\n" else codes ", lacks " ++ decimal count ++ codes " changes; the next run moves them in\n"
+
+-- how many pages of its file are to be repaired by its log, if some are
+abbrev pub repair_text : ℕ → List ℕ
+repair_text pages = if pages == 0 then [] else codes ", half written in " ++ decimal pages ++ codes " pages"
+
+-- a hive's number, and that of the last change in its files
+abbrev pub applied_text : ℕ → ℕ → List ℕ
+applied_text hive applied = codes "hive " ++ decimal hive ++ codes ": applied " ++ decimal applied
+
+abbrev pub state_line : ℕ → ℕ → ℕ → ℕ → List ℕ
+state_line hive applied pages count = applied_text hive applied ++ (repair_text pages ++ lacks_text count)
+
+-- the line of a hive: its number, that of the last change that is surely in its files, and what they lack
+abbrev pub hive_line : ℕ → ℕ → List Element → HiveFile → List ℕ
+hive_line hive below changes file =
+    let applied = (file_choice file).now.1 in
+    state_line hive applied (dirty_pages file) (lacking hive below changes applied)
+
+-- the lines of hives, the first of which has this number
+abbrev pub hive_lines : ℕ → ℕ → List Element → List HiveFile → List ℕ
+hive_lines hive below changes [] = []
+hive_lines hive below changes (file ∷ files) = hive_line hive below changes file ++ hive_lines (hive + 1) below changes files
+
+-- ---- a store
+
+abbrev pub id_line : List ℕ → List ℕ
+id_line id = codes "store " ++ hyphenated_text lower id ++ codes "\n"
+
+-- the number of the last change, and of hives
+abbrev pub number_lines : ℕ → ℕ → List ℕ
+number_lines number hives = codes "number " ++ decimal number ++ codes "\nhives " ++ decimal hives ++ codes "\n"
+
+-- the room that is used in the journal
+abbrev pub journal_line : ℕ → List ℕ
+journal_line used = codes "journal " ++ decimal used ++ codes " of " ++ decimal MOST_JOURNAL_BYTES ++ codes " bytes\n"
+
+-- the lines before those of the hives
+abbrev pub head_lines : RecoveredStore → List ℕ
+head_lines found =
+    id_line (store_of found.journal).id ++ (number_lines found.number (length found.hives.items) ++ journal_line (65 + room_of (choice_of found.journal).now.elements))
+
+-- all lines of what was found
+abbrev pub store_text : RecoveredStore → List ℕ
+store_text found = head_lines found ++ (hive_lines 0 found.below found.opened.items found.hives.items ++ codes "whole\n")
+
+-- the lines of a refusal: why, and what to do
+abbrev pub refusal_lines : Refusal → List ℕ
+refusal_lines why = refusal_text why ++ (codes "\n" ++ (advice why ++ codes "\n"))

@@ -1,0 +1,108 @@
+//! The lines of a store's hives.
+ghost use Rattle.std.specs.Prelude.{◌≡◌, ◌<◌, length, OnOk, filter};
+ghost use Rattle.std.specs.Io.KnownBytes.{Appends};
+ghost use Rattle.store_check.specs.StoreTexts.{hive_line, hive_lines, is_on, lacking, lacks_text, repair_text, applied_text, state_line};
+
+use change_codec::EncodedChange;
+use hive_flush::HiveFile;
+use std::io::{self, Write};
+
+/// Writes the lines of hives, which have changes behind them: the first has the number `below + 1`.
+pub fn write_hives<W: Write>(
+    writer: &mut W,
+    below: u64,
+    changes: &[EncodedChange],
+    hives: &[HiveFile],
+) -> io::Result<()>
+    requires few { length hives.now < 256 }
+    ensures { OnOk result (Appends (W.contents writer.old) (W.contents writer.new)
+        (hive_lines 0 below changes.now hives.now)) }
+{
+    for hive in 0..hives.len() {
+        write_hive(writer, below, changes, hive as u8, &hives[hive])?;
+    }
+    Ok(())
+}
+
+// the line of a hive
+fn write_hive<W: Write>(
+    writer: &mut W,
+    below: u64,
+    changes: &[EncodedChange],
+    hive: u8,
+    file: &HiveFile,
+) -> io::Result<()>
+    ensures { OnOk result (Appends (W.contents writer.old) (W.contents writer.new)
+        (hive_line hive below changes.now file.now)) }
+{
+    let applied = file.applied();
+    let count = count_lacking(below, changes, hive, applied);
+    write_line(writer, hive, applied, file.dirty_pages(), count)
+}
+
+// the same, by numbers
+fn write_line<W: Write>(
+    writer: &mut W,
+    hive: u8,
+    applied: u64,
+    pages: usize,
+    count: usize,
+) -> io::Result<()>
+    ensures { OnOk result (Appends (W.contents writer.old) (W.contents writer.new)
+        (state_line hive applied pages count)) }
+{
+    write_applied(writer, hive, applied)?;
+    write_repair(writer, pages)?;
+    write_lacks(writer, count)
+}
+
+// a hive's number, and that of the last change in its files
+fn write_applied<W: Write>(writer: &mut W, hive: u8, applied: u64) -> io::Result<()>
+    ensures { OnOk result (Appends (W.contents writer.old) (W.contents writer.new)
+        (applied_text hive applied)) }
+{
+    write!(writer, "hive {hive}: applied {applied}")
+}
+
+// how many pages of a hive's file are to be repaired by its log, if some are
+fn write_repair<W: Write>(writer: &mut W, pages: usize) -> io::Result<()>
+    ensures { OnOk result (Appends (W.contents writer.old) (W.contents writer.new)
+        (repair_text pages)) }
+{
+    if pages == 0 {
+        return Ok(());
+    }
+    write!(writer, ", half written in {pages} pages")
+}
+
+// what a hive's files lack
+fn write_lacks<W: Write>(writer: &mut W, count: usize) -> io::Result<()>
+    ensures { OnOk result (Appends (W.contents writer.old) (W.contents writer.new)
+        (lacks_text count)) }
+{
+    if count == 0 {
+        writer.write_all(b", has all changes\n")
+    } else {
+        writeln!(
+            writer,
+            ", lacks {count} changes; the next run moves them in"
+        )
+    }
+}
+
+// how many of the changes are on a hive and above a number
+fn count_lacking(below: u64, changes: &[EncodedChange], hive: u8, applied: u64) -> usize
+    ensures { result ≡ lacking hive below changes.now applied }
+{
+    let Some(rest) = changes.get(applied.saturating_sub(below) as usize..) else {
+        return 0;
+    };
+    count_on(rest, hive)
+}
+
+// how many changes are on a hive
+fn count_on(changes: &[EncodedChange], hive: u8) -> usize
+    ensures { result ≡ length (filter (is_on hive) changes.now) }
+{
+    changes.iter().filter(|change| change.is_on(hive)).count()
+}
