@@ -1,0 +1,41 @@
+-- Text as lines, each with a carriage return and a line feed behind it.
+use Rattle.std.proofs.Common.{◌≡◌, ℕ, ◌+◌, List, [], ◌∷◌, ◌++◌, map, length, refl, arith, inr}
+use Rattle.std.specs.Prelude.{All}
+use Rattle.std.specs.List.{AllByRecursion, flat_map}
+use Rattle.std.proofs.lemmas.List.{length-append}
+use Rattle.std.proofs.lemmas.List.Elements.{All-cons, All-nil}
+use Rattle.reg_file.specs.Grammar.{units_of, IsLineEnd}
+use Rattle.reg_round_trip.proofs.Units.{all_both}
+
+-- lines with their ends; and without the line feeds, as the grammar has them
+abbrev pub text_of : List (List ℕ) → List ℕ
+text_of lines = flat_map (λ line. line ++ 13 ∷ 10 ∷ []) lines
+
+abbrev pub returned_lines : List (List ℕ) → List (List ℕ)
+returned_lines lines = map (λ line. line ++ 13 ∷ []) lines
+
+pub return_ends : IsLineEnd (13 ∷ [])
+return_ends = record { blanks = []; are_blanks = tt; parsed = inr refl }
+
+-- the units of lines are those of their text, but for the last line feed
+pub units_of_text : (line : List ℕ) (lines : List (List ℕ)) → units_of (returned_lines (line ∷ lines)) + 1 ≡ length (text_of (line ∷ lines))
+units_of_text line [] =
+    let one = length-append line (13 ∷ []) in
+    let two = length-append line (13 ∷ 10 ∷ []) in
+    let three = length-append (line ++ 13 ∷ 10 ∷ []) [] in
+    omega (arith, one, two, three)
+units_of_text line (next ∷ lines) =
+    let one = length-append line (13 ∷ []) in
+    let two = length-append line (13 ∷ 10 ∷ []) in
+    let three = length-append (line ++ 13 ∷ 10 ∷ []) (text_of (next ∷ lines)) in
+    let rest = units_of_text next lines in
+    omega (arith, one, two, three, rest)
+
+-- units of a text are those of its lines and their ends
+pub text_units : (P : ℕ → Type 0) → P 13 → P 10 → (lines : List (List ℕ)) → AllByRecursion (AllByRecursion P) lines → AllByRecursion P (text_of lines)
+text_units P return feed [] all = tt
+text_units P return feed (line ∷ lines) all = all_both P (line ++ 13 ∷ 10 ∷ []) (text_of lines) (all_both P line (13 ∷ 10 ∷ []) all.0 (return, (feed, tt))) (text_units P return feed lines all.1)
+
+pub by_index : (P : ℕ → Type 0) (units : List ℕ) → AllByRecursion P units → All P units
+by_index P [] all = All-nil P
+by_index P (u ∷ units) all = All-cons P u units all.0 (by_index P units all.1)

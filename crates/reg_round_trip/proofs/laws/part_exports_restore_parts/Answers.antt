@@ -1,0 +1,8 @@
+use Rattle.reg_round_trip.proofs.Clauses.{part_does, part_ended}
+use Rattle.reg_round_trip.proofs.laws.part_exports_restore_parts.Goals as goal
+
+pub returns-clause-restores : goal.returns-clause-restores
+returns-clause-restores c = λ prefixes hive tree top moment old can. part_does (record { ascii = c.text_is_read.ensures.ascii; wide = c.text_is_read.ensures.wide; crlf = c.text_is_read.ensures.crlf; read = c.files_are_parsed.ensures.read }) prefixes hive tree top moment old can
+
+pub returns-clause-ended : goal.returns-clause-ended
+returns-clause-ended c = λ prefixes hive tree top moment old new outcome can ends. part_ended (record { ascii = c.text_is_read.ensures.ascii; wide = c.text_is_read.ensures.wide; crlf = c.text_is_read.ensures.crlf; read = c.files_are_parsed.ensures.read }) prefixes hive tree top moment old can new outcome ends

@@ -1,0 +1,9 @@
+pub mod Statements
+pub mod Exports
+pub mod Contents
+pub mod Operations
+pub mod NewTrees
+pub mod Shown
+pub mod Parts
+pub mod Restores
+pub mod Conditions
