@@ -1,20 +1,26 @@
 //! What the words `about` and `usage` print.
+use crate::build_mark::BuildMark;
 use crate::command_error::CommandError;
 use crate::terminal::TerminalOutput;
 use crate::usages::USAGES;
 use script_syntax::Status;
+use std::fs::File;
 use std::io::{self, BufWriter, Eprint, Write};
+use std::rt::Files;
 
 /// The version of the program.
 const VERSION: &str = "0.9.0";
 
-/// Prints which program this is.
-pub fn print_about<'a, R: Print + Eprint + AllocGlobal>(
+/// What is printed of a program whose file has no mark.
+const UNMARKED: &[u8] = b"commit and proof unknown: tools/build marks what it makes\n";
+
+/// Prints which program this is: its version, and its mark, if it has one.
+pub fn print_about<'a, R: Files<File = File> + Print + Eprint + AllocGlobal>(
     rt: &R,
     output: TerminalOutput,
 ) -> Result<Status, CommandError<'a>> {
     let mut writer = BufWriter::new(rt.alloc(), io::writer(rt))?;
-    let told = write_about(&mut writer);
+    let told = write_about(&mut writer, BuildMark::read(rt).as_ref());
     Ok(output.status(rt, told))
 }
 
@@ -34,8 +40,9 @@ pub fn print_usages<'a, R: Print + Eprint + AllocGlobal>(
     Ok(output.status(rt, told))
 }
 
-fn write_about<W: Write>(writer: &mut W) -> io::Result<Status> {
+fn write_about<W: Write>(writer: &mut W, mark: Option<&BuildMark>) -> io::Result<Status> {
     writeln!(writer, "regtx {VERSION}")?;
+    writer.write_all(mark.map_or(UNMARKED, |mark| mark.lines()))?;
     writer.flush()?;
     Ok(Status::Clean)
 }

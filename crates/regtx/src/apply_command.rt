@@ -89,8 +89,8 @@ fn read_file<'a, R: Files + AllocGlobal>(
     }
 }
 
-// the clock, or 0 if it shows no moment of this form
-fn moment_now<R: Clock>(rt: &R) -> u64 {
+/// The clock as a moment, or 0 if it shows none of this form.
+pub fn moment_now<R: Clock>(rt: &R) -> u64 {
     let Ok(now) = SystemTime::now(rt) else {
         return 0;
     };

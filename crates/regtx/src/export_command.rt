@@ -3,19 +3,16 @@
 //! `store_export` prints, over the folder as a disk that is only read, or over the file.
 use crate::apply_command::prefixes_of;
 use crate::command_error::CommandError;
-use crate::files::{Source, Target, Trouble, last_error, opened};
+use crate::files::{Source, Target, Trouble, is_folder, last_error, opened};
 use crate::hint::Hint;
+use crate::key_words::key_named;
 use crate::script_commands::{hint_at, store_in};
 use crate::store_disk::StoreDisk;
 use crate::tasks::ExportForm;
 use crate::terminal::TerminalOutput;
 use file_disk::LockError;
-use refusals::Refusal;
-use reg_names::Path;
 use reg_prefixes::Prefixes;
-use script_syntax::{Line, ParseError, Request as Asked, Status, read_line};
-use std::alloc::Global;
-use std::fs;
+use script_syntax::Status;
 use std::io::{self, BufWriter, Eprint};
 use std::rt::Files;
 use store_export::{ExportError, Form, Request, Selection, export_hive, export_store};
@@ -41,7 +38,7 @@ pub fn export<
     let (key, words) = parted(words);
     let prefixes = prefixes_of(alloc, words)?;
     let selection = match key {
-        Some(word) => Some(selected(alloc, word)?),
+        Some(word) => Some(key_named(alloc, word)?),
         None => None,
     };
     let request = request_of(form, selection.as_ref(), &prefixes);
@@ -66,27 +63,6 @@ fn begins_with_digit(word: &str) -> bool {
         .is_some_and(|byte| byte.is_ascii_digit())
 }
 
-// the key that a word `HIVE:PATH` names, spelled as in a script
-fn selected<'a>(alloc: Global, word: &str) -> Result<Selection, CommandError<'a>> {
-    let mut line = b"keys ".to_vec(alloc)?;
-    line.extend_from_slice(word.as_bytes())?;
-    match read_line(alloc, &line) {
-        Ok(
-            Line::Plain {
-                request: Asked::Keys { key_ref },
-            },
-        ) => match Path::parse(alloc, key_ref.path.units()) {
-            Ok(path) => Ok(Selection {
-                hive: key_ref.hive,
-                path,
-            }),
-            Err(refusal) => Err(CommandError::Refused(refusal)),
-        },
-        Err(ParseError::NoMemory) => Err(CommandError::Refused(Refusal::NoMemory)),
-        _ => Err(CommandError::WrongWords),
-    }
-}
-
 fn request_of<'b>(
     form: ExportForm,
     selection: Option<&'b Selection>,
@@ -101,13 +77,6 @@ fn request_of<'b>(
         form,
         selection,
         prefixes,
-    }
-}
-
-fn is_folder<R: Files>(rt: &R, path: &str) -> bool {
-    match fs::metadata(rt, path) {
-        Ok(metadata) => metadata.is_dir(),
-        Err(_) => false,
     }
 }
 

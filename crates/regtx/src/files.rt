@@ -3,7 +3,7 @@ use crate::command_error::CommandError;
 use crate::hint::Hint;
 use refusals::Refusal;
 use std::cell::Cell;
-use std::fs::File;
+use std::fs::{self, File};
 use std::io::{self, ErrorKind, Read, Write};
 use std::rt::Files;
 
@@ -79,5 +79,13 @@ pub fn opened<'a, R: Files>(rt: &R, path: &'a str) -> Result<R::File, CommandErr
             Err(CommandError::Refused(Refusal::NoMemory))
         }
         Err(error) => Err(CommandError::CannotReadFile(Hint::denied(path, error))),
+    }
+}
+
+/// Whether a path is that of a folder.
+pub fn is_folder<R: Files>(rt: &R, path: &str) -> bool {
+    match fs::metadata(rt, path) {
+        Ok(metadata) => metadata.is_dir(),
+        Err(_) => false,
     }
 }

@@ -10,10 +10,13 @@
 
 mod about;
 mod apply_command;
+mod build_mark;
+mod check_command;
 mod command_error;
 mod export_command;
 mod files;
 mod hint;
+mod key_words;
 mod lock_wait;
 mod script_commands;
 mod store_commands;
@@ -21,10 +24,12 @@ mod store_disk;
 mod tasks;
 mod terminal;
 mod usages;
+mod value_commands;
 mod words;
 
 use crate::about::{print_about, print_usages};
 use crate::apply_command::apply_file;
+use crate::check_command::check;
 use crate::command_error::CommandError;
 use crate::export_command::export;
 use crate::files::{Source, Target, Trouble, last_error, opened};
@@ -35,6 +40,7 @@ use crate::store_commands::{import_store, new_store};
 use crate::store_disk::StoreDisk;
 use crate::tasks::Task;
 use crate::terminal::TerminalOutput;
+use crate::value_commands::{read_store, write_store};
 use crate::words::parse_task;
 use file_disk::LockError;
 use hive_dump::{DumpError, dump};
@@ -121,6 +127,9 @@ fn run<
             form,
             words,
         } => export(rt, output, reader, source, form, &words),
+        Task::Read { folder, reading } => read_store(rt, output, reader, folder, reading),
+        Task::Write { folder, writing } => write_store(rt, output, opener, folder, writing),
+        Task::Check { source } => check(rt, output, reader, source),
         Task::About => print_about(rt, output),
         Task::Usage { word } => print_usages(rt, output, word),
     }

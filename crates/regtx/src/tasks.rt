@@ -2,6 +2,7 @@
 ghost use Rattle.std.specs.Prelude.{◌≤◌, length};
 ghost use Rattle.refusals.specs.declared.limits.TheConstants.{MOST_HIVES};
 
+use crate::value_commands::{Reading, Writing};
 use uuid::Uuid;
 
 /// What the words of the command line ask for.
@@ -60,6 +61,25 @@ pub enum Task<'a> {
         form: ExportForm,
         /// The words after it.
         words: Vec<&'a str>,
+    },
+    /// `get` or `ls`: something is to be read of a store.
+    Read {
+        /// The folder of the store.
+        folder: &'a str,
+        /// What.
+        reading: Reading<'a>,
+    },
+    /// `set` or `del`: something is to be changed in a store.
+    Write {
+        /// The folder of the store.
+        folder: &'a str,
+        /// What.
+        writing: Writing<'a>,
+    },
+    /// `check SOURCE`: a report is to be printed.
+    Check {
+        /// The folder of a store, or the path of a hive's file.
+        source: &'a str,
     },
     /// `about`: what the program is.
     About,

@@ -18,7 +18,7 @@ impl fmt::Display for Usage {
 }
 
 /// How each command is used.
-pub const USAGES: [Usage; 14] = [
+pub const USAGES: [Usage; 19] = [
     Usage {
         name: "new",
         call: "new DIR ID COUNT",
@@ -40,6 +40,26 @@ pub const USAGES: [Usage; 14] = [
         does: "applies a registration file as one transaction",
     },
     Usage {
+        name: "get",
+        call: "get DIR HIVE:PATH [NAME]",
+        does: "prints a value's type and data, by default those of `@`",
+    },
+    Usage {
+        name: "ls",
+        call: "ls DIR HIVE:PATH",
+        does: "prints the subkeys and values of a key, a line each",
+    },
+    Usage {
+        name: "set",
+        call: "set DIR HIVE:PATH NAME TYPE VALUE",
+        does: "writes a value; TYPE is sz, expand, dword, qword, multi, hex or hex(T)",
+    },
+    Usage {
+        name: "del",
+        call: "del DIR HIVE:PATH [NAME]",
+        does: "deletes a value, or a key with all below it",
+    },
+    Usage {
         name: "export",
         call: "export SOURCE [HIVE:PATH] [PREFIX=HIVE ..]",
         does: "prints a store or a clean hive as a registration file",
@@ -58,6 +78,11 @@ pub const USAGES: [Usage; 14] = [
         name: "dump",
         call: "dump FILE",
         does: "prints a clean hive: its keys and values, a line each",
+    },
+    Usage {
+        name: "check",
+        call: "check SOURCE",
+        does: "reports what a store or a hive's file has, and whether it is whole",
     },
     Usage {
         name: "play",
