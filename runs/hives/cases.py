@@ -119,7 +119,7 @@ def files():
     yield Case("bytes behind the bins data are unread", file + b"more", [text])
     yield Case("so are the name, the clustering factor and the store's fields",
                mended(file[:44] + u32(7) + b"n" * 64 + b"?" * 88 + file[200:]), [text])
-    for size in (0, 1, 511, 512, 4_095, 4_096, 4_097, len(file) - 1):
+    for size in (0, 1, 511, 512, 600, 4_095, 4_096, 4_097, len(file) - 1):
         yield refused(f"a file that ends behind {size} bytes", file[:size], damaged("Truncated"))
     yield refused("two numbers that differ", hive(Key("r"), primary=2)[0], damaged("NotClean"))
     yield refused("so in a file of 600 bytes", hive(Key("r"), primary=2)[0][:600], damaged("NotClean"))
@@ -222,9 +222,13 @@ def key_nodes():
     for letters in (b"nl", b"kn", b"lk"):
         yield refused(f"a subkey with the letters {letters.decode()}", patched(file, key, letters), damaged("BadRecord"))
     yield refused("a handle in place of a subkey", patched(file, key + 2, u16(0x6c)), UNSUPPORTED)
+    yield refused("a class of two bytes that lies nowhere", patched(file, key + 74, u16(2)), damaged("BadOffset"))
     yield refused("half a unit", patched(patched(file, key + 2, u16(0)), key + 72, u16(7)), damaged("BadName"))
     yield refused("a backslash of one byte", patched(file, key + 83, b"\\"), damaged("BadName"))
     yield refused("a backslash of two bytes", hive(Key("r", 0, [Key("\u4e2d\\")]))[0], damaged("BadName"))
+    file, places = hive(Key("r", 0, [], [], 0, b"", b"twelve bytes"))
+    yield Case("a class up to the end of its cell", file, [lines("key 0: 0")])
+    yield refused("a class one past its cell", patched(file, places["r"] + 4 + 74, u16(13)), damaged("BadRecord"))
     # the data of the first cell are the root's record, as far as they go
     record = b"nk" + bytes(42) + u32(NONE) + bytes(28)
     for size in (12, 60, 68, 76):
