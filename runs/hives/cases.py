@@ -265,7 +265,8 @@ def value_records():
     yield refused("the letters of a value's record", patched(file, value, b"vl"), damaged("BadRecord"))
     plain = patched(file, value + 16, u16(0))
     yield refused("half a unit of a value's name", patched(plain, value + 2, u16(7)), damaged("BadName"))
-    yield refused("5 bytes of data in the record", patched(file, value + 4, u32(1 << 31 | 5)), damaged("BadRecord"))
+    for size in (5, 0x7fff_ffff):
+        yield refused(f"{size} bytes of data in the record", patched(file, value + 4, u32(1 << 31 | size)), damaged("BadRecord"))
     for size in (0, 1, 2, 3):
         text = lines("key 0: 0", f"val abcdefgh 4 {'7778797a'[:2 * size] or '-'}")
         yield Case(f"{size} bytes of the four in the record", patched(file, value + 4, u32(1 << 31 | size)), [text])
@@ -301,11 +302,12 @@ def lists():
     yield refused("a list of no kind", patched(file, leaf + 4, b"lx"), damaged("BadList"))
     yield refused("a list longer than its cell", patched(file, leaf + 6, u16(900)), damaged("BadList"))
     yield from full_lists()
-    for count in (2, 4):
+    for count in (2, 4, 0x4000_0003, NONE):
         yield refused(f"three subkeys that are said to be {count}", patched(file, places["r"] + 4 + 20, u32(count)), damaged("BadList"))
     yield Case("no subkeys: the offset beside the 0 is unread", patched(file, places["r"] + 4 + 20, u32(0)), [lines("key 0: 0")])
     file, places = hive(Key("r", 0, [], [Value("v", 1, b"x")]))
-    yield refused("a list of values longer than its cell", patched(file, places["r"] + 4 + 36, u32(900)), damaged("BadRecord"))
+    for count in (900, 0x4000_0001, NONE):
+        yield refused(f"a list of {count} values longer than its cell", patched(file, places["r"] + 4 + 36, u32(count)), damaged("BadRecord"))
 
 
 def full_lists():
