@@ -28,9 +28,13 @@ class Row:
     hashes: list = field(default_factory=list, compare=False)
 
 
+def units(name):
+    return struct.unpack(f"<{len(name) // 2}H", name)
+
+
 def folded(name):
     """A name's units, those of small letters as those of capitals."""
-    return tuple(unit - 32 if 0x61 <= unit <= 0x7a else unit for unit in struct.unpack(f"<{len(name) // 2}H", name))
+    return tuple(unit - 32 if 0x61 <= unit <= 0x7a else unit for unit in units(name))
 
 
 def hash_of(name):
@@ -49,7 +53,8 @@ class Reader:
         while at < size:
             at = self.walk(at)
         self.tree = self.key(root, NONE)
-        self.see_ring()
+        if strict:
+            self.see_ring()
 
     def see(self, is_right, what, *about):
         """What the rules say of written bytes."""
