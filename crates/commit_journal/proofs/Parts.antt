@@ -100,7 +100,7 @@ module _ {Op : Type 0} (t : Encodings Op) where
       ∙ map_more b bs (read_gates t k rest)
 
   -- what is decoded after a prefix: its content, with the bodies that are read after it
-  decoded_on : (now : Content Op) (at : ℕ) (prefix rest : List ℕ) (s : PrefixEncodes t now at prefix)
+  pub decoded_on : (now : Content Op) (at : ℕ) (prefix rest : List ℕ) (s : PrefixEncodes t now at prefix)
       → (n : ℕ) × (length rest < n) × (decoded t (prefix ++ rest) ≡ option_and_then (λ more. content_of_bodies t.most (s.bodies ++ more)) (read_gates t n rest))
   unfolding decoded
   decoded_on now at prefix rest s =

@@ -1,20 +1,38 @@
 -- A part of a file, after what was read of it.
-use Rattle.std.proofs.Common.{◌≡◌, inl, inr, ⊎_elim, ℕ, ◌+◌, ◌≤◌, List, ◌++◌, length, take, drop, sym, ◌∙◌, ap, append_assoc, take-append-drop}
+use Rattle.std.proofs.Common.{◌≡◌, inl, inr, ⊎_elim, ℕ, ◌+◌, ◌-◌, ◌≤◌, List, ◌++◌, length, take, drop, sym, ◌∙◌, ap, append_assoc, take-append-drop, arith, length-take, length-drop}
 use Rattle.refusals.specs.Answers.{RefusedFor}
 use Rattle.refusals.specs.declared.refusal.Refusal.{Refusal}
 use Rattle.refusals.specs.declared.refusal.Refusal.TheVariants.{JournalDamaged}
 use Rattle.commit_journal.specs.ReadBuffers.{FailsBy, held, rest_of}
 use Rattle.commit_journal.specs.declared.buffer.ReadBuffer.{ReadBuffer}
-use Rattle.std.proofs.lemmas.List.{take-append-le, drop-append-le, drop-drop, take-take}
+use Rattle.std.proofs.lemmas.List.{take-append-le, drop-append-le, drop-drop, drop-take, take-take}
+use Rattle.std.proofs.Math.Seq.{take-add}
 
-pub piece_on : (file bytes chunk : List ℕ) (start at came count : ℕ) → start ≤ length bytes → take came chunk ≡ take came (drop at file) → count ≤ came
-    → drop start (bytes ++ take count chunk) ++ drop (at + count) file ≡ drop start bytes ++ drop at file
-piece_on file bytes chunk start at came count inside read few =
-    let partial_body : take count chunk ≡ take count (drop at file) = sym (take-take count came chunk few) ∙ ap (take count) read ∙ take-take count came (drop at file) few in
-    ap (λ (l : List ℕ). l ++ drop (at + count) file) (drop-append-le start bytes (take count chunk) inside ∙ ap (λ (l : List ℕ). drop start bytes ++ l) partial_body)
-    ∙ append_assoc (drop start bytes) (take count (drop at file)) (drop (at + count) file)
-    ∙ ap (λ (l : List ℕ). drop start bytes ++ (take count (drop at file) ++ l)) (sym (drop-drop count at file))
-    ∙ ap (λ (l : List ℕ). drop start bytes ++ l) (take-append-drop count (drop at file))
+cut_front : (k n : ℕ) (l : List ℕ) → k ≤ n → drop k (take n l) ≡ take (n - k) (drop k l)
+cut_front k n l le = let e : n ≡ k + (n - k) = omega (arith, le) in ap (λ (m : ℕ). drop k (take m l)) e ∙ drop-take k (n - k) l
+
+-- how many bytes are in memory
+pub part_length : (start end : ℕ) (l : List ℕ) → start ≤ end → end ≤ length l → length (take (end - start) (drop start l)) ≡ end - start
+part_length start end l low high = omega (arith, length-take (end - start) (drop start l), length-drop start l, low, high)
+
+-- some are taken
+pub part_on : (start end count : ℕ) (l : List ℕ) → start + count ≤ end → take (end - (start + count)) (drop (start + count) l) ≡ drop count (take (end - start) (drop start l))
+part_on start end count l le =
+    ap (λ (k : ℕ). take (end - (start + count)) (drop k l)) (omega arith) ∙ ap (take (end - (start + count))) (sym (drop-drop count start l))
+    ∙ ap (λ (k : ℕ). take k (drop count (drop start l))) (omega (arith, le)) ∙ sym (cut_front count (end - start) (drop start l) (omega (arith, le)))
+
+-- some are read behind them
+pub piece_on : (file old new : List ℕ) (start end at came count : ℕ) → start ≤ end → end ≤ length old → take end new ≡ take end old → take came (drop end new) ≡ take came (drop at file) → count ≤ came
+    → take (end + count - start) (drop start new) ++ drop (at + count) file ≡ take (end - start) (drop start old) ++ drop at file
+piece_on file old new start end at came count low high front read few =
+    let partial_body : take count (drop end new) ≡ take count (drop at file) = sym (take-take count came (drop end new) few) ∙ ap (take count) read ∙ take-take count came (drop at file) few in
+    let more : take (end + count - start) (drop start new) ≡ take (end - start) (drop start old) ++ take count (drop at file)
+    = sym (cut_front start (end + count) new (omega (arith, low))) ∙ ap (drop start) (take-add end count new ∙ ap (λ (l : List ℕ). l ++ take count (drop end new)) front ∙ ap (λ (l : List ℕ). take end old ++ l) partial_body)
+    ∙ drop-append-le start (take end old) (take count (drop at file)) (omega (arith, low, high, length-take end old)) ∙ ap (λ (l : List ℕ). l ++ take count (drop at file)) (cut_front start end old low) in
+    ap (λ (l : List ℕ). l ++ drop (at + count) file) more
+    ∙ append_assoc (take (end - start) (drop start old)) (take count (drop at file)) (drop (at + count) file)
+    ∙ ap (λ (l : List ℕ). take (end - start) (drop start old) ++ (take count (drop at file) ++ l)) (ap (λ (k : ℕ). drop k file) (omega arith) ∙ sym (drop-drop count at file))
+    ∙ ap (λ (l : List ℕ). take (end - start) (drop start old) ++ l) (take-append-drop count (drop at file))
 
 pub fails_on : (F F' D D' : Type 0) (why : Refusal) → (F → F') → (D → D') → FailsBy F D why → FailsBy F' D' why
 fails_on F F' D D' why f d by = ⊎_elim (λ none. inl none) (λ other. inr (⊎_elim (λ fault. inl (fault.0, f fault.1)) (λ damaged. inr (damaged.0, d damaged.1)) other)) by

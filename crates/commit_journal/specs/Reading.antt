@@ -15,15 +15,16 @@ use Rattle.commit_journal.specs.declared.layout.TheConstants.{OPEN_GATE, MOST_BO
 use Rattle.commit_journal.specs.Encoding.{Encodings, Body, read_elements, read_body, PrefixEncodes, decoded}
 use Rattle.commit_journal.specs.Store.{encodings}
 use Rattle.commit_journal.specs.OnDisk.{is_on, view_at, Phase.AtRest}
-use Rattle.commit_journal.specs.Lacking.{IsRetention}
+use Rattle.commit_journal.specs.Numbered.{NumberedChange, numbered}
 use Rattle.commit_journal.specs.GhostLog.{logged_changes, logged_elements}
-use Rattle.commit_journal.specs.declared.retention.Retention.{Retention}
 use Rattle.commit_journal.specs.Journals.{content_of}
 use Rattle.commit_journal.specs.declared.extent.Extent.{Extent}
 use Rattle.commit_journal.specs.declared.reader.PartialBody.{PartialBody}
 use Rattle.commit_journal.specs.declared.reader.NextField.{NextField}
 use Rattle.commit_journal.specs.declared.reader.NextField.TheVariants.{Gate, Head, Size, Encoding, Done}
 use Rattle.commit_journal.specs.declared.reader.Reader.{Reader}
+use Rattle.commit_journal.specs.declared.buffer.ReadBuffer.{ReadBuffer}
+use Rattle.commit_journal.specs.ReadBuffers.{rest_of}
 
 -- ---- what the file's bytes are
 
@@ -69,7 +70,7 @@ reading_at t file now es Done rest = FileDecodesTo t file now
 
 -- the elements that were read
 abbrev pub read_by : Reader → List Element
-read_by r = logged_changes r.retention.read
+read_by r = logged_changes r.read
 
 abbrev pub encodings_for : List ℕ → Reader → Encodings TimedOp
 encodings_for id r = encodings (record { id = id; hives = r.hives })
@@ -132,17 +133,34 @@ numbers_agree_at last now es (Size partial_body) = IsLastOfPartial last es parti
 numbers_agree_at last now es (Encoding partial_body len) = IsLastOfPartial last es partial_body
 numbers_agree_at last now es Done = last ≡ now.last
 
--- the elements that were read are kept by the hives' own numbers
-abbrev pub IsRetained : Retention → Type 0
-IsRetained k = IsRetention k.numbers.items k.last (logged_changes k.read) k.below k.elements.items k.last_changes.last.items
-
--- the numbers of the kept elements continue the durable content, and what was read of a body
+-- the number of the last element continues the durable content, and what was read of a body
 abbrev pub NumbersAgree : Reader → Type 0
-NumbersAgree r = numbers_agree_at r.retention.last r.on_device (read_by r) r.next
+NumbersAgree r = numbers_agree_at r.last r.on_device (read_by r) r.next
 
--- elements are kept by the same numbers, and the last changes are of as many hives
-abbrev pub HasSameNumbers : Retention → Retention → Type 0
-HasSameNumbers old new = (new.numbers ≡ old.numbers) × (length new.last_changes.last.items ≡ length old.last_changes.last.items)
+-- ---- what a sink took
+
+-- the elements that were read, with their numbers, the last of which is this
+abbrev pub numbered_to : ℕ → List Element → List NumberedChange
+numbered_to last es = numbered (last - length es) es
+
+abbrev pub taken_by : Reader → List NumberedChange
+taken_by r = numbered_to r.last (read_by r)
+
+-- If the sink took what the one reader had read, it now took what the other has.
+abbrev pub TakesOn : {S : Type 0} → (S → S → List NumberedChange → Type 0) → S → S → Reader → Reader → Type 0
+TakesOn {S} Took was is old new = (start : S) → Took start was (taken_by old) → Took start is (taken_by new)
+
+-- what holds of each file and the encodings of its store, if the reading of the file has reached these bytes
+abbrev pub FromBytes : Reader → NextField → List ℕ → (Encodings TimedOp → List ℕ → Type 0) → Type 0
+FromBytes r next bytes Holds = (id file behind : List ℕ) → reading_at (encodings_for id r) file r.on_device (read_by r) next (bytes ++ behind) → Holds (encodings_for id r) file
+
+-- the same, if it is known how many bytes the file has from these on
+abbrev pub FromReader : Reader → List ℕ → ℕ → (Encodings TimedOp → List ℕ → Type 0) → Type 0
+FromReader r bytes left Holds = (id file behind : List ℕ) → left ≡ length bytes + length behind → IsReading id file r (bytes ++ behind) → Holds (encodings_for id r) file
+
+-- the same for a file whose next bytes are in a buffer
+abbrev pub FromBuffer : Type 0 → List ℕ → ReadBuffer → Reader → (Encodings TimedOp → List ℕ → Type 0) → Type 0
+FromBuffer faithful file buffer r Holds = faithful → buffer.end_of_file ≡ length file → (id : List ℕ) → IsReading id file r (rest_of file buffer) → Holds (encodings_for id r) file
 
 -- ---- what is wanted
 

@@ -28,6 +28,13 @@ impl GhostLog {
         *self = GhostLog::Then(Snapshot::of(self), Snapshot::of(element));
     }
 
+    /// These elements and one more.
+    pub fn with(&self, element: &EncodedChange) -> GhostLog
+        ensures changes { logged_changes result ≡ logged_changes self.now ++ element.now ∷ [] }
+    {
+        GhostLog::Then(Snapshot::of(self), Snapshot::of(element))
+    }
+
     /// The same elements.
     pub fn same(&self) -> GhostLog
         ensures ghost_log { logged_elements result ≡ logged_elements self.now }

@@ -111,6 +111,13 @@ impl Journal {
         self.on_device.last
     }
 
+    /// The number before that of the first durable element, or 0 if there is none.
+    pub fn base(&self) -> u64
+        ensures { result ≡ (choice_of self.now).now.below }
+    {
+        self.on_device.below
+    }
+
     /// A batch or a trim is under way, or was when the device failed.
     pub fn is_halfway(&self) -> bool
         ensures { (result ≡ false) ↔ ((choice_of self.now).next ≡ None) }

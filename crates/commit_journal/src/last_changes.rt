@@ -1,5 +1,5 @@
 //! For each hive the last change that names it.
-ghost use Rattle.std.specs.Prelude.{◌≡◌, ◌+◌, ◌<◌, ◌^◌, ℕ, if◌then◌else◌, IfOk, length, replicate, slice_get};
+ghost use Rattle.std.specs.Prelude.{◌≡◌, ◌+◌, ◌<◌, ◌^◌, ◌∷◌, [], ℕ, if◌then◌else◌, IfOk, length, replicate, slice_get};
 ghost use Rattle.std.specs.Option.{option_map};
 ghost use Rattle.commit_journal.specs.LastChangePerHive.{HasCounted, names};
 
@@ -23,10 +23,12 @@ impl LastChangePerHive {
     }
 
     /// Sets the number of each hive that an operation of the change is on.
-    pub(crate) fn count_one(&mut self, change: &EncodedChange, number: u64)
+    pub fn count_one(&mut self, change: &EncodedChange, number: u64)
         ensures named { (i : ℕ) → slice_get self.new.last.items i ≡
             option_map (λ m. if names i change.now.ops then number else m) (slice_get self.old.last.items i) }
         ensures many { length self.new.last.items ≡ length self.old.last.items }
+        ensures counts { (below : ℕ) → number ≡ below + 1 →
+            HasCounted self.old.last.items below (change.now ∷ []) self.new.last.items }
     {
         name(&mut self.last, change, number);
     }

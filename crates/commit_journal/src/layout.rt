@@ -42,6 +42,9 @@ pub(crate) const LEAST_ELEMENT_BYTES: u64 = 16;
 /// The room that each element uses beside its bytes: a gate and a body's head, as if it were alone in its body.
 pub(crate) const ELEMENT_ROOM: u64 = 17;
 
+/// The most bytes that one call reads.
+pub(crate) const CHUNK_BYTES: usize = 65_536;
+
 const _: () = prove!(OPEN_GATE == 0xc3);
 
 const _: () = prove!(FIRST_GATE == 64);

@@ -17,12 +17,13 @@ mod journal;
 mod last_changes;
 pub mod laws;
 mod layout;
-mod opening_scan;
 mod reader;
-mod retention;
+mod scan;
+mod sink;
 
 pub use creation::JournalImage;
 pub use journal::Journal;
 pub use last_changes::LastChangePerHive;
 pub use layout::{FIRST_GATE, MOST_BODY_BYTES, OPEN_GATE};
-pub use opening_scan::{OpenedJournal, StoreHeader};
+pub use scan::{OpenedJournal, StoreHeader};
+pub use sink::ElementSink;

@@ -1,8 +1,8 @@
 //! Reads a journal's bytes after the header, from left to right: what it has found, and how many bytes it needs next.
 //!
 //! It sees no device. Bytes are handed to it as they come, each time at least as many as it wants. If the file has
-//! fewer, it is no journal. Each element is handed on when it is complete, so the reader never keeps bytes of its own.
-ghost use Rattle.std.specs.Prelude.{◌≡◌, ◌+◌, ◌-◌, ◌*◌, ◌<◌, ◌≤◌, ◌^◌, ◌++◌, ◌↔◌, ℕ, List, [], length, take, drop, true, None, IfSome, IfOk, IfErr, OnOk};
+//! fewer, it is no journal. Each element goes to a sink when it is complete, so the reader keeps no bytes of its own.
+ghost use Rattle.std.specs.Prelude.{◌≡◌, ◌+◌, ◌-◌, ◌*◌, ◌<◌, ◌≤◌, ◌^◌, ◌++◌, ◌∷◌, ◌↔◌, ℕ, List, [], length, take, drop, true, None, IfSome, IfOk, IfErr, OnOk};
 ghost use Rattle.byteorder.specs.Endian.{little_number};
 ghost use Rattle.refusals.specs.Answers.{RefusedFor};
 ghost use Rattle.refusals.specs.declared.refusal.Refusal.TheVariants.{JournalDamaged};
@@ -12,11 +12,12 @@ ghost use Rattle.commit_journal.specs.Store.{encodings};
 ghost use Rattle.commit_journal.specs.GhostLog.{logged_changes};
 
 use crate::extent::Extent;
+use crate::ghost_log::GhostLog;
 use crate::layout::{
     COUNT_AT, ELEMENT_ROOM, FIRST_NUMBER_AT, HEAD_BYTES, LEAST_ELEMENT_BYTES, LENGTH_BYTES,
     MOST_BODY_BYTES, OPEN_GATE,
 };
-use crate::retention::Retention;
+use crate::sink::ElementSink;
 use byteorder::{ByteOrder, LittleEndian};
 use change_codec::EncodedChange;
 use refusals::Refusal;
@@ -63,23 +64,25 @@ pub(crate) struct Reader {
     hives: u8,
     /// What the bodies that were read whole decode to.
     pub on_device: Extent,
-    /// The elements that were read, in their order.
-    pub retention: Retention,
+    /// The elements that were read, in their order. Contracts alone know them.
+    read: GhostLog,
+    /// The number of the last one, or the number before the first one's.
+    last: u64,
     next: NextField,
     ghost few: { hives ≤ 256 },
+    ghost numbers: { length (logged_changes read) ≤ last },
 }
 
 impl Reader {
     ghost use Rattle.commit_journal.specs.Journals.{content_of};
-    ghost use Rattle.commit_journal.specs.Reading.{AtGate, in_partial_body, reading_at, encodings_for, IsReading, BodyMayFollow, ElementsAreSound, PartialIsSound, sound_at, ReaderIsSound, NumbersAgree, wanted_by, waits, read_by, numbers_agree_at, IsLastOfPartial, IsRetained, HasSameNumbers};
+    ghost use Rattle.commit_journal.specs.Reading.{AtGate, in_partial_body, reading_at, encodings_for, IsReading, BodyMayFollow, ElementsAreSound, PartialIsSound, sound_at, ReaderIsSound, NumbersAgree, wanted_by, waits, read_by, numbers_agree_at, IsLastOfPartial, numbered_to, taken_by, TakesOn, FromBytes, FromReader};
+    ghost use Rattle.commit_journal.specs.Scans.{ReadingFails};
 
     /// Nothing was read: the first gate comes next.
-    pub fn new(alloc: Global, hives: u8, retention: Retention) -> Reader
-        requires none { logged_changes retention.read ≡ [] }
-        requires zero { retention.last ≡ 0 }
+    pub fn new(alloc: Global, hives: u8) -> Reader
         ensures keeps { ReaderIsSound result }
         ensures tied { NumbersAgree result }
-        ensures retention { result.retention ≡ retention }
+        ensures none { taken_by result ≡ [] }
         ensures hives { result.hives ≡ hives }
         ensures begins { (id file rest : List ℕ) →
             AtGate (encodings (record { id = id; hives = hives })) file nothing 64 rest →
@@ -89,7 +92,8 @@ impl Reader {
             alloc,
             hives,
             on_device: Extent::nothing(),
-            retention,
+            read: GhostLog::Nothing,
+            last: 0,
             next: NextField::Gate,
         }
     }
@@ -117,41 +121,46 @@ impl Reader {
         }
     }
 
-    /// Takes the next bytes, of which the file has `left` from here on: answers how many were taken.
+    /// Takes the next bytes, of which the file has `left` from here on: answers how many were taken. The elements that
+    /// are whole in them go to the sink.
     ///
-    /// Refused with `JournalDamaged` only if the file decodes to nothing, and with `NoMemory`.
-    pub fn take(&mut self, bytes: &[u8], left: u64) -> Result<usize, Refusal>
+    /// Refused with `JournalDamaged` only if the file decodes to nothing, with `NoMemory`, and as the sink refuses an
+    /// element.
+    pub fn take<S: ElementSink>(
+        &mut self,
+        sink: &mut S,
+        bytes: &[u8],
+        left: u64,
+    ) -> Result<usize, Refusal>
         requires continues { ¬ (self.old.next ≡ NextField.Done) }
         requires there { wanted_by self.old.next ≤ length bytes.now }
         requires keeps { ReaderIsSound self.old }
         requires tied { NumbersAgree self.old }
-        requires kept { IsRetained self.old.retention }
         ensures keeps { OnOk result (ReaderIsSound self.new) }
         ensures tied { OnOk result (NumbersAgree self.new) }
-        ensures kept { OnOk result (IsRetained self.new.retention) }
         ensures hives { self.new.hives ≡ self.old.hives }
-        ensures numbers { HasSameNumbers self.old.retention self.new.retention }
         ensures within { IfOk result (λ n. n ≤ length bytes.now) }
         ensures falls { IfOk result (λ n. waits self.new.next < waits self.old.next + 2 * n) }
         ensures reads { IfOk result (λ n. (id file behind : List ℕ) → left ≡ length bytes.now + length behind →
             IsReading id file self.old (bytes.now ++ behind) →
             IsReading id file self.new (drop n bytes.now ++ behind)) }
-        ensures refused { IfErr result (RefusedFor JournalDamaged ((id file behind : List ℕ) →
-            left ≡ length bytes.now + length behind →
-            IsReading id file self.old (bytes.now ++ behind) →
-            decoded (encodings_for id self.old) file ≡ None)) }
+        ensures takes { TakesOn S.Took sink.old sink.new self.old self.new }
+        ensures refused { IfErr result (ReadingFails (S.Denies sink.new)
+            (FromReader self.old bytes.now left) (taken_by self.new)) }
     {
         match self.next {
             NextField::Gate => {
                 self.gate(bytes);
                 Ok(1)
             }
-            NextField::Head => {
-                self.head(bytes, left)?;
-                Ok(HEAD_BYTES as usize)
+            NextField::Head => match self.head(bytes, left) {
+                Ok(()) => Ok(HEAD_BYTES as usize),
+                Err(why) => Err(why),
+            },
+            NextField::Size(partial_body) => self.size(sink, partial_body, bytes),
+            NextField::Encoding(partial_body, len) => {
+                self.sized_element(sink, partial_body, len, bytes)
             }
-            NextField::Size(partial_body) => self.size(partial_body, bytes),
-            NextField::Encoding(partial_body, len) => self.sized_element(partial_body, len, bytes),
             NextField::Done => Ok(0),
         }
     }
@@ -160,13 +169,11 @@ impl Reader {
     fn gate(&mut self, bytes: &[u8])
         requires there { 1 ≤ length bytes.now }
         requires keeps { sound_at self.old.hives self.old.on_device (read_by self.old) NextField.Gate }
-        requires tied { numbers_agree_at self.old.retention.last self.old.on_device (read_by self.old) NextField.Gate }
-        requires kept { IsRetained self.old.retention }
+        requires tied { numbers_agree_at self.old.last self.old.on_device (read_by self.old) NextField.Gate }
         ensures keeps { ReaderIsSound self.new }
         ensures tied { NumbersAgree self.new }
-        ensures kept { IsRetained self.new.retention }
         ensures hives { self.new.hives ≡ self.old.hives }
-        ensures numbers { HasSameNumbers self.old.retention self.new.retention }
+        ensures same { taken_by self.new ≡ taken_by self.old }
         ensures falls { waits self.new.next < 2 }
         ensures reads { (id file behind : List ℕ) →
             reading_at (encodings_for id self.old) file self.old.on_device (read_by self.old) NextField.Gate
@@ -184,13 +191,11 @@ impl Reader {
     fn head(&mut self, bytes: &[u8], left: u64) -> Result<(), Refusal>
         requires there { 16 ≤ length bytes.now }
         requires keeps { sound_at self.old.hives self.old.on_device (read_by self.old) NextField.Head }
-        requires tied { numbers_agree_at self.old.retention.last self.old.on_device (read_by self.old) NextField.Head }
-        requires kept { IsRetained self.old.retention }
+        requires tied { numbers_agree_at self.old.last self.old.on_device (read_by self.old) NextField.Head }
         ensures keeps { OnOk result (ReaderIsSound self.new) }
         ensures tied { OnOk result (NumbersAgree self.new) }
-        ensures kept { OnOk result (IsRetained self.new.retention) }
         ensures hives { self.new.hives ≡ self.old.hives }
-        ensures numbers { HasSameNumbers self.old.retention self.new.retention }
+        ensures same { taken_by self.new ≡ taken_by self.old }
         ensures falls { OnOk result (waits self.new.next < 32) }
         ensures reads { OnOk result ((id file behind : List ℕ) → left ≡ length bytes.now + length behind →
             reading_at (encodings_for id self.old) file self.old.on_device (read_by self.old) NextField.Head
@@ -212,7 +217,8 @@ impl Reader {
             return Err(Refusal::JournalDamaged);
         }
         let start = self.on_device.count();
-        self.retention.continue_at(first);
+        // if elements were read, this is their last number already
+        self.last = first - 1;
         self.partial_body(PartialBody {
             first,
             size,
@@ -239,13 +245,11 @@ impl Reader {
         requires elements { ElementsAreSound self.old.hives self.old.on_device
             (take partial_body.start (read_by self.old)) (read_by self.old) }
         requires partial_body { PartialIsSound self.old.on_device (read_by self.old) partial_body }
-        requires tied { IsLastOfPartial self.old.retention.last (read_by self.old) partial_body }
-        requires kept { IsRetained self.old.retention }
+        requires tied { IsLastOfPartial self.old.last (read_by self.old) partial_body }
         ensures keeps { OnOk result (ReaderIsSound self.new) }
         ensures tied { OnOk result (NumbersAgree self.new) }
-        ensures kept { OnOk result (IsRetained self.new.retention) }
         ensures hives { self.new.hives ≡ self.old.hives }
-        ensures numbers { HasSameNumbers self.old.retention self.new.retention }
+        ensures same { taken_by self.new ≡ taken_by self.old }
         ensures falls { OnOk result (waits self.new.next < 2) }
         ensures reads { OnOk result ((id file rest : List ℕ) →
             in_partial_body (encodings_for id self.old) file self.old.on_device (read_by self.old) partial_body rest →
@@ -272,13 +276,11 @@ impl Reader {
         requires elements { ElementsAreSound self.old.hives self.old.on_device
             (take partial_body.start (read_by self.old)) (read_by self.old) }
         requires partial_body { PartialIsSound self.old.on_device (read_by self.old) partial_body }
-        requires tied { IsLastOfPartial self.old.retention.last (read_by self.old) partial_body }
-        requires kept { IsRetained self.old.retention }
+        requires tied { IsLastOfPartial self.old.last (read_by self.old) partial_body }
         ensures keeps { OnOk result (ReaderIsSound self.new) }
         ensures tied { OnOk result (NumbersAgree self.new) }
-        ensures kept { OnOk result (IsRetained self.new.retention) }
         ensures hives { self.new.hives ≡ self.old.hives }
-        ensures numbers { HasSameNumbers self.old.retention self.new.retention }
+        ensures same { taken_by self.new ≡ taken_by self.old }
         ensures falls { OnOk result (waits self.new.next < 2) }
         ensures reads { OnOk result ((id file rest : List ℕ) →
             in_partial_body (encodings_for id self.old) file self.old.on_device (read_by self.old) partial_body rest →
@@ -290,39 +292,40 @@ impl Reader {
         if partial_body.left > 0 {
             return Err(Refusal::JournalDamaged);
         }
-        let count = self.retention.last + 1 - partial_body.first;
+        let count = self.last + 1 - partial_body.first;
         let room = ELEMENT_ROOM * count + (partial_body.size - HEAD_BYTES);
         if self.on_device.used >= MOST_ROOM || room >= MOST_ROOM - self.on_device.used {
             return Err(Refusal::NoMemory);
         }
         self.on_device = self
             .on_device
-            .with_body(partial_body, count, self.retention.ghost_log());
+            .with_body(partial_body, count, self.read.same());
         self.next = NextField::Gate;
         Ok(())
     }
 
     /// The length of an element, which is read again with the element. If the whole element is in memory, it is taken.
-    fn size(&mut self, partial_body: PartialBody, bytes: &[u8]) -> Result<usize, Refusal>
+    fn size<S: ElementSink>(
+        &mut self,
+        sink: &mut S,
+        partial_body: PartialBody,
+        bytes: &[u8],
+    ) -> Result<usize, Refusal>
         requires there { 4 ≤ length bytes.now }
         requires keeps { sound_at self.old.hives self.old.on_device (read_by self.old) (NextField.Size partial_body) }
-        requires tied { numbers_agree_at self.old.retention.last self.old.on_device (read_by self.old) (NextField.Size partial_body) }
-        requires kept { IsRetained self.old.retention }
+        requires tied { numbers_agree_at self.old.last self.old.on_device (read_by self.old) (NextField.Size partial_body) }
         ensures keeps { OnOk result (ReaderIsSound self.new) }
         ensures tied { OnOk result (NumbersAgree self.new) }
-        ensures kept { OnOk result (IsRetained self.new.retention) }
         ensures hives { self.new.hives ≡ self.old.hives }
-        ensures numbers { HasSameNumbers self.old.retention self.new.retention }
         ensures within { IfOk result (λ n. n ≤ length bytes.now) }
         ensures falls { IfOk result (λ n. waits self.new.next < 1 + 2 * n) }
         ensures reads { IfOk result (λ n. (id file behind : List ℕ) →
             reading_at (encodings_for id self.old) file self.old.on_device (read_by self.old)
             (NextField.Size partial_body) (bytes.now ++ behind) →
             IsReading id file self.new (drop n bytes.now ++ behind)) }
-        ensures refused { IfErr result (RefusedFor JournalDamaged ((id file behind : List ℕ) →
-            reading_at (encodings_for id self.old) file self.old.on_device (read_by self.old)
-            (NextField.Size partial_body) (bytes.now ++ behind) →
-            decoded (encodings_for id self.old) file ≡ None)) }
+        ensures takes { TakesOn S.Took sink.old sink.new self.old self.new }
+        ensures refused { IfErr result (ReadingFails (S.Denies sink.new)
+            (FromBytes self.old (NextField.Size partial_body) bytes.now) (taken_by self.new)) }
     {
         let len = u64::from(LittleEndian::read_u32(bytes));
         if len < LEAST_ELEMENT_BYTES || len > partial_body.left {
@@ -333,12 +336,13 @@ impl Reader {
             self.next = NextField::Encoding(partial_body, len);
             return Ok(0);
         }
-        self.encodings(partial_body, len, bytes)
+        self.encodings(sink, partial_body, len, bytes)
     }
 
     /// An element whose length was read before the element was in memory. The length is read again with it.
-    fn sized_element(
+    fn sized_element<S: ElementSink>(
         &mut self,
+        sink: &mut S,
         partial_body: PartialBody,
         len: usize,
         bytes: &[u8],
@@ -346,34 +350,31 @@ impl Reader {
         requires there { len ≤ length bytes.now }
         requires keeps { sound_at self.old.hives self.old.on_device (read_by self.old)
             (NextField.Encoding partial_body len) }
-        requires tied { numbers_agree_at self.old.retention.last self.old.on_device (read_by self.old)
+        requires tied { numbers_agree_at self.old.last self.old.on_device (read_by self.old)
             (NextField.Encoding partial_body len) }
-        requires kept { IsRetained self.old.retention }
         ensures keeps { OnOk result (ReaderIsSound self.new) }
         ensures tied { OnOk result (NumbersAgree self.new) }
-        ensures kept { OnOk result (IsRetained self.new.retention) }
         ensures hives { self.new.hives ≡ self.old.hives }
-        ensures numbers { HasSameNumbers self.old.retention self.new.retention }
         ensures within { IfOk result (λ n. n ≤ length bytes.now) }
         ensures falls { IfOk result (λ n. waits self.new.next < 2 * n) }
         ensures reads { IfOk result (λ n. (id file behind : List ℕ) →
             reading_at (encodings_for id self.old) file self.old.on_device (read_by self.old)
             (NextField.Encoding partial_body len) (bytes.now ++ behind) →
             IsReading id file self.new (drop n bytes.now ++ behind)) }
-        ensures refused { IfErr result (RefusedFor JournalDamaged ((id file behind : List ℕ) →
-            reading_at (encodings_for id self.old) file self.old.on_device (read_by self.old)
-            (NextField.Encoding partial_body len) (bytes.now ++ behind) →
-            decoded (encodings_for id self.old) file ≡ None)) }
+        ensures takes { TakesOn S.Took sink.old sink.new self.old self.new }
+        ensures refused { IfErr result (ReadingFails (S.Denies sink.new)
+            (FromBytes self.old (NextField.Encoding partial_body len) bytes.now) (taken_by self.new)) }
     {
         if LittleEndian::read_u32(bytes) as usize != len {
             return Err(Refusal::JournalDamaged);
         }
-        self.encodings(partial_body, len, bytes)
+        self.encodings(sink, partial_body, len, bytes)
     }
 
     /// An element, and those after it that are whole in memory: answers how many bytes they have.
-    fn encodings(
+    fn encodings<S: ElementSink>(
         &mut self,
+        sink: &mut S,
         partial_body: PartialBody,
         len: usize,
         bytes: &[u8],
@@ -382,29 +383,25 @@ impl Reader {
         requires len { little_number 4 bytes.now ≡ len }
         requires keeps { sound_at self.old.hives self.old.on_device (read_by self.old)
             (NextField.Encoding partial_body len) }
-        requires tied { IsLastOfPartial self.old.retention.last (read_by self.old) partial_body }
-        requires kept { IsRetained self.old.retention }
+        requires tied { IsLastOfPartial self.old.last (read_by self.old) partial_body }
         ensures keeps { OnOk result (ReaderIsSound self.new) }
         ensures tied { OnOk result (NumbersAgree self.new) }
-        ensures kept { OnOk result (IsRetained self.new.retention) }
         ensures hives { self.new.hives ≡ self.old.hives }
-        ensures numbers { HasSameNumbers self.old.retention self.new.retention }
         ensures within { IfOk result (λ n. n ≤ length bytes.now) }
         ensures falls { IfOk result (λ n. waits self.new.next < 2 * n) }
         ensures reads { IfOk result (λ n. (id file behind : List ℕ) →
             in_partial_body (encodings_for id self.old) file self.old.on_device (read_by self.old) partial_body
             (bytes.now ++ behind) →
             IsReading id file self.new (drop n bytes.now ++ behind)) }
-        ensures refused { IfErr result (RefusedFor JournalDamaged ((id file behind : List ℕ) →
-            in_partial_body (encodings_for id self.old) file self.old.on_device (read_by self.old) partial_body
-            (bytes.now ++ behind) →
-            decoded (encodings_for id self.old) file ≡ None)) }
+        ensures takes { TakesOn S.Took sink.old sink.new self.old self.new }
+        ensures refused { IfErr result (ReadingFails (S.Denies sink.new)
+            (FromBytes self.old (NextField.Size partial_body) bytes.now) (taken_by self.new)) }
     {
         let mut partial_body = partial_body;
-        self.encoding(&mut partial_body, len, bytes)?;
+        self.encoding(sink, &mut partial_body, len, bytes)?;
         let mut taken = len;
         'elements: while let Some(more) = partial_body.whole(&bytes[taken..]) {
-            match self.encoding(&mut partial_body, more, &bytes[taken..]) {
+            match self.encoding(sink, &mut partial_body, more, &bytes[taken..]) {
                 Ok(()) => taken += more,
                 Err(why) => return Err(why),
             }
@@ -415,10 +412,11 @@ impl Reader {
         }
     }
 
-    /// An element: one less is to be read of the body.
+    /// An element, which goes to the sink: one less is to be read of the body.
     #[inline(always)]
-    fn encoding(
+    fn encoding<S: ElementSink>(
         &mut self,
+        sink: &mut S,
         partial_body: &mut PartialBody,
         len: usize,
         bytes: &[u8],
@@ -427,30 +425,33 @@ impl Reader {
         requires len { little_number 4 bytes.now ≡ len }
         requires keeps { sound_at self.old.hives self.old.on_device (read_by self.old)
             (NextField.Encoding partial_body.old len) }
-        requires tied { IsLastOfPartial self.old.retention.last (read_by self.old) partial_body.old }
-        requires kept { IsRetained self.old.retention }
+        requires tied { IsLastOfPartial self.old.last (read_by self.old) partial_body.old }
         ensures elements { OnOk result (ElementsAreSound self.new.hives self.new.on_device
             (take partial_body.new.start (read_by self.new)) (read_by self.new)) }
         ensures partial_body { OnOk result (PartialIsSound self.new.on_device (read_by self.new) partial_body.new) }
-        ensures tied { OnOk result (IsLastOfPartial self.new.retention.last (read_by self.new) partial_body.new) }
-        ensures kept { OnOk result (IsRetained self.new.retention) }
+        ensures tied { OnOk result (IsLastOfPartial self.new.last (read_by self.new) partial_body.new) }
         ensures hives { self.new.hives ≡ self.old.hives }
-        ensures numbers { HasSameNumbers self.old.retention self.new.retention }
         ensures reads { OnOk result ((id file behind : List ℕ) →
             in_partial_body (encodings_for id self.old) file self.old.on_device (read_by self.old) partial_body.old
             (bytes.now ++ behind) →
             in_partial_body (encodings_for id self.new) file self.new.on_device (read_by self.new) partial_body.new
             (drop len bytes.now ++ behind)) }
-        ensures refused { IfErr result (RefusedFor JournalDamaged ((id file behind : List ℕ) →
-            in_partial_body (encodings_for id self.old) file self.old.on_device (read_by self.old) partial_body.old
-            (bytes.now ++ behind) →
-            decoded (encodings_for id self.old) file ≡ None)) }
+        ensures takes { TakesOn S.Took sink.old sink.new self.old self.new }
+        ensures refused { IfErr result (ReadingFails (S.Denies sink.new)
+            (FromBytes self.old (NextField.Size partial_body.old) bytes.now) (taken_by self.new)) }
     {
         let element = match EncodedChange::take(self.alloc, self.hives, bytes) {
             Ok((element, _)) => element,
             Err(why) => return Err(why),
         };
-        self.retention.push(element)?;
+        let number = self.last + 1;
+        let read = self.read.with(&element);
+        match sink.take(number, element) {
+            Ok(()) => {}
+            Err(why) => return Err(why),
+        }
+        self.read = read;
+        self.last = number;
         partial_body.left -= len as u64;
         partial_body.count -= 1;
         Ok(())

@@ -45,15 +45,8 @@ impl JournalDriver {
     /// Opens the journal: the number of hives of its store, the number before the first element, and the used room.
     pub fn open(&mut self, wanted: &[&str]) -> Result<(), Fault> {
         match self.reopened()? {
-            Ok(
-                OpenedJournal {
-                    journal,
-                    below,
-                    elements,
-                    ..
-                },
-            ) => {
-                let numbers = [u64::from(journal.hives()), below, journal.used()];
+            Ok(OpenedJournal { journal, elements }) => {
+                let numbers = [u64::from(journal.hives()), journal.base(), journal.used()];
                 self.journal = Some(journal);
                 self.opened = elements;
                 are_numbers(&numbers, wanted)
@@ -64,10 +57,10 @@ impl JournalDriver {
 
     fn reopened(&mut self) -> Result<Result<OpenedJournal, Refusal>, Fault> {
         let before = self.look()?;
-        match Journal::open(self.alloc, &mut self.disk, Vec::new(self.alloc)) {
+        match Journal::open(self.alloc, &mut self.disk) {
             Err(Refusal::NoMemory) => {
                 self.sees_no_change(before)?;
-                Ok(Journal::open(self.alloc, &mut self.disk, Vec::new(self.alloc)))
+                Ok(Journal::open(self.alloc, &mut self.disk))
             }
             made => Ok(made),
         }

@@ -33,6 +33,7 @@ use Rattle.engine_invariant.specs.Answers.{reply_to, after_step, MayTrim}
 use Rattle.engine_invariant.specs.Prefixes.{view_of}
 use Rattle.engine_invariant.specs.Runs.{ReceiptIsDurable}
 use Rattle.commit_journal.specs.LastChangePerHive.{HasCounted}
+use Rattle.recovery.specs.Retained.{numbered_changes}
 use Rattle.engine.specs.LastChangePerHive.{AreLastNaming}
 use Rattle.commit_journal.specs.declared.last_changes.LastChangePerHive.{LastChangePerHive}
 use Rattle.engine_invariant.proofs.HiveLists.{viewed}
@@ -134,7 +135,7 @@ module _ {D : Type 0} (states : D → ℕ → ℕ → FileState) (clock failures
               (settled_within s.store.machine store.machine s.base (changes_of s.decoded.value) (choice_of s.journal) (choice_of new) (map view_of s.hives.items) come goes.1 is)
               (ap (λ (m : Machine). m.accepted) is ∙ step_accepted s.store.machine (choice_of s.journal) (choice_of new) come) sound.last_changes counted.last;
           named = counted.many ∙ sound.named;
-          retained = hand_steps s.store store s.base (changes_of s.decoded.value) s.opened.items s.hives.items
+          retained = hand_steps s.store store s.base (changes_of s.decoded.value) (numbered_changes s.opened) s.hives.items
               (ap (λ (m : Machine). m.before) is ∙ step_before s.store.machine (choice_of s.journal) (choice_of new) come)
               (ap (λ (m : Machine). m.accepted) is ∙ step_accepted s.store.machine (choice_of s.journal) (choice_of new) come)
               (subst (λ (m : Machine). s.store.machine.durable ≤ m.durable) (sym is) (rises s.store.machine (after_step s.store.machine (choice_of s.journal) (choice_of new) come) e (reply_to come) sound.holds.kept.kept goes.0)) hand sound.retained;

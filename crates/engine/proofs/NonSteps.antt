@@ -13,6 +13,7 @@ use Rattle.change_codec.specs.ModelChanges.{TimedOp}
 use Rattle.commit_journal.specs.Journals.{changes_of, choice_of}
 use Rattle.engine_invariant.specs.States.{HiveView, IsConsistent}
 use Rattle.engine_invariant.specs.Prefixes.{view_of}
+use Rattle.recovery.specs.Retained.{numbered_changes}
 use Rattle.engine.specs.LastChangePerHive.{AreLastNaming}
 use Rattle.engine.specs.Parts.{IsSound}
 use Rattle.engine.specs.declared.parts.Parts.{Parts}
@@ -37,7 +38,7 @@ non_step_keeps keep mark_durable s t e r sound non_step step hand =
       holds = non_step_sound s.store t s.base (changes_of s.decoded.value) s.journal s.hives.items sound.holds (keep s.store.machine t.machine s.base (changes_of s.decoded.value) (choice_of s.journal) (map view_of s.hives.items) e r kept non_step step) how;
       last_changes = last_changes_at_non_step s.store.machine t.machine s.base (changes_of s.decoded.value) s.last_changes.last.items kept.begun kept.kept.within.opened kept.kept.within.known how sound.last_changes;
       named = sound.named;
-      retained = retained_at_non_step s.store t s.base (changes_of s.decoded.value) s.opened.items s.hives.items kept.begun kept.kept.within.known how hand sound.retained;
+      retained = retained_at_non_step s.store t s.base (changes_of s.decoded.value) (numbered_changes s.opened) s.hives.items kept.begun kept.kept.within.known how hand sound.retained;
     }
 
 -- the store changes nothing of an engine's invariant
@@ -46,7 +47,7 @@ told_keeps s t sound same hand = record {
   holds = told_sound s.store t s.base (changes_of s.decoded.value) s.journal s.hives.items same sound.holds;
   last_changes = subst (λ (m : Machine). AreLastNaming m s.base (changes_of s.decoded.value) s.last_changes.last.items) (sym same) sound.last_changes;
   named = sound.named;
-  retained = hand_steps s.store t s.base (changes_of s.decoded.value) s.opened.items s.hives.items (ap (λ (m : Machine). m.before) same) (ap (λ (m : Machine). m.accepted) same) (omega (arith, ap (λ (m : Machine). m.durable) same)) hand sound.retained;
+  retained = hand_steps s.store t s.base (changes_of s.decoded.value) (numbered_changes s.opened) s.hives.items (ap (λ (m : Machine). m.before) same) (ap (λ (m : Machine). m.accepted) same) (omega (arith, ap (λ (m : Machine). m.durable) same)) hand sound.retained;
 }
 
 -- an event that may accept a change makes no step

@@ -1,8 +1,8 @@
 -- What a hive says of its steps, and what it absorbs, is what the engine answers and keeps.
-use Rattle.std.proofs.Common.{◌≡◌, ◌⊎◌, ◌↔◌, inl, inr, ℕ, ◌+◌, ◌-◌, ◌≤◌, max, min, false, List, [], ◌++◌, length, map, take, drop, sym, ◌∙◌, ap, subst, arith, Some, None, Result, Ok, Err, slice_get}
+use Rattle.std.proofs.Common.{◌≡◌, ◌⊎◌, ◌↔◌, inl, inr, ℕ, ◌+◌, ◌-◌, ◌≤◌, max, false, List, ◌++◌, map, take, drop, sym, ◌∙◌, ap, subst, arith, Some, None, Result, Ok, Err, slice_get}
 use Rattle.std.specs.Prelude.{slice_set, OnOk, OnErr}
-use Rattle.std.proofs.lemmas.List.{drop-drop, length-drop, drop-take, take_all}
-use Rattle.std.proofs.Math.ListN.{drop_of_length-le}
+use Rattle.std.specs.List.{filter}
+use Rattle.std.proofs.lemmas.List.{drop-take, map-append}
 use Rattle.refusals.specs.declared.refusal.Refusal.{Refusal}
 use Rattle.refusals.specs.declared.refusal.Refusal.TheVariants.{Faulted, NoMemory}
 use Rattle.reg_tree.specs.Maps.{TreeMap}
@@ -11,12 +11,13 @@ use Rattle.crash_model.specs.Changes.{AreLegal, applied, ops_on}
 use Rattle.crash_model.specs.Promises.{Choice, Content, HiveSays}
 use Rattle.crash_model.specs.Life.{ops_in}
 use Rattle.crash_model.proofs.Lists.{le_or_le}
+use Rattle.crash_model.proofs.Replays.{ops_on-append}
 use Rattle.crash_model.proofs.OnePrefix.{ops_split}
 use Rattle.store_model.specs.Machine.{Machine}
 use Rattle.store_model.specs.Steps.{Step}
 use Rattle.store_model.specs.declared.event.Event.TheVariants as event
 use Rattle.transactions.specs.Stores.{StoreView}
-use Rattle.change_codec.specs.ModelChanges.{TimedOp, tree_rules, timed_elements}
+use Rattle.change_codec.specs.ModelChanges.{TimedOp, tree_rules, timed_element, timed_elements}
 use Rattle.crash_model.specs.StepAnswers.{Says}
 use Rattle.disk_model.specs.declared.progress.Progress.{Progress}
 use Rattle.commit_journal.specs.Journals.{choice_of}
@@ -27,6 +28,9 @@ use Rattle.hive_flush.specs.declared.hive.HiveFile.{HiveFile}
 use Rattle.engine_invariant.specs.States.{HiveView, IsConsistent, life_of}
 use Rattle.engine_invariant.specs.Answers.{reply_to, after_flush, opened_above, accepted_above, absorbed}
 use Rattle.engine_invariant.specs.Prefixes.{view_of}
+use Rattle.commit_journal.specs.Numbered.{NumberedChange, numbered, changes_in}
+use Rattle.recovery.specs.Retained.{above_number, is_lacked}
+use Rattle.recovery.proofs.NumberedChanges.{above_above, lacked_are}
 use Rattle.engine.specs.RetainedChanges.{RetainsWhatHivesLack}
 use Rattle.engine.specs.Parts.{AreSound}
 use Rattle.engine_invariant.proofs.HiveLists.{view_at}
@@ -51,6 +55,10 @@ Flush = (machine : Machine) (base : ℕ) (opened : List Element) (journal : Choi
     → slice_get hives i ≡ Some old → new.memory ≡ old.memory → ¬ (result ≡ Err Faulted) → Says (HiveSays old.memory) result old.files new.files
     → Step machine (event.FlusherStep i) (reply_to result) (after_flush machine result) × IsConsistent (after_flush machine result) base opened journal (slice_set hives i new)
 
+-- the operations of two lists of changes
+both_parts : (i : ℕ) (xs ys : List Element) → ops_on i (timed_elements (xs ++ ys)) ≡ ops_on i (timed_elements xs) ++ ops_on i (timed_elements ys)
+both_parts i xs ys = ap (ops_on i) (map-append timed_element xs ys) ∙ ops_on-append i (timed_elements xs) (timed_elements ys)
+
 module _ (s : StoreView) (base : ℕ) (opened : List Element) (journal : Journal) (hives : List HiveFile) (a : AreSound s base opened journal hives) (free : s.machine.faulted ≡ false) (k : ℕ) (old : HiveFile) (is : slice_get hives k ≡ Some old) where
   pub flush_goes : Flush → (new : HiveFile) (result : Result Progress Refusal) → memory_of new ≡ memory_of old → ((result ≡ Err Faulted) ↔ IsBroken old) → Says (HiveSays (memory_of old)) result (file_choice old) (file_choice new)
       → Step s.machine (event.FlusherStep k) (reply_to result) (after_flush s.machine result) × IsConsistent (after_flush s.machine result) base opened (choice_of journal) (slice_set (map view_of hives) k (view_of new))
@@ -63,17 +71,26 @@ module _ (s : StoreView) (base : ℕ) (opened : List Element) (journal : Journal
   lacked = opened_above base opened (memory_of old).1 ++ accepted_above s.machine (memory_of old).1
 
   -- what is handed to the hive has the operations that it lacks
-  pub handed_ops : Above → (retained : List Element) → RetainsWhatHivesLack s base opened retained hives → (gone : ℕ) → gone ≤ s.machine.durable → ops_in (life_of s.machine base opened) k (memory_of old).1 gone ≡ [] → (memory_of old).1 ≤ s.machine.durable → (es : List Element)
-      → es ≡ opened_above base opened (max (memory_of old).1 gone) ++ accepted_above s.machine (max (memory_of old).1 gone)
-      → ops_on k (timed_elements es) ≡ ops_on k (timed_elements (opened_above base opened (memory_of old).1 ++ accepted_above s.machine (memory_of old).1))
-  handed_ops law retained hand gone high none low es are =
-      ap (λ (l : List Element). ops_on k (timed_elements l)) are ∙ sym (law s.machine base opened (choice_of journal) (map view_of hives) k (max (memory_of old).1 gone) a.kept)
-      ∙ above (le_or_le gone (memory_of old).1) ∙ law s.machine base opened (choice_of journal) (map view_of hives) k (memory_of old).1 a.kept
+  pub handed_ops : Above → (retained : List NumberedChange) (hand : RetainsWhatHivesLack s base opened retained hives) → (memory_of old).1 ≤ s.machine.durable → (handed accepted : List Element)
+      → handed ≡ changes_in (above_number (memory_of old).1 retained) → accepted ≡ accepted_above s.machine (max hand.gone (memory_of old).1)
+      → ops_on k (timed_elements (handed ++ accepted)) ≡ ops_on k (timed_elements (opened_above base opened (memory_of old).1 ++ accepted_above s.machine (memory_of old).1))
+  handed_ops law retained hand low handed accepted are rest =
+      ap (λ (l : List Element). ops_on k (timed_elements (l ++ accepted))) are ∙ both_parts k (changes_in (above_number (memory_of old).1 retained)) accepted
+      ∙ ap (λ (os : List TimedOp). os ++ ops_on k (timed_elements accepted)) kept ∙ ap (λ (l : List Element). ops_on k (timed_elements (opened_above base opened from)) ++ ops_on k (timed_elements l)) rest
+      ∙ sym (both_parts k (opened_above base opened from) (accepted_above s.machine from)) ∙ sym (law s.machine base opened (choice_of journal) (map view_of hives) k from a.kept)
+      ∙ above (le_or_le hand.gone (memory_of old).1) ∙ law s.machine base opened (choice_of journal) (map view_of hives) k (memory_of old).1 a.kept
     where
-      above : (gone ≤ (memory_of old).1) ⊎ ((memory_of old).1 ≤ gone) → ops_in (life_of s.machine base opened) k (max (memory_of old).1 gone) s.machine.durable ≡ ops_in (life_of s.machine base opened) k (memory_of old).1 s.machine.durable
-      above (inl le) = let e : max (memory_of old).1 gone ≡ (memory_of old).1 = omega (arith, le) in ap (λ n. ops_in (life_of s.machine base opened) k n s.machine.durable) e
-      above (inr le) = (let e : max (memory_of old).1 gone ≡ gone = omega (arith, le) in ap (λ n. ops_in (life_of s.machine base opened) k n s.machine.durable) e)
-          ∙ sym (ops_split (life_of s.machine base opened) k (memory_of old).1 gone s.machine.durable le high ∙ ap (λ (os : List TimedOp). os ++ ops_in (life_of s.machine base opened) k gone s.machine.durable) none)
+      from : ℕ
+      from = max hand.gone (memory_of old).1
+
+      kept : ops_on k (timed_elements (changes_in (above_number (memory_of old).1 retained))) ≡ ops_on k (timed_elements (opened_above base opened from))
+      kept = ap (λ l. ops_on k (timed_elements (changes_in (above_number (memory_of old).1 l)))) hand.opened_are ∙ ap (λ l. ops_on k (timed_elements (changes_in l))) (above_above (memory_of old).1 hand.gone (filter (is_lacked hand.own) (numbered base opened)))
+          ∙ lacked_are hand.own k from base opened (omega (arith, hand.since k old is))
+
+      above : (hand.gone ≤ (memory_of old).1) ⊎ ((memory_of old).1 ≤ hand.gone) → ops_in (life_of s.machine base opened) k from s.machine.durable ≡ ops_in (life_of s.machine base opened) k (memory_of old).1 s.machine.durable
+      above (inl le) = let e : from ≡ (memory_of old).1 = omega (arith, le) in ap (λ n. ops_in (life_of s.machine base opened) k n s.machine.durable) e
+      above (inr le) = (let e : from ≡ hand.gone = omega (arith, le) in ap (λ n. ops_in (life_of s.machine base opened) k n s.machine.durable) e)
+          ∙ sym (ops_split (life_of s.machine base opened) k (memory_of old).1 hand.gone s.machine.durable le hand.high ∙ ap (λ (os : List TimedOp). os ++ ops_in (life_of s.machine base opened) k hand.gone s.machine.durable) (hand.lacked k old is))
 
   pub lawful : Lacks → (es : List Element) → ops_on k (timed_elements es) ≡ ops_on k (timed_elements (opened_above base opened (memory_of old).1 ++ accepted_above s.machine (memory_of old).1)) → ChangesAreLegalOn (hive_number old) es (memory_of old).0
   lawful law es e = subst (λ n. ChangesAreLegalOn n es (memory_of old).0) (sym (a.placed.place k old is)) (subst (λ (os : List TimedOp). AreLegal tree_rules os (memory_of old).0) (sym e)
@@ -97,16 +114,7 @@ module _ (s : StoreView) (base : ℕ) (opened : List Element) (journal : Journal
       kept (Err w) o f =
           (flush s.machine base opened (choice_of journal) (map view_of hives) k (view_of old) (view_of new) (Err NoMemory) a.kept free (view_at hives k old is) (ap memory_of f) (λ x. absurd cc) (idle, files)).1
 
--- What the code hands to a hive is what it lacks
-
-slice_is : (k : ℕ) (l : List Element) → take (length l - k) (drop k l) ≡ drop k l
-slice_is k l = take_all (length l - k) (drop k l) (omega (arith, length-drop k l))
-
-pub opened_is : (x : ℕ) (l : List Element) → take (length l - min x (length l)) (drop (min x (length l)) l) ≡ drop x l
-opened_is x l = slice_is (min x (length l)) l ∙ elim (le_or_le x (length l)) as (λ z. drop (min x (length l)) l ≡ drop x l) [
-  | inl le ↦ let e : min x (length l) ≡ x = omega (arith, le) in ap (λ k. drop k l) e
-  | inr ge ↦ let e : min x (length l) ≡ length l = omega (arith, ge) in ap (λ k. drop k l) e ∙ drop_of_length-le l (omega arith) ∙ sym (drop_of_length-le l ge)
-]
+-- What was accepted since the opening and is handed to a hive
 
 pub accepted_is : (m : Machine) (number from durable : ℕ) → from ≡ max number m.before → durable ≡ m.durable → number ≤ m.durable → m.before ≤ m.durable → take (durable - from) (drop (from - m.before) m.accepted) ≡ accepted_above m number
 accepted_is m number from durable f d le since =
@@ -115,21 +123,3 @@ accepted_is m number from durable f d le since =
     let whole : (number - m.before) + ((m.durable - m.before) - (number - m.before)) ≡ m.durable - m.before = omega (arith, le) in
     ap (λ n. take n (drop (from - m.before) m.accepted)) long ∙ ap (λ n. take ((m.durable - m.before) - (number - m.before)) (drop n m.accepted)) skip
     ∙ sym (drop-take (number - m.before) ((m.durable - m.before) - (number - m.before)) m.accepted) ∙ ap (λ n. drop (number - m.before) (take n m.accepted)) whole
-
-pub handed_is : (m : Machine) (base : ℕ) (decoded opened : List Element) (mem gone number retained from durable first len skip : ℕ) (open_list acc_list : List Element) → m.before ≡ base + length decoded → m.before ≤ m.durable → base ≤ gone → gone ≤ m.durable → mem ≤ m.durable
-    → opened ≡ drop (gone - base) decoded → retained ≡ max m.before gone → number ≡ mem → from ≡ max number retained → durable ≡ m.durable → len ≡ length opened → first ≡ m.before - length opened → skip ≡ min (number - first) len → open_list ≡ opened → acc_list ≡ drop (from - m.before) m.accepted
-    → take (length open_list - skip) (drop skip open_list) ++ take (durable - from) acc_list ≡ opened_above base decoded (max mem gone) ++ accepted_above m (max mem gone)
-handed_is m base decoded opened mem gone number retained from durable first len skip open_list acc_list begun since low high up are hand n f d l fi sk o ac =
-    let skip_is : skip ≡ min (mem - first) (length opened) = omega (arith, n, l, sk) in
-    let from_is : from ≡ max (max mem gone) m.before = omega (arith, n, f, hand) in
-    ap (λ (x : List Element). x ++ take (durable - from) acc_list) (
-    ap (λ (x : List Element). take (length x - skip) (drop skip x)) o ∙ ap (λ x. take (length opened - x) (drop x opened)) skip_is ∙ opened_is (mem - first) opened
-    ∙ ap (drop (mem - first)) are ∙ drop-drop (mem - first) (gone - base) decoded ∙ at (le_or_le gone m.before))
-    ∙ ap (λ (x : List Element). opened_above base decoded (max mem gone) ++ x) (ap (take (durable - from)) ac ∙ accepted_is m (max mem gone) from durable from_is d (omega (arith, up, high)) since)
-  where
-    long : length opened ≡ length decoded - (gone - base)
-    long = ap length are ∙ length-drop (gone - base) decoded
-
-    at : (gone ≤ m.before) ⊎ (m.before ≤ gone) → drop ((gone - base) + (mem - first)) decoded ≡ drop (max mem gone - base) decoded
-    at (inl le) = let e : (gone - base) + (mem - first) ≡ max mem gone - base = omega (arith, long, fi, le, begun, low) in ap (λ x. drop x decoded) e
-    at (inr ge) = drop_of_length-le decoded (omega (arith, ge, begun)) ∙ sym (drop_of_length-le decoded (omega (arith, ge, begun)))

@@ -17,6 +17,7 @@ use Rattle.hive_flush.specs.HiveStates.{HiveIsRepaired, IsBroken}
 use Rattle.hive_flush.specs.declared.hive.HiveFile.{HiveFile}
 use Rattle.engine_invariant.specs.States.{IsConsistent}
 use Rattle.engine_invariant.specs.Prefixes.{ArePlaced, view_of}
+use Rattle.recovery.specs.Retained.{numbered_changes}
 use Rattle.engine.specs.RetainedChanges.{RetainsWhatHivesLack}
 use Rattle.engine.specs.LastChangePerHive.{AreLastNaming}
 use Rattle.engine.specs.declared.parts.Parts.{Parts}
@@ -37,7 +38,7 @@ pub record IsSound {D : Type 0} (parts : Parts D) : Type 0 where
   pub holds : AreSound parts.store parts.base (changes_of parts.decoded.value) parts.journal parts.hives.items
   pub last_changes : AreLastNaming parts.store.machine parts.base (changes_of parts.decoded.value) parts.last_changes.last.items
   pub named : length parts.last_changes.last.items ≡ length parts.hives.items
-  pub retained : RetainsWhatHivesLack parts.store parts.base (changes_of parts.decoded.value) parts.opened.items parts.hives.items
+  pub retained : RetainsWhatHivesLack parts.store parts.base (changes_of parts.decoded.value) (numbered_changes parts.opened) parts.hives.items
 
 -- The machine after a step of the journal or of a trim, after which the journal decodes to `now`, and before which it
 -- had used `used` bytes of room. Once the step is done, what the journal has is durable, and the room that it no longer

@@ -1,20 +1,26 @@
 -- Which changes an engine retains.
-use Rattle.std.specs.Prelude.{◌≡◌, ◌⊎◌, ℕ, ◌-◌, ◌≤◌, max, List, [], drop, slice_get, Some}
+use Rattle.std.specs.Prelude.{◌≡◌, ◌⊎◌, ℕ, ◌≤◌, max, List, [], get_or, slice_get, Some}
+use Rattle.std.specs.List.{filter}
 use Rattle.reg_tree.specs.declared.element.Element.{Element}
 use Rattle.crash_model.specs.Life.{ops_in}
 use Rattle.transactions.specs.Stores.{StoreView}
 use Rattle.hive_flush.specs.HiveStates.{memory_of}
 use Rattle.hive_flush.specs.declared.hive.HiveFile.{HiveFile}
 use Rattle.engine_invariant.specs.States.{life_of}
+use Rattle.commit_journal.specs.Numbered.{NumberedChange, numbered}
+use Rattle.recovery.specs.Retained.{above_number, is_lacked}
 
 -- Up to some number, which is not above the durable one, changes were discarded, since no hive's memory lacks any of
--- them. All others are retained, of those that the journal decoded to at the opening and of those accepted since.
-pub record RetainsWhatHivesLack (store : StoreView) (base : ℕ) (decoded opened : List Element) (hives : List HiveFile) : Type 0 where
+-- them. Above it these are retained: of the changes that the journal decoded to at the opening, those that some hive
+-- lacked then, by the hives' own numbers of then; and all that were accepted since. No hive's number in memory is below
+-- its own number of then.
+pub record RetainsWhatHivesLack (store : StoreView) (base : ℕ) (decoded : List Element) (opened : List NumberedChange) (hives : List HiveFile) : Type 0 where
   pub gone : ℕ
-  pub low : base ≤ gone
+  pub own : List ℕ
   pub high : gone ≤ store.machine.durable
-  pub opened_are : opened ≡ drop (gone - base) decoded
+  pub opened_are : opened ≡ above_number gone (filter (is_lacked own) (numbered base decoded))
   pub accepted_are : store.retained ≡ max store.machine.before gone
+  pub since : (i : ℕ) (hive : HiveFile) → slice_get hives i ≡ Some hive → get_or own i 0 ≤ (memory_of hive).1
   pub lacked : (i : ℕ) (hive : HiveFile) → slice_get hives i ≡ Some hive → ops_in (life_of store.machine base decoded) i (memory_of hive).1 gone ≡ []
 
 -- Each hive has in memory the last change that names it, or no number below this.

@@ -1,5 +1,5 @@
 //! The flush of one hive.
-ghost use Rattle.std.specs.Prelude.{◌≡◌, ◌↔◌, ◌-◌, ◌<◌, ◌≤◌, ℕ, drop, false, length, map, min, slice_get, None, Some, IfErr, Ok, OnOk};
+ghost use Rattle.std.specs.Prelude.{◌≡◌, ◌↔◌, ◌<◌, ◌≤◌, ℕ, false, length, map, slice_get, None, Some, IfErr, Ok, OnOk};
 ghost use Rattle.refusals.specs.declared.refusal.Refusal.TheVariants.{NoMemory};
 ghost use Rattle.disk_model.specs.FileState.{FileState};
 ghost use Rattle.hive_flush.specs.HiveStates.{file_choice, memory_of};
@@ -16,7 +16,6 @@ ghost use Rattle.engine.specs.Parts.{IsSound};
 ghost use Rattle.store_model.specs.declared.event.Event.TheVariants as Event;
 
 use crate::parts::Parts;
-use change_codec::EncodedChange;
 use disk_model::{Disk, Progress};
 use hive_flush::HiveFile;
 use refusals::Refusal;
@@ -88,14 +87,12 @@ impl<D: Disk> Parts<D> {
     {
         engine_invariant::laws::hive_steps_keep();
         let durable = self.store.durable();
-        let before = self.store.before();
         let retained = self.store.retained();
         let number = self.hives[place].number();
         let from = number.max(retained);
-        let first = before - self.opened.len() as u64;
-        let skipped = (number.saturating_sub(first) as usize).min(self.opened.len());
+        let opened = self.opened.above(number);
         let accepted = &self.store.above(from)[..(durable - from) as usize];
-        self.hives[place].absorb(self.alloc, &self.opened[skipped..], accepted, durable)
+        self.hives[place].absorb(self.alloc, opened, accepted, durable)
     }
 
     // one step of a hive's flush; after the last one the changes that no hive lacks any more are discarded
@@ -154,20 +151,8 @@ impl<D: Disk> Parts<D> {
         let durable = self.store.durable();
         let held = flushed_by_all(&self.hives, &self.last_changes.last, durable);
         self.store.discard_flushed(held);
-        let before = self.store.before();
-        keep_last(&mut self.opened, before.saturating_sub(held) as usize);
+        self.opened.discard_to(held);
     }
-}
-
-// keeps the last `most` changes, or all if there are no more
-fn keep_last(changes: &mut Vec<EncodedChange>, most: usize)
-    ensures { changes.new.items ≡ drop (length changes.old.items
-        - min (length changes.old.items) most) changes.old.items }
-{
-    let count = changes.len();
-    let left = count.min(most);
-    changes.rotate_left(count - left);
-    changes.truncate(left);
 }
 
 // the greatest number up to which, by the hives' numbers, no hive can lack a durable change

@@ -1,9 +1,9 @@
 //! The parts of an engine.
 ghost use Rattle.std.specs.Prelude.{◌≡◌};
 
-use change_codec::EncodedChange;
 use commit_journal::{Journal, LastChangePerHive};
 use hive_flush::HiveFile;
+use recovery::RetainedChanges;
 use std::alloc::Global;
 use std::snapshot::Snapshot;
 use transactions::Store;
@@ -26,8 +26,8 @@ pub(crate) struct Parts<D> {
     pub decoded: Snapshot<Journal>,
     /// The number before the first of these changes.
     pub base: u64,
-    /// Those of these changes that are retained: the last ones.
-    pub opened: Vec<EncodedChange>,
+    /// Those of these changes that are retained.
+    pub opened: RetainedChanges,
     /// For each hive the last durable change that names it.
     pub last_changes: LastChangePerHive,
 }

@@ -1,6 +1,8 @@
 pub mod Replays
 mod Together
-pub mod RetainedChanges
+mod Scanned
+mod ReplaySteps
+pub mod NumberedChanges
 mod Hives
 mod Openings
 mod Refused

@@ -1,33 +1,31 @@
 -- What an opening has read of a store's files, and what they recover.
-use Rattle.std.proofs.Common.{◌≡◌, inl, inr, ℕ, zero, suc, ◌-◌, List, [], ◌∷◌, length, take, drop, map, get_or, sym, ◌∙◌, ap, subst, arith, Some, slice_get}
+use Rattle.std.proofs.Common.{◌≡◌, ◌⊎◌, inl, inr, ℕ, List, length, sym, ◌∙◌, ap, subst, arith, Some, slice_get}
 use Rattle.std.specs.List.{AllByRecursion}
-use Rattle.std.proofs.lemmas.Option.{same_Some}
 use Rattle.refusals.specs.declared.refusal.Refusal.{Refusal}
 use Rattle.refusals.specs.declared.refusal.Refusal.TheVariants as refusal
-use Rattle.reg_tree.specs.Maps.{TreeMap}
 use Rattle.reg_tree.specs.declared.element.Element.{Element}
-use Rattle.crash_model.specs.Changes as law
-use Rattle.crash_model.specs.Changes.{ops_on}
-use Rattle.crash_model.specs.Promises.{Choice, Content, floor}
+use Rattle.crash_model.specs.Promises.{Content}
 use Rattle.disk_model.specs.FileState.{FileState}
 use Rattle.disk_model.specs.StoreFiles.{IsJournal, primary_file, log_file, journal_file}
 use Rattle.disk_model.specs.ReadOnly.{IsSyncedOrSame}
 use Rattle.disk_model.proofs.Unwritten.{seen_same}
-use Rattle.change_codec.specs.ModelChanges.{TimedOp, timed_elements}
+use Rattle.change_codec.specs.ModelChanges.{TimedOp}
 use Rattle.change_codec.specs.Encoding.{Fits}
 use Rattle.commit_journal.specs.Encoding.{decoded}
-use Rattle.commit_journal.specs.LastChangePerHive.{AreLastIn}
 use Rattle.commit_journal.specs.Store.{Store, IsStore, IsNoJournal, encodings}
 use Rattle.commit_journal.specs.Journals.{changes_of, choice_of, encodings_of}
 use Rattle.commit_journal.specs.ReadBuffers as journals
-use Rattle.commit_journal.specs.declared.opening_scan.OpenedJournal.{OpenedJournal}
+use Rattle.commit_journal.specs.declared.journal.Journal.{Journal}
+use Rattle.commit_journal.specs.Numbered.{NumberedChange}
+use Rattle.commit_journal.specs.Scans.{DeniesNext, ScanFails}
 use Rattle.hive_files.specs.Frames.{RefusalHasCause}
 use Rattle.hive_flush.specs.Decoders.{HiveFilesHold, RefusalNamesHive}
-use Rattle.hive_flush.specs.HiveStates.{FilesMatchHive, file_choice, memory_of}
+use Rattle.hive_flush.specs.HiveStates.{FilesMatchHive, memory_of}
 use Rattle.hive_flush.specs.declared.hive.HiveFile.{HiveFile}
 use Rattle.engine_invariant.specs.Prefixes.{AreOnDisk}
-use Rattle.recovery.specs.Invariant.{RetainsWhatHivesLack}
-use Rattle.recovery.specs.Reading.{AreAtRest, AreOf, AreOpened, IsNoHive, IsOpened, IsRead}
+use Rattle.recovery.specs.Replays.{NotReplayed, Replays}
+use Rattle.recovery.specs.declared.replay.Replay.{Replay}
+use Rattle.recovery.specs.Reading.{AreAtRest, AreOf, AreOpened, IsNoHive, IsOpened, IsScanned}
 use Rattle.recovery.specs.Recovered.{IsNoStore, IsFileRefusal, seen_in}
 use Rattle.recovery.specs.Refused.{HoldsNothing, IsWrong}
 
@@ -86,19 +84,13 @@ opened_still read faithful back store old mid new hives opened others i hive is 
           (subst (λ (l : FileState). FilesMatchHive hive (mid (primary_file i)) l) (sym (others (log_file i) (λ e. omega (arith, e)))) (o.on (back f)));
     }
 
--- a hive's own number, by its index
-own_number : (hives : List HiveFile) (i : ℕ) (hive : HiveFile) → slice_get hives i ≡ Some hive → get_or (map (λ (h : HiveFile). (file_choice h).now.1) hives) i 0 ≡ (file_choice hive).now.1
-own_number [] i hive is = absurd cc
-own_number (h ∷ hives) zero hive is = ap (λ (x : HiveFile). (file_choice x).now.1) (same_Some h hive is)
-own_number (h ∷ hives) (suc i) hive is = own_number hives i hive is
-
 -- What was read of a store: its journal, and its hives.
-module _ (faithful : Type 0) (store : Store) (then now : ℕ → FileState) (read : OpenedJournal) (hives : List HiveFile) (is : IsRead faithful store (map (λ (h : HiveFile). (file_choice h).now.1) hives) then now read) (many : length hives ≡ store.hives)
+module _ (faithful : Type 0) (store : Store) (then now : ℕ → FileState) (journal : Journal) (hives : List HiveFile) (is : IsScanned faithful store then now journal) (many : length hives ≡ store.hives)
     (opened : (i : ℕ) (hive : HiveFile) → slice_get hives i ≡ Some hive → IsOpened faithful store.id then now i hive) where
   abbrev changes : List Element
-  changes = changes_of read.journal
+  changes = changes_of journal
 
-  pub at_rest : AreAtRest read.journal read.base changes hives
+  pub at_rest : AreAtRest journal (choice_of journal).now.below changes hives
   at_rest = record {
     store = subst IsStore (sym is.of) is.store_is;
     choice = is.choice;
@@ -110,35 +102,46 @@ module _ (faithful : Type 0) (store : Store) (then now : ℕ → FileState) (rea
     owner = λ i h at. (opened i h at).owner ∙ ap (λ (s : Store). s.id) (sym is.of);
   }
 
-  pub retained : RetainsWhatHivesLack (floor read.below (choice_of read.journal).now) changes read.below read.elements.items hives
-  retained = record {
-    low = is.kept.low;
-    high = is.kept.high;
-    are = is.kept.are;
-    held = λ i h at.
-        let own = own_number hives i h at ∙ ap (λ (c : Choice (TreeMap × ℕ)). c.now.1) (opened i h at).rests in
-        subst (λ n. ops_on i (drop (n - floor read.below (choice_of read.journal).now) (take (read.below - floor read.below (choice_of read.journal).now) (timed_elements changes))) ≡ []) own (is.kept.held i);
-    first = is.kept.first;
-  }
-
-  pub all_named : length read.last_changes.last.items ≡ length hives
-  all_named = is.named ∙ sym many
-
-  pub last_named : AreLastIn (floor read.below (choice_of read.journal).now) (timed_elements changes) read.last_changes.last.items
-  last_named = subst (λ (es : List (law.Element TimedOp)). AreLastIn (floor read.below (choice_of read.journal).now) es read.last_changes.last.items) (ap (λ (c : Choice (Content TimedOp)). c.now.elements) is.choice) is.names
-
   -- it is of the files as they were seen
-  pub are_of : faithful → AreOf (seen_in then) read.journal hives
+  pub are_of : faithful → AreOf (seen_in then) journal hives
   are_of f = record {
     decodes = is.decodes f;
     holds = λ i h at. subst (λ (s : Store). HiveFilesHold s.id (then (primary_file i)).seen (then (log_file i)).seen (memory_of h)) (sym is.of) ((opened i h at).held f);
   }
 
-  pub are_on : faithful → AreOnDisk read.journal hives now
+  pub are_on : faithful → AreOnDisk journal hives now
   are_on f = record { decodes = is.on f; each = λ i h at. (opened i h at).on f }
 
 -- what the journal decodes to it decoded to before the hives were read
-pub decoded_before : (faithful : Type 0) (store : Store) (numbers : List ℕ) (old then now : ℕ → FileState) (read : OpenedJournal) → IsRead faithful store numbers then now read → (faithful → (f : ℕ) → IsSyncedOrSame (old f) (then f))
-    → faithful → decoded (encodings store) (old journal_file).seen ≡ Some (choice_of read.journal).now
-decoded_before faithful store numbers old then now read is synced f =
-    ap (λ (s : Store). decoded (encodings s) (old journal_file).seen) (sym is.of) ∙ ap (decoded (encodings_of read.journal)) (sym (seen_same (old journal_file) (then journal_file) (synced f journal_file))) ∙ is.decodes f
+pub decoded_before : (faithful : Type 0) (store : Store) (old then now : ℕ → FileState) (journal : Journal) → IsScanned faithful store then now journal → (faithful → (f : ℕ) → IsSyncedOrSame (old f) (then f))
+    → faithful → decoded (encodings store) (old journal_file).seen ≡ Some (choice_of journal).now
+decoded_before faithful store old then now journal is synced f =
+    ap (λ (s : Store). decoded (encodings s) (old journal_file).seen) (sym is.of) ∙ ap (decoded (encodings_of journal)) (sym (seen_same (old journal_file) (then journal_file) (synced f journal_file))) ∙ is.decodes f
+
+-- a refused scan whose sink refuses nothing, as one of the store
+pub refused_scan : (fault faithful : Type 0) (files : ℕ → List ℕ) (Took Begins : List NumberedChange → Type 0) (why : Refusal) → ScanFails Took (λ change refused. ⊥) Begins fault (faithful → IsNoJournal (files journal_file)) why → RefusalHasCause fault (IsNoStore faithful files) why
+refused_scan fault faithful files Took Begins why fails = by_reason fails.reason
+  where
+    by_reason : journals.FailsBy fault (faithful → IsNoJournal (files journal_file)) why ⊎ DeniesNext (λ change refused. ⊥) Begins fails.taken why → RefusalHasCause fault (IsNoStore faithful files) why
+    by_reason (inl own) = refused_journal fault faithful files why own
+    by_reason (inr denied) = absurd denied.denies
+
+-- a refused scan whose sink replays the changes
+pub refused_replay : (fault faithful : Type 0) (files : ℕ → List ℕ) (begin after : Replay) (Begins : List NumberedChange → Type 0) (why : Refusal)
+    → ((taken : List NumberedChange) → Replays begin after taken → DeniesNext (NotReplayed after) Begins taken why → (why ≡ refusal.NoMemory) ⊎ ((why ≡ refusal.JournalDamaged) × (faithful → IsWrong files refusal.JournalDamaged)))
+    → ScanFails (Replays begin after) (NotReplayed after) Begins fault (faithful → IsNoJournal (files journal_file)) why → RefusalHasCause fault (IsNoStore faithful files) why
+refused_replay fault faithful files begin after Begins why denied fails = by_reason fails.reason
+  where
+    by_denial : (why ≡ refusal.NoMemory) ⊎ ((why ≡ refusal.JournalDamaged) × (faithful → IsWrong files refusal.JournalDamaged)) → RefusalHasCause fault (IsNoStore faithful files) why
+    by_denial (inl hungry) = inl hungry
+    by_denial (inr (damaged, wrong)) = rw damaged (inr (inr (tt, wrong)))
+
+    by_reason : journals.FailsBy fault (faithful → IsNoJournal (files journal_file)) why ⊎ DeniesNext (NotReplayed after) Begins fails.taken why → RefusalHasCause fault (IsNoStore faithful files) why
+    by_reason (inl own) = refused_journal fault faithful files why own
+    by_reason (inr d) = by_denial (denied fails.taken fails.took d)
+
+-- a refusal for a device that failed in a longer time
+pub refused_up : (rose risen : Type 0) → (rose → risen) → (Stands : Refusal → Type 0) (why : Refusal) → RefusalHasCause rose Stands why → RefusalHasCause risen Stands why
+refused_up rose risen up Stands why (inl hungry) = inl hungry
+refused_up rose risen up Stands why (inr (inl (fault, r))) = inr (inl (fault, up r))
+refused_up rose risen up Stands why (inr (inr stands)) = inr (inr stands)

@@ -1,17 +1,16 @@
 -- A step of a hive's repair keeps the invariant of an opened store.
-use Rattle.std.proofs.Common.{◌≡◌, ◌⊎◌, inl, inr, ℕ, ◌+◌, ◌-◌, ◌<◌, List, [], length, take, drop, map, refl, sym, ◌∙◌, ap, subst, Some, slice_get, get_or, Result, Ok, Err}
+use Rattle.std.proofs.Common.{◌≡◌, ◌⊎◌, inl, inr, ℕ, ◌<◌, List, length, map, refl, sym, ◌∙◌, ap, subst, Some, slice_get, get_or, Result, Ok, Err}
 use Rattle.std.specs.Prelude.{slice_set, IfErr, OnOk}
 use Rattle.std.specs.Global.{Vec}
+use Rattle.std.specs.List.{filter}
 use Rattle.std.proofs.lemmas.Option.{slice_get_read}
 use Rattle.std.proofs.lemmas.List.{length-set}
 use Rattle.std.proofs.Math.Seq.{map-set_same}
 use Rattle.refusals.specs.declared.refusal.Refusal.{Refusal}
 use Rattle.refusals.specs.declared.refusal.Refusal.TheVariants as refusal
 use Rattle.reg_tree.specs.Maps.{TreeMap}
-use Rattle.crash_model.specs.Changes.{ops_on}
 use Rattle.crash_model.specs.Promises.{Choice}
-use Rattle.commit_journal.specs.Lacking.{Lacks}
-use Rattle.change_codec.specs.ModelChanges.{TimedOp, timed_elements}
+use Rattle.commit_journal.specs.Numbered.{numbered}
 use Rattle.disk_model.specs.declared.progress.Progress.{Progress}
 use Rattle.commit_journal.specs.Journals.{changes_of, choice_of, store_of}
 use Rattle.hive_flush.specs.HiveStates.{IsBroken, file_choice, memory_of, hive_number}
@@ -22,19 +21,13 @@ use Rattle.engine_invariant.specs.Openings.{OpeningRecovers}
 use Rattle.engine_invariant.specs.Prefixes.{ArePlaced, view_of}
 use Rattle.engine_invariant.proofs.HiveLists.{each_hive}
 use Rattle.recovery.specs.Invariant.{AllWork, InvariantHolds, own_numbers}
+use Rattle.recovery.specs.Retained.{is_lacked, numbered_changes}
 use Rattle.recovery.specs.declared.found.RecoveredStore.{RecoveredStore}
 
 pub views_on : (hives : List HiveFile) (k : ℕ) (old new : HiveFile) → old ≡ get_or hives k old → file_choice new ≡ file_choice old → memory_of new ≡ memory_of old → map view_of (slice_set hives k new) ≡ map view_of hives
 views_on hives k old new is files memory =
     let same : view_of new ≡ view_of old = λ i. record { files = files i; memory = memory i } in
     map-set_same view_of hives k new old (same ∙ ap view_of is)
-
--- the operations on a hive that it lacks with this number, of the discarded changes
-abbrev lacked : RecoveredStore → ℕ → ℕ → List TimedOp
-lacked found i number = ops_on i (drop (number - found.base) (take (found.below - found.base) (timed_elements (changes_of found.journal))))
-
-abbrev LacksNone : RecoveredStore → ℕ → HiveFile → Type 0
-LacksNone found i hive = lacked found i (memory_of hive).1 ≡ []
 
 pub kept_on : (found : RecoveredStore) (k : ℕ) (old new : HiveFile) (then : Vec HiveFile) → then.items ≡ slice_set found.hives.items k new → InvariantHolds found → k < length found.hives.items → old ≡ get_or found.hives.items k old
     → file_choice new ≡ file_choice old → memory_of new ≡ memory_of old → hive_number new ≡ hive_number old → states.store_of new ≡ states.store_of old → InvariantHolds (record found { hives = then })
@@ -49,15 +42,8 @@ kept_on found k old new then are kept lt value files memory place owner =
       });
       many = ap (λ (hs : List HiveFile). length hs) are ∙ length-set found.hives.items k new ∙ kept.many;
       works = kept.works;
-      opened = record {
-        low = kept.opened.low;
-        high = kept.opened.high;
-        are = kept.opened.are;
-        held = subst (λ (hs : List HiveFile). (j : ℕ) (h : HiveFile) → slice_get hs j ≡ Some h → LacksNone found j h) (sym are)
-            (each_hive found.hives.items k old new is (LacksNone found) (ap (λ (m : TreeMap × ℕ). lacked found k m.1) memory ∙ kept.opened.held k old is) (λ j h ne at. kept.opened.held j h at));
-        first = λ e es made. subst (λ (numbers : List ℕ). Lacks numbers (found.below + 1) e)
-            (sym (ap own_numbers are ∙ map-set_same (λ (h : HiveFile). (file_choice h).now.1) found.hives.items k new old (ap (λ (c : Choice (TreeMap × ℕ)). c.now.1) files ∙ ap (λ (h : HiveFile). (file_choice h).now.1) value))) (kept.opened.first e es made);
-      };
+      opened = subst (λ (numbers : List ℕ). numbered_changes found.opened ≡ filter (is_lacked numbers) (numbered found.base (changes_of found.journal)))
+          (sym (ap own_numbers are ∙ map-set_same (λ (h : HiveFile). (file_choice h).now.1) found.hives.items k new old (ap (λ (c : Choice (TreeMap × ℕ)). c.now.1) files ∙ ap (λ (h : HiveFile). (file_choice h).now.1) value))) kept.opened;
       named = kept.named ∙ sym (ap (λ (hs : List HiveFile). length hs) are ∙ length-set found.hives.items k new);
       names = kept.names;
     }

@@ -1,24 +1,15 @@
 -- Changes replayed on one tree, one after another, each legal or not.
-use Rattle.std.proofs.Common.{◌≡◌, ◌≢◌, inl, inr, ℕ, ◌-◌, Bool, true, false, List, [], ◌∷◌, ◌++◌, length, map, take, drop, refl, sym, ap, ◌∙◌, arith, Some, None, Ok, Err}
-use Rattle.std.specs.Prelude.{min}
-use Rattle.std.proofs.lemmas.Bool.{cases_lt}
-use Rattle.std.proofs.lemmas.List.{take_all, length-drop, drop-map}
-use Rattle.std.proofs.Math.ListN.{drop_of_length-le}
-use Rattle.crash_model.specs.Changes as law
-use Rattle.crash_model.specs.Promises.{Content}
-use Rattle.recovery.specs.Reading.{replayed_on}
+use Rattle.std.proofs.Common.{◌≡◌, ◌≢◌, ℕ, Bool, true, false, List, [], ◌∷◌, ◌++◌, map, refl, sym, ap, ◌∙◌, None, Ok, Err}
 use Rattle.std.specs.Prelude.{if◌then◌else◌}
 use Rattle.std.proofs.lemmas.Bool.{eq-eqb, ne_eqb}
-use Rattle.crash_model.specs.Changes.{Rules, on_hive, ops_on, replay}
-use Rattle.crash_model.proofs.Replays.{replay_on}
+use Rattle.crash_model.specs.Changes.{Rules, on_hive, replay}
 use Rattle.reg_tree.specs.Maps.{TreeMap}
 use Rattle.reg_tree.specs.Operations.{hive_of}
 use Rattle.reg_tree.specs.declared.op.Op.{Op}
-use Rattle.reg_tree.specs.declared.element.Element.{Element}
 use Rattle.reg_tree.specs.Judgement.{changed, legal_in}
 use Rattle.reg_tree.specs.declared.op.Legality.TheVariants.{Legal, Opened}
 use Rattle.refusals.specs.declared.refusal.Refusal.{Refusal}
-use Rattle.change_codec.specs.ModelChanges.{TimedOp, is_legal, tree_rules, timed, timed_element, timed_elements}
+use Rattle.change_codec.specs.ModelChanges.{TimedOp, is_legal, tree_rules, timed}
 
 -- a written operation is legal, and leads where the tree_rules say; one that opens a key, or is refused, isn't legal
 pub legal_is : (tree : TreeMap) (op : Op) (moment : ℕ) (made : TreeMap) → (legal_in tree op ≡ Ok Legal) × (made ≡ changed tree op moment) → (tree_rules.legal (moment, op) tree ≡ true) × (made ≡ tree_rules.apply (moment, op) tree)
@@ -52,32 +43,10 @@ module _ (hive moment : ℕ) (op : Op) (rest : List Op) (tree : TreeMap) where
   elsewhere other = ap (λ (b : Bool). replay tree_rules (if b then (moment, op) ∷ behind else behind) tree) (ne_eqb (hive_of op) hive other)
 
 -- a prefix that isn't legal
-nowhere_on : {T O : Type 0} (r : Rules T O) (xs ys : List O) (t : T) → replay r xs t ≡ None → replay r (xs ++ ys) t ≡ None
+pub nowhere_on : {T O : Type 0} (r : Rules T O) (xs ys : List O) (t : T) → replay r xs t ≡ None → replay r (xs ++ ys) t ≡ None
 nowhere_on r [] ys t e = absurd cc
 nowhere_on r (x ∷ xs) ys t e = by_test (r.legal x t) e (nowhere_on r xs ys (r.apply x t))
   where
     by_test : (b : Bool) → (if b then replay r xs (r.apply x t) else None) ≡ None → (replay r xs (r.apply x t) ≡ None → replay r (xs ++ ys) (r.apply x t) ≡ None) → (if b then replay r (xs ++ ys) (r.apply x t) else None) ≡ None
     by_test true e rest = rest e
     by_test false e rest = refl
-
--- a change that is legal, and one that isn't
-pub change_on : (hive : ℕ) (element : Element) (rest : List Element) (tree made : TreeMap) → replay tree_rules (on_hive hive (timed_element element)) tree ≡ Some made
-    → replay tree_rules (ops_on hive (timed_elements (element ∷ rest))) tree ≡ replay tree_rules (ops_on hive (timed_elements rest)) made
-change_on hive element rest tree made is = replay_on tree_rules (on_hive hive (timed_element element)) (ops_on hive (timed_elements rest)) tree made is
-
-pub change_nowhere : (hive : ℕ) (element : Element) (rest : List Element) (tree : TreeMap) → replay tree_rules (on_hive hive (timed_element element)) tree ≡ None
-    → replay tree_rules (ops_on hive (timed_elements (element ∷ rest))) tree ≡ None
-change_nowhere hive element rest tree none = nowhere_on tree_rules (on_hive hive (timed_element element)) (ops_on hive (timed_elements rest)) tree none
-
--- the changes above a number are those after as many as are below it, or after all
-pub lacked_is : {A : Type 0} (skipped most : ℕ) (xs : List A) → skipped ≡ min most (length xs) → take (length xs - skipped) (drop skipped xs) ≡ drop most xs
-lacked_is skipped most xs is = take_all (length xs - skipped) (drop skipped xs) (omega (arith, length-drop skipped xs)) ∙ elim (cases_lt most (length xs)) as (λ z. drop skipped xs ≡ drop most xs) [
-  | inl lt ↦ let e : skipped ≡ most = omega (arith, is, lt) in ap (λ k. drop k xs) e
-  | inr ge ↦ drop_of_length-le xs (omega (arith, is, ge)) ∙ sym (drop_of_length-le xs ge)
-]
-
-pub replayed_is : (journal : Content TimedOp) (place skipped : ℕ) (elements : List Element) (memory : TreeMap × ℕ) → journal.elements ≡ timed_elements elements → skipped ≡ min (memory.1 - journal.below) (length elements)
-    → replayed_on journal place memory ≡ replay tree_rules (ops_on place (timed_elements (take (length elements - skipped) (drop skipped elements)))) memory.0
-replayed_is journal place skipped elements memory are is =
-    ap (λ (es : List (law.Element TimedOp)). replay tree_rules (ops_on place es) memory.0)
-    (ap (drop (memory.1 - journal.below)) are ∙ drop-map timed_element (memory.1 - journal.below) elements ∙ ap timed_elements (sym (lacked_is skipped (memory.1 - journal.below) elements is)))

@@ -37,6 +37,7 @@ use Rattle.engine_invariant.proofs.HiveLists.{at_slot, each_pushed, view_at, vie
 use Rattle.engine_invariant.proofs.Bridge.{all_allowed}
 use Rattle.recovery.specs.Reading.{AreAtRest, AreOf, IsNumber, LeadTo, SomeLeadsNowhere, greatest, replayed_on}
 use Rattle.commit_journal.specs.LastChangePerHive.{AreLastIn}
+use Rattle.recovery.specs.Retained.{numbered_changes}
 use Rattle.recovery.specs.Invariant.{RetainsWhatHivesLack, InvariantHolds}
 use Rattle.recovery.specs.Recovered.{IsRecovered}
 use Rattle.recovery.specs.Refused.{IsAhead, IsInStore, LeadsNowhere}
@@ -238,7 +239,7 @@ settled_works journal now is = by_phase journal.phase (ap (λ (c : Choice (Conte
     by_phase (Broken ahead) none e = absurd cc
 
 pub kept_is : (found : RecoveredStore) (below : ℕ) → AreAtRest found.journal below (changes_of found.journal) found.hives.items → OpeningRecovers found.trees found.number found.base (changes_of found.journal) (choice_of found.journal) (map view_of found.hives.items)
-    → RetainsWhatHivesLack found.base (changes_of found.journal) found.below found.opened.items found.hives.items → length found.last_changes.last.items ≡ length found.hives.items → AreLastIn found.base (timed_elements (changes_of found.journal)) found.last_changes.last.items → InvariantHolds found
+    → RetainsWhatHivesLack found.base (changes_of found.journal) (numbered_changes found.opened) found.hives.items → length found.last_changes.last.items ≡ length found.hives.items → AreLastIn found.base (timed_elements (changes_of found.journal)) found.last_changes.last.items → InvariantHolds found
 kept_is found below rest recovers hand many last = record {
   opened = hand;
   named = many;

@@ -1,4 +1,7 @@
 pub mod Recovered
+pub mod Retained
+pub mod Replays
+pub mod ReplayLaws
 pub mod Reading
 pub mod Refused
 pub mod Invariant

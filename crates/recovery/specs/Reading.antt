@@ -1,12 +1,13 @@
 -- What is read of a store's files, before it is judged.
-use Rattle.std.specs.Prelude.{◌≡◌, ◌⊎◌, ℕ, ◌<◌, ◌≤◌, List, [], ◌∷◌, length, max, slice_get, Option, Some, None}
+use Rattle.std.specs.Prelude.{◌≡◌, ◌⊎◌, ℕ, ◌<◌, ◌≤◌, List, [], ◌∷◌, length, map, max, replicate, slice_get, Option, Some, None}
 use Rattle.std.specs.List.{AllByRecursion}
 use Rattle.refusals.specs.declared.refusal.Refusal.{Refusal}
 use Rattle.refusals.specs.declared.limits.TheConstants.{GREATEST_NUMBER}
 use Rattle.reg_tree.specs.Maps.{TreeMap}
+use Rattle.reg_tree.specs.Sequences.{AreTrees}
 use Rattle.reg_tree.specs.declared.element.Element.{Element}
 use Rattle.crash_model.specs.Changes.{ops_on, replay}
-use Rattle.crash_model.specs.Promises.{Content, floor, settled, top}
+use Rattle.crash_model.specs.Promises.{Content, settled, top}
 use Rattle.crash_model.specs.Recovery.{above}
 use Rattle.disk_model.specs.FileState.{FileState}
 use Rattle.disk_model.specs.StoreFiles.{primary_file, log_file, journal_file}
@@ -14,12 +15,14 @@ use Rattle.change_codec.specs.ModelChanges.{TimedOp, tree_rules, timed_elements}
 use Rattle.change_codec.specs.Encoding.{Fits}
 use Rattle.commit_journal.specs.Encoding.{decoded}
 use Rattle.commit_journal.specs.Store.{Store, IsStore, encodings}
-use Rattle.commit_journal.specs.Lacking.{AreRetained}
-use Rattle.commit_journal.specs.LastChangePerHive.{AreLastIn}
+use Rattle.commit_journal.specs.Numbered.{numbered}
 use Rattle.commit_journal.specs.OnDisk.{is_on}
 use Rattle.commit_journal.specs.Journals.{changes_of, choice_of, store_of, encodings_of, journal_view}
 use Rattle.commit_journal.specs.declared.journal.Journal.{Journal}
-use Rattle.commit_journal.specs.declared.opening_scan.OpenedJournal.{OpenedJournal}
+use Rattle.recovery.specs.Invariant.{own_numbers}
+use Rattle.recovery.specs.Retained.{numbered_changes}
+use Rattle.recovery.specs.Replays.{Replays}
+use Rattle.recovery.specs.declared.replay.Replay.{Replay}
 use Rattle.disk_model.specs.ReadOnly.{IsSyncedOrSame}
 use Rattle.hive_flush.specs.Decoders.{HiveFilesHold, RefusesHiveFiles}
 use Rattle.hive_flush.specs.HiveStates.{IsBroken, FilesMatchHive, file_choice, memory_of, hive_number}
@@ -93,17 +96,27 @@ SomeLeadsNowhere journal hives = (i : ℕ) × (hive : HiveFile) × (slice_get hi
 abbrev pub IsOnlyStore : List ℕ → Store → Type 0
 IsOnlyStore bytes store = (other : Store) (s : Content TimedOp) → IsStore other → decoded (encodings other) bytes ≡ Some s → other ≡ store
 
--- The journal of a store is opened, with nothing under way. It has what its file decoded to at one moment, and the file
--- is as it says at a later one. Its changes are kept from the first one on that some hive lacks, by the hives' own
--- numbers.
-pub record IsRead (faithful : Type 0) (store : Store) (numbers : List ℕ) (then now : ℕ → FileState) (read : OpenedJournal) : Type 0 where
+-- The journal of a store was scanned, with nothing under way. It has what its file decoded to at one moment, and the file
+-- is as it says at a later one.
+pub record IsScanned (faithful : Type 0) (store : Store) (then now : ℕ → FileState) (journal : Journal) : Type 0 where
   pub store_is : IsStore store
-  pub of : store_of read.journal ≡ store
-  pub choice : choice_of read.journal ≡ settled (record { below = read.base; elements = timed_elements (changes_of read.journal) })
-  pub kept : AreRetained numbers (floor read.below (choice_of read.journal).now) (changes_of read.journal) read.below read.elements.items
-  pub names : AreLastIn (floor read.below (choice_of read.journal).now) (choice_of read.journal).now.elements read.last_changes.last.items
-  pub named : length read.last_changes.last.items ≡ store.hives
-  pub fit : AllByRecursion (Fits store.hives) (changes_of read.journal)
-  pub numbers_fit : top 0 (choice_of read.journal).now ≤ GREATEST_NUMBER
-  pub decodes : faithful → decoded (encodings_of read.journal) (then journal_file).seen ≡ Some (choice_of read.journal).now
-  pub on : faithful → is_on (encodings_of read.journal) (journal_view read.journal) (now journal_file)
+  pub of : store_of journal ≡ store
+  pub choice : choice_of journal ≡ settled (record { below = (choice_of journal).now.below; elements = timed_elements (changes_of journal) })
+  pub fit : AllByRecursion (Fits store.hives) (changes_of journal)
+  pub numbers_fit : top 0 (choice_of journal).now ≤ GREATEST_NUMBER
+  pub decodes : faithful → decoded (encodings_of journal) (then journal_file).seen ≡ Some (choice_of journal).now
+  pub on : faithful → is_on (encodings_of journal) (journal_view journal) (now journal_file)
+
+-- A replay begins at the trees and the numbers that hives have in their files.
+pub record BeginsAt (hives : List HiveFile) (begin : Replay) : Type 0 where
+  pub numbers : begin.numbers.items ≡ own_numbers hives
+  pub trees : begin.trees.items ≡ map (λ (hive : HiveFile). (memory_of hive).0) hives
+  pub are : AreTrees begin.trees.items
+  pub retained : numbered_changes begin.retained ≡ []
+  pub names : begin.last_changes.last.items ≡ replicate (length hives) 0
+
+-- Hives and a journal were read: all changes of the journal were replayed on the hives' trees.
+pub record AreReplayed (journal : Journal) (hives : List HiveFile) (replay : Replay) : Type 0 where
+  pub begin : Replay
+  pub begins : BeginsAt hives begin
+  pub replays : Replays begin replay (numbered (choice_of journal).now.below (changes_of journal))

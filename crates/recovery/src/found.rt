@@ -1,6 +1,6 @@
 //! What an opening found of a store.
 
-use change_codec::EncodedChange;
+use crate::retained_changes::RetainedChanges;
 use commit_journal::{Journal, LastChangePerHive};
 use hive_flush::HiveFile;
 use reg_tree::Trees;
@@ -16,12 +16,10 @@ pub struct RecoveredStore {
     pub trees: Trees,
     /// The number that is recovered.
     pub number: u64,
-    /// The changes that the journal decodes to, from the first one on that some hive lacks.
-    pub opened: Vec<EncodedChange>,
+    /// Of the changes that the journal decodes to, those that some hive lacks.
+    pub opened: RetainedChanges,
     /// The number before the first of all these changes, or the recovered number if there is none.
     pub base: u64,
-    /// The number before the first of the kept changes, or the recovered number if none is kept.
-    pub below: u64,
     /// For each hive the last of all changes of the journal that names it.
     pub last_changes: LastChangePerHive,
 }

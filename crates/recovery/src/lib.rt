@@ -9,6 +9,7 @@
 #![tactic(auto)]
 
 mod creation;
+mod discard;
 mod found;
 pub mod laws;
 mod numbers;
@@ -16,9 +17,13 @@ mod opened;
 mod reader;
 mod recovery_result;
 mod repair_steps;
+mod replay;
 mod replay_changes;
+mod retained_changes;
 mod store_opening;
+mod store_read;
 
 pub use creation::create;
 pub use found::RecoveredStore;
 pub use opened::{Opened, open};
+pub use retained_changes::RetainedChanges;

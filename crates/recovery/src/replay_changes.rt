@@ -1,39 +1,20 @@
-//! A journal's changes, replayed on the tree of a hive's files, each if it is legal.
+//! A change replayed on the tree of a hive, if it is legal there.
 ghost use Rattle.std.specs.Prelude.{◌≡◌, ◌⊎◌, map, true, false, Some, None, IfOk, IfErr};
 ghost use Rattle.refusals.specs.Answers.{RefusedFor};
 ghost use Rattle.refusals.specs.declared.refusal.Refusal.TheVariants.{JournalDamaged, NoMemory};
-ghost use Rattle.crash_model.specs.Changes.{on_hive, ops_on, replay};
-ghost use Rattle.change_codec.specs.ModelChanges.{tree_rules, timed, timed_element, timed_elements};
+ghost use Rattle.crash_model.specs.Changes.{on_hive, replay};
+ghost use Rattle.change_codec.specs.ModelChanges.{tree_rules, timed, timed_element};
 
 use change_codec::EncodedChange;
 use refusals::Refusal;
 use reg_tree::{Op, Tree};
 use std::alloc::Global;
 
-/// The tree with the operations on a hive of some changes applied, one after another, each at its change's moment.
+/// The tree after the operations on a hive of a change, each at the change's moment. Of the change only these are read.
 ///
 /// Refused with `JournalDamaged` exactly if one isn't legal in its turn, also because it opens a key that is there; and
 /// with `NoMemory`.
-pub(crate) fn replayed(
-    alloc: Global,
-    tree: Tree,
-    hive: u8,
-    changes: &[EncodedChange],
-) -> Result<Tree, Refusal>
-    ensures made { IfOk result (λ made.
-        replay tree_rules (ops_on hive (timed_elements changes.now)) tree ≡ Some made) }
-    ensures fails { IfErr result (RefusedFor JournalDamaged
-        (replay tree_rules (ops_on hive (timed_elements changes.now)) tree ≡ None)) }
-{
-    let mut made = tree;
-    for change in changes {
-        made = after_change(alloc, made, hive, change)?;
-    }
-    Ok(made)
-}
-
-// the tree after the operations on a hive of a change, of which only these are read
-fn after_change(
+pub(crate) fn after_change(
     alloc: Global,
     tree: Tree,
     hive: u8,

@@ -1,31 +1,32 @@
 //! What the files of a store recover, as they are read.
-ghost use Rattle.std.specs.Prelude.{◌≡◌, ℕ, ◌<◌, ◌≤◌, List, Some, length, map, slice_get, false, IfOk, IfErr};
+ghost use Rattle.std.specs.Prelude.{◌≡◌, ℕ, ◌<◌, ◌≤◌, List, Some, length, slice_get, false, IfOk, IfErr};
 ghost use Rattle.disk_model.specs.Call.{Extends};
 ghost use Rattle.disk_model.specs.FileState.{FileState};
 ghost use Rattle.disk_model.specs.ReadOnly.{OnlySyncs};
 ghost use Rattle.disk_model.specs.StoreFiles.{IsJournal, journal_file};
-ghost use Rattle.commit_journal.specs.Journals.{choice_of, store_of};
+ghost use Rattle.commit_journal.specs.Journals.{changes_of, choice_of, store_of};
 ghost use Rattle.commit_journal.specs.Store.{IsStore, IsNoJournal};
-ghost use Rattle.commit_journal.specs.ReadBuffers as journals;
-ghost use Rattle.hive_flush.specs.HiveStates.{file_choice};
+ghost use Rattle.commit_journal.specs.Numbered.{numbered};
+ghost use Rattle.commit_journal.specs.Scans.{JournalBegins, ScanFails};
 ghost use Rattle.hive_flush.specs.Decoders.{RefusalNamesHive};
 ghost use Rattle.hive_flush.specs.declared.hive.HiveFile.{HiveFile};
 ghost use Rattle.engine_invariant.specs.Prefixes.{AreOnDisk, JournalDecodesTo};
 ghost use Rattle.hive_files.specs.Frames.{RefusalHasCause};
 ghost use Rattle.recovery.specs.Invariant.{AllWork, InvariantHolds};
-ghost use Rattle.recovery.specs.Reading.{IsOnlyStore, IsOpened, IsRead};
+ghost use Rattle.recovery.specs.Reading.{AreReplayed, IsOnlyStore, IsOpened, IsScanned};
 ghost use Rattle.recovery.specs.Recovered.{IsNoStore, IsRecovered, seen_in};
 ghost use Rattle.recovery.specs.Repairs.{most_repairs, repairs_left};
 
+use crate::discard::Discard;
 use crate::found::RecoveredStore;
-use crate::numbers::numbers_of;
 use crate::reader::open_hives;
 use crate::recovery_result::recovered;
-use commit_journal::{Journal, OpenedJournal, StoreHeader};
+use crate::replay::Replay;
+use crate::store_read::StoreRead;
+use commit_journal::{ElementSink, Journal, StoreHeader};
 use disk_model::Disk;
 use hive_flush::HiveFile;
 use refusals::Refusal;
-use refusals::limits::MOST_HIVES;
 use std::alloc::Global;
 
 /// What the files of a store recover.
@@ -57,30 +58,30 @@ pub(crate) fn find<D: Disk>(alloc: Global, disk: &mut D) -> Result<RecoveredStor
     ensures faithful { D.faithful disk.new → D.faithful disk.old }
 {
     let owner = Journal::owner(alloc, disk)?;
-    let (hives, read) = read_store(alloc, disk, &owner)?;
-    let found = recovered(alloc, read, hives)?;
+    let read = read_store(alloc, disk, &owner)?;
+    let found = recovered(read)?;
     Ok(found)
 }
 
-// The hives of a store and its journal, of whose changes those are kept that a hive lacks. So the hives are read first.
-// But if one of them has no tree, that is reported only if the journal is whole.
+// The hives of a store and its journal, whose changes are replayed on them. So the hives are read first. But if one of them
+// has no tree, that is reported only if the journal is whole.
 fn read_store<D: Disk>(
     alloc: Global,
     disk: &mut D,
     owner: &StoreHeader,
-) -> Result<(Vec<HiveFile>, OpenedJournal), Refusal>
+) -> Result<StoreRead, Refusal>
     requires store { IsStore (record { id = owner.now.id; hives = owner.now.hives }) }
     requires only { D.faithful disk.old →
         IsOnlyStore (D.state_at disk.old (D.clock disk.old) journal_file).seen
         (record { id = owner.now.id; hives = owner.now.hives }) }
-    ensures read { IfOk result (λ it. IsRead (D.faithful disk.new)
+    ensures scanned { IfOk result (λ it. IsScanned (D.faithful disk.new)
         (record { id = owner.now.id; hives = owner.now.hives })
-        (map (λ hive. (file_choice hive).now.1) it.0.items)
-        (D.state_at disk.old (D.clock disk.old)) (D.state_at disk.new (D.clock disk.new)) it.1) }
-    ensures many { IfOk result (λ it. length it.0.items ≡ owner.now.hives) }
-    ensures opened { IfOk result (λ it. (i : ℕ) (hive : HiveFile) → slice_get it.0.items i ≡ Some hive →
+        (D.state_at disk.old (D.clock disk.old)) (D.state_at disk.new (D.clock disk.new)) it.journal) }
+    ensures replayed { IfOk result (λ it. AreReplayed it.journal it.hives.items it.replay) }
+    ensures many { IfOk result (λ it. length it.hives.items ≡ owner.now.hives) }
+    ensures opened { IfOk result (λ it. (i : ℕ) (hive : HiveFile) → slice_get it.hives.items i ≡ Some hive →
         IsOpened (D.faithful disk.new) owner.now.id (D.state_at disk.old (D.clock disk.old)) (D.state_at disk.new (D.clock disk.new)) i hive) }
-    ensures few { IfOk result (λ it. D.faithful disk.new → repairs_left it.0.items
+    ensures few { IfOk result (λ it. D.faithful disk.new → repairs_left it.hives.items
         ≤ most_repairs (seen_in (D.state_at disk.old (D.clock disk.old))) owner.now.hives) }
     ensures fails { IfErr result (RefusalHasCause (D.failures disk.old < D.failures disk.new)
         (IsNoStore (D.faithful disk.new) (seen_in (D.state_at disk.old (D.clock disk.old))))) }
@@ -93,38 +94,47 @@ fn read_store<D: Disk>(
 {
     match open_hives(alloc, disk, owner.id, owner.hives) {
         Ok(hives) => {
-            let numbers = numbers_of(alloc, &hives)?;
-            let read = open_journal(alloc, disk, owner, numbers)?;
-            Ok((hives, read))
+            let mut replay = Replay::new(alloc, &hives, owner.hives)?;
+            match scan_store(alloc, disk, owner, &mut replay) {
+                Ok(journal) => Ok(StoreRead {
+                    journal,
+                    hives,
+                    replay,
+                }),
+                Err(why) => Err(why),
+            }
         }
         Err(why) => {
             if is_hive_refusal(why) {
-                // no change is kept
-                let none = vec![in alloc; u64::MAX; MOST_HIVES]?;
-                open_journal(alloc, disk, owner, none)?;
+                let journal = scan_store(alloc, disk, owner, &mut Discard)?;
+                discard(journal);
             }
             Err(why)
         }
     }
 }
 
-// the journal of the store that the header named before
-fn open_journal<D: Disk>(
+// hands the changes of the journal to a sink; it is the journal of the store that the header named before
+fn scan_store<D: Disk, S: ElementSink>(
     alloc: Global,
     disk: &mut D,
     owner: &StoreHeader,
-    numbers: Vec<u64>,
-) -> Result<OpenedJournal, Refusal>
+    sink: &mut S,
+) -> Result<Journal, Refusal>
     requires store { IsStore (record { id = owner.now.id; hives = owner.now.hives }) }
     requires only { D.faithful disk.old →
         IsOnlyStore (D.state_at disk.old (D.clock disk.old) journal_file).seen
         (record { id = owner.now.id; hives = owner.now.hives }) }
-    ensures read { IfOk result (IsRead (D.faithful disk.new)
-        (record { id = owner.now.id; hives = owner.now.hives }) numbers.items
+    ensures scanned { IfOk result (IsScanned (D.faithful disk.new)
+        (record { id = owner.now.id; hives = owner.now.hives })
         (D.state_at disk.old (D.clock disk.old)) (D.state_at disk.new (D.clock disk.new))) }
-    ensures fails { IfErr result (journals.FailsBy (D.failures disk.old < D.failures disk.new)
-        (D.faithful disk.new →
-        IsNoJournal (D.state_at disk.old (D.clock disk.old) journal_file).seen)) }
+    ensures took { IfOk result (λ journal. S.Took sink.old sink.new
+        (numbered (choice_of journal).now.below (changes_of journal))) }
+    ensures fails { IfErr result (ScanFails (S.Took sink.old sink.new) (S.Denies sink.new)
+        (λ changes. D.faithful disk.new →
+        JournalBegins (D.state_at disk.old (D.clock disk.old) journal_file).seen changes)
+        (D.failures disk.old < D.failures disk.new)
+        (D.faithful disk.new → IsNoJournal (D.state_at disk.old (D.clock disk.old) journal_file).seen)) }
     ensures synced { D.faithful disk.new → OnlySyncs (D.state_at disk.old) (D.state_at disk.new)
         (D.clock disk.old) (D.clock disk.new) }
     ensures others { (f : ℕ) → ¬ (IsJournal f) →
@@ -134,11 +144,14 @@ fn open_journal<D: Disk>(
     ensures failures { D.failures disk.old ≤ D.failures disk.new }
     ensures faithful { D.faithful disk.new → D.faithful disk.old }
 {
-    let read = Journal::open(alloc, disk, numbers)?;
-    if read.journal.id() != owner.id || read.journal.hives() != owner.hives {
+    let journal = match Journal::scan(alloc, disk, sink) {
+        Ok(journal) => journal,
+        Err(why) => return Err(why),
+    };
+    if journal.id() != owner.id || journal.hives() != owner.hives {
         return Err(Refusal::JournalDamaged);
     }
-    Ok(read)
+    Ok(journal)
 }
 
 // whether a refusal names a hive of a store
@@ -147,3 +160,6 @@ fn is_hive_refusal(why: Refusal) -> bool
 {
     matches!(why, Refusal::HiveDamaged { .. } | Refusal::Unsupported)
 }
+
+// drops a journal: the proofs of its callers see no more of that
+fn discard(_journal: Journal) {}

@@ -3,14 +3,14 @@ use Rattle.std.proofs.Common.{◌≡◌, ℕ, ◌+◌, ◌≤◌, List, ◌∷�
 use Rattle.std.specs.Io.KnownBytes.{Appends}
 use Rattle.std.proofs.lemmas.List.{drop_all}
 use Rattle.script_syntax.proofs.Written.{appends_more, appends_nothing}
-use Rattle.reg_tree.specs.declared.element.Element.{Element}
+use Rattle.commit_journal.specs.Numbered.{NumberedChange}
 use Rattle.hive_flush.specs.declared.hive.HiveFile.{HiveFile}
 use Rattle.store_check.specs.StoreTexts.{hive_line, hive_lines}
 
-pub hives_more : (below : ℕ) (changes : List Element) (hives : List HiveFile) (i : ℕ) (file : HiveFile) (before mid after : Option (List ℕ)) → drop i hives ≡ file ∷ drop (i + 1) hives
-    → Appends before mid (hive_line i below changes file) → Appends mid after (hive_lines (i + 1) below changes (drop (i + 1) hives)) → Appends before after (hive_lines i below changes (drop i hives))
-hives_more below changes hives i file before mid after here now later =
-    subst (λ files. Appends before after (hive_lines i below changes files)) (sym here) (appends_more before mid after (hive_line i below changes file) (hive_lines (i + 1) below changes (drop (i + 1) hives)) now later)
+pub hives_more : (changes : List NumberedChange) (hives : List HiveFile) (i : ℕ) (file : HiveFile) (before mid after : Option (List ℕ)) → drop i hives ≡ file ∷ drop (i + 1) hives
+    → Appends before mid (hive_line i changes file) → Appends mid after (hive_lines (i + 1) changes (drop (i + 1) hives)) → Appends before after (hive_lines i changes (drop i hives))
+hives_more changes hives i file before mid after here now later =
+    subst (λ files. Appends before after (hive_lines i changes files)) (sym here) (appends_more before mid after (hive_line i changes file) (hive_lines (i + 1) changes (drop (i + 1) hives)) now later)
 
-pub hives_none : (below : ℕ) (changes : List Element) (hives : List HiveFile) (i : ℕ) (known : Option (List ℕ)) → length hives ≤ i → Appends known known (hive_lines i below changes (drop i hives))
-hives_none below changes hives i known past = subst (λ files. Appends known known (hive_lines i below changes files)) (sym (drop_all i hives past)) (appends_nothing known)
+pub hives_none : (changes : List NumberedChange) (hives : List HiveFile) (i : ℕ) (known : Option (List ℕ)) → length hives ≤ i → Appends known known (hive_lines i changes (drop i hives))
+hives_none changes hives i known past = subst (λ files. Appends known known (hive_lines i changes files)) (sym (drop_all i hives past)) (appends_nothing known)

@@ -1,29 +1,20 @@
 -- The text of what is found of a store.
-use Rattle.std.specs.Prelude.{ℕ, ◌+◌, ◌-◌, ◌==◌, Bool, if◌then◌else◌, List, [], ◌∷◌, ◌++◌, length, drop, filter, codes}
-use Rattle.std.specs.List.{list_any}
+use Rattle.std.specs.Prelude.{ℕ, ◌+◌, ◌==◌, if◌then◌else◌, List, [], ◌∷◌, ◌++◌, length, codes}
 use Rattle.std.specs.Fmt.{decimal}
 use Rattle.uuid.specs.Text.{hyphenated_text, lower}
 use Rattle.refusals.specs.Refusals.{refusal_text}
 use Rattle.refusals.specs.declared.refusal.Refusal.{Refusal}
 use Rattle.refusals.specs.declared.limits.TheConstants.{MOST_JOURNAL_BYTES}
-use Rattle.reg_tree.specs.declared.element.Element.{Element}
-use Rattle.change_codec.specs.Changes.{hives_of}
+use Rattle.commit_journal.specs.Numbered.{NumberedChange}
 use Rattle.commit_journal.specs.Store.{room_of}
 use Rattle.commit_journal.specs.Journals.{choice_of, store_of}
 use Rattle.hive_flush.specs.HiveStates.{dirty_pages, file_choice}
 use Rattle.hive_flush.specs.declared.hive.HiveFile.{HiveFile}
+use Rattle.recovery.specs.Retained.{count_lacked, numbered_changes}
 use Rattle.recovery.specs.declared.found.RecoveredStore.{RecoveredStore}
 use Rattle.store_check.specs.Advice.{advice}
 
 -- ---- hives
-
--- whether a change has an operation on a hive
-abbrev pub is_on : ℕ → Element → Bool
-is_on hive change = list_any (λ one. one == hive) (hives_of change)
-
--- how many of some changes, the first of which has the number `below` + 1, are on a hive and above a number
-abbrev pub lacking : ℕ → ℕ → List Element → ℕ → ℕ
-lacking hive below changes applied = length (filter (is_on hive) (drop (applied - below) changes))
 
 -- what a hive's files lack
 abbrev pub lacks_text : ℕ → List ℕ
@@ -41,15 +32,15 @@ abbrev pub state_line : ℕ → ℕ → ℕ → ℕ → List ℕ
 state_line hive applied pages count = applied_text hive applied ++ (repair_text pages ++ lacks_text count)
 
 -- the line of a hive: its number, that of the last change that is surely in its files, and what they lack
-abbrev pub hive_line : ℕ → ℕ → List Element → HiveFile → List ℕ
-hive_line hive below changes file =
+abbrev pub hive_line : ℕ → List NumberedChange → HiveFile → List ℕ
+hive_line hive changes file =
     let applied = (file_choice file).now.1 in
-    state_line hive applied (dirty_pages file) (lacking hive below changes applied)
+    state_line hive applied (dirty_pages file) (count_lacked hive applied changes)
 
 -- the lines of hives, the first of which has this number
-abbrev pub hive_lines : ℕ → ℕ → List Element → List HiveFile → List ℕ
-hive_lines hive below changes [] = []
-hive_lines hive below changes (file ∷ files) = hive_line hive below changes file ++ hive_lines (hive + 1) below changes files
+abbrev pub hive_lines : ℕ → List NumberedChange → List HiveFile → List ℕ
+hive_lines hive changes [] = []
+hive_lines hive changes (file ∷ files) = hive_line hive changes file ++ hive_lines (hive + 1) changes files
 
 -- ---- a store
 
@@ -71,7 +62,7 @@ head_lines found =
 
 -- all lines of what was found
 abbrev pub store_text : RecoveredStore → List ℕ
-store_text found = head_lines found ++ (hive_lines 0 found.below found.opened.items found.hives.items ++ codes "whole\n")
+store_text found = head_lines found ++ (hive_lines 0 (numbered_changes found.opened) found.hives.items ++ codes "whole\n")
 
 -- the lines of a refusal: why, and what to do
 abbrev pub refusal_lines : Refusal → List ℕ

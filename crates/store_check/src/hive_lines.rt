@@ -1,25 +1,25 @@
 //! The lines of a store's hives.
-ghost use Rattle.std.specs.Prelude.{◌≡◌, ◌<◌, length, OnOk, filter};
+ghost use Rattle.std.specs.Prelude.{◌<◌, length, OnOk};
 ghost use Rattle.std.specs.Io.KnownBytes.{Appends};
-ghost use Rattle.store_check.specs.StoreTexts.{hive_line, hive_lines, is_on, lacking, lacks_text, repair_text, applied_text, state_line};
+ghost use Rattle.recovery.specs.Retained.{numbered_changes};
+ghost use Rattle.store_check.specs.StoreTexts.{hive_line, hive_lines, lacks_text, repair_text, applied_text, state_line};
 
-use change_codec::EncodedChange;
 use hive_flush::HiveFile;
+use recovery::RetainedChanges;
 use std::io::{self, Write};
 
-/// Writes the lines of hives, which have changes behind them: the first has the number `below + 1`.
+/// Writes the lines of hives, which may lack some of the changes.
 pub fn write_hives<W: Write>(
     writer: &mut W,
-    below: u64,
-    changes: &[EncodedChange],
+    changes: &RetainedChanges,
     hives: &[HiveFile],
 ) -> io::Result<()>
     requires few { length hives.now < 256 }
     ensures { OnOk result (Appends (W.contents writer.old) (W.contents writer.new)
-        (hive_lines 0 below changes.now hives.now)) }
+        (hive_lines 0 (numbered_changes changes.now) hives.now)) }
 {
     for hive in 0..hives.len() {
-        write_hive(writer, below, changes, hive as u8, &hives[hive])?;
+        write_hive(writer, changes, hive as u8, &hives[hive])?;
     }
     Ok(())
 }
@@ -27,16 +27,15 @@ pub fn write_hives<W: Write>(
 // the line of a hive
 fn write_hive<W: Write>(
     writer: &mut W,
-    below: u64,
-    changes: &[EncodedChange],
+    changes: &RetainedChanges,
     hive: u8,
     file: &HiveFile,
 ) -> io::Result<()>
     ensures { OnOk result (Appends (W.contents writer.old) (W.contents writer.new)
-        (hive_line hive below changes.now file.now)) }
+        (hive_line hive (numbered_changes changes.now) file.now)) }
 {
     let applied = file.applied();
-    let count = count_lacking(below, changes, hive, applied);
+    let count = changes.count_lacked(hive, applied);
     write_line(writer, hive, applied, file.dirty_pages(), count)
 }
 
@@ -88,21 +87,4 @@ fn write_lacks<W: Write>(writer: &mut W, count: usize) -> io::Result<()>
             ", lacks {count} changes; the next run moves them in"
         )
     }
-}
-
-// how many of the changes are on a hive and above a number
-fn count_lacking(below: u64, changes: &[EncodedChange], hive: u8, applied: u64) -> usize
-    ensures { result ≡ lacking hive below changes.now applied }
-{
-    let Some(rest) = changes.get(applied.saturating_sub(below) as usize..) else {
-        return 0;
-    };
-    count_on(rest, hive)
-}
-
-// how many changes are on a hive
-fn count_on(changes: &[EncodedChange], hive: u8) -> usize
-    ensures { result ≡ length (filter (is_on hive) changes.now) }
-{
-    changes.iter().filter(|change| change.is_on(hive)).count()
 }

@@ -18,7 +18,7 @@ pub fn write_store<W: Write>(writer: &mut W, found: &RecoveredStore) -> io::Resu
         (store_text found.now)) }
 {
     write_head(writer, found)?;
-    write_hives(writer, found.below, &found.opened, &found.hives)?;
+    write_hives(writer, &found.opened, &found.hives)?;
     writer.write_all(b"whole\n")
 }
 

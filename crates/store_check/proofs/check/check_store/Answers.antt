@@ -1,4 +1,4 @@
-use Rattle.std.proofs.Common.{inl, sym, subst}
+use Rattle.std.proofs.Common.{inl, inr, sym, subst}
 use Rattle.disk_model.specs.StoreFiles.{journal_file}
 use Rattle.commit_journal.specs.Journals.{choice_of, store_of}
 use Rattle.engine_invariant.specs.Prefixes.{JournalDecodesTo}
@@ -25,3 +25,6 @@ returns-in-Ok-clause-reports g c =
       printed.0,
       printed.1,
     )) c.print_found-status.ensures
+
+pub returns-in-Err-clause-reports : goal.returns-in-Err-clause-reports
+returns-in-Err-clause-reports g c = if_ok c.print_refused.result (λ status printed. inr (c.in-Err.refusal, c.in-Err.ensures.fails, printed.0, printed.1)) c.print_refused.ensures

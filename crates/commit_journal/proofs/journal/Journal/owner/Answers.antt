@@ -12,7 +12,7 @@ returns-in-Err-clause-fails g c =
     let w = c.in_ok-buffer.buffer in
     let same : journal_bytes_at (g.D.Disk.state_at c.len.new.disk) (g.D.Disk.clock c.len.new.disk) ≡ file = ap (λ (s : FileState). s.seen) (no_change c.in_ok-end.ensures.no_change 0) in
     fails_on _ _ _ _ c.in-Err.why (λ f. omega (arith, f, c.in_ok-end.ensures.failures)) (λ short faithful.
-    let end : w.end ≡ length file = c.in_ok-buffer.ensures.end ∙ c.in_ok-end.ensures.len (c.in-Err.ensures.faithful faithful) in
+    let end : w.end_of_file ≡ length file = c.in_ok-buffer.ensures.end ∙ c.in_ok-end.ensures.len (c.in-Err.ensures.faithful faithful) in
     let few : length (rest_of file w) < 64 = subst (λ (l : List ℕ). length (rest_of l w) < 64) same (short faithful (end ∙ ap (λ (l : List ℕ). length l) (sym same))) in
     none_short file (omega (arith, few, ap (λ (l : List ℕ). length l) (c.in_ok-buffer.ensures.rest file)))) c.in-Err.ensures.fails
 
@@ -22,7 +22,7 @@ returns-clause-fails g c =
     let w = c.fill.new.self in
     let same : journal_bytes_at (g.D.Disk.state_at c.len.new.disk) (g.D.Disk.clock c.len.new.disk) ≡ file = ap (λ (s : FileState). s.seen) (no_change c.in_ok-end.ensures.no_change 0) in
     fails_of _ _ _ c.in-Err-decode.why (λ none faithful.
-    let end : c.in_ok-buffer.buffer.end ≡ length file = c.in_ok-buffer.ensures.end ∙ c.in_ok-end.ensures.len (c.in-Ok.ensures.faithful faithful) in
+    let end : c.in_ok-buffer.buffer.end_of_file ≡ length file = c.in_ok-buffer.ensures.end ∙ c.in_ok-end.ensures.len (c.in-Ok.ensures.faithful faithful) in
     let rest : rest_of file w ≡ file
     = subst (λ (l : List ℕ). rest_of l w ≡ rest_of l c.in_ok-buffer.buffer) same (c.in-Ok.ensures.rest faithful (end ∙ ap (λ (l : List ℕ). length l) (sym same))) ∙ c.in_ok-buffer.ensures.rest file in
     none_without file (λ store is begin_batch. none store is (ap (take 64) c.bytes.ensures ∙ front_there file w rest c.in-Ok.ensures.there ∙ begin_batch))) c.in-Err-decode.ensures
@@ -32,7 +32,7 @@ returns-in-Ok-decode-clause-header g c = λ faithful.
     let file = journal_bytes_at (g.D.Disk.state_at c.args.disk.now) (g.D.Disk.clock c.args.disk.now) in
     let w = c.fill.new.self in
     let same : journal_bytes_at (g.D.Disk.state_at c.len.new.disk) (g.D.Disk.clock c.len.new.disk) ≡ file = ap (λ (s : FileState). s.seen) (no_change c.in_ok-end.ensures.no_change 0) in
-    let end : c.in_ok-buffer.buffer.end ≡ length file = c.in_ok-buffer.ensures.end ∙ c.in_ok-end.ensures.len (c.in-Ok.ensures.faithful faithful) in
+    let end : c.in_ok-buffer.buffer.end_of_file ≡ length file = c.in_ok-buffer.ensures.end ∙ c.in_ok-end.ensures.len (c.in-Ok.ensures.faithful faithful) in
     let rest : rest_of file w ≡ file
     = subst (λ (l : List ℕ). rest_of l w ≡ rest_of l c.in_ok-buffer.buffer) same (c.in-Ok.ensures.rest faithful (end ∙ ap (λ (l : List ℕ). length l) (sym same))) ∙ c.in_ok-buffer.ensures.rest file in
     sym (front_there file w rest c.in-Ok.ensures.there) ∙ ap (take 64) (sym c.bytes.ensures) ∙ c.in-Ok-decode.ensures.1
@@ -42,7 +42,7 @@ returns-in-Ok-decode-clause-only g c = λ faithful store s is decodes.
     let file = journal_bytes_at (g.D.Disk.state_at c.args.disk.now) (g.D.Disk.clock c.args.disk.now) in
     let w = c.fill.new.self in
     let same : journal_bytes_at (g.D.Disk.state_at c.len.new.disk) (g.D.Disk.clock c.len.new.disk) ≡ file = ap (λ (s : FileState). s.seen) (no_change c.in_ok-end.ensures.no_change 0) in
-    let end : c.in_ok-buffer.buffer.end ≡ length file = c.in_ok-buffer.ensures.end ∙ c.in_ok-end.ensures.len (c.in-Ok.ensures.faithful faithful) in
+    let end : c.in_ok-buffer.buffer.end_of_file ≡ length file = c.in_ok-buffer.ensures.end ∙ c.in_ok-end.ensures.len (c.in-Ok.ensures.faithful faithful) in
     let rest : rest_of file w ≡ file
     = subst (λ (l : List ℕ). rest_of l w ≡ rest_of l c.in_ok-buffer.buffer) same (c.in-Ok.ensures.rest faithful (end ∙ ap (λ (l : List ℕ). length l) (sym same))) ∙ c.in_ok-buffer.ensures.rest file in
     only_one file store _ s is c.in-Ok-decode.ensures.0 decodes (sym (front_there file w rest c.in-Ok.ensures.there) ∙ ap (take 64) (sym c.bytes.ensures) ∙ c.in-Ok-decode.ensures.1)

@@ -27,7 +27,7 @@ with_body-requires c =
     let r = c.args.self.now in
     let es = (read_by r) in
     let partial_body = c.args.partial_body in
-    let same : logged_changes c.ghost_log.result ≡ es = c.ghost_log.ensures in
+    let same : logged_changes c.same.result ≡ es = c.same.ensures.changes in
     let body = ap (λ (l : List Element). drop partial_body.start l) same in
     let long = ap (λ (l : List Element). length l) body in
     record {
@@ -48,12 +48,12 @@ returns-clause-keeps c =
     let partial_body = c.args.partial_body in
     let body = drop partial_body.start es in
     let decodes : content_of c.with_body.result ≡ with_elements (content_of r.on_device) (partial_body.first - 1) (timed_elements body)
-    = c.with_body.ensures.decodes ∙ ap (λ (l : List Element). with_elements (content_of r.on_device) (partial_body.first - 1) (timed_elements (drop partial_body.start l))) c.ghost_log.ensures in
+    = c.with_body.ensures.decodes ∙ ap (λ (l : List Element). with_elements (content_of r.on_device) (partial_body.first - 1) (timed_elements (drop partial_body.start l))) c.same.ensures.changes in
     let count : length (timed_elements body) ≡ length body = length-map body timed_element in
     let last : top 0 (content_of c.with_body.result) ≡ partial_body.first - 1 + length (timed_elements body)
     = ap (top 0) decodes ∙ last_is (content_of r.on_device) (partial_body.first - 1) (timed_elements body) (omega (arith, count, c.requires.partial_body.some, c.requires.none)) c.requires.partial_body.ends in
     record {
-      are = c.with_body.ensures.ghost_log ∙ c.ghost_log.ensures;
+      are = c.with_body.ensures.ghost_log ∙ c.same.ensures.changes;
       ghost_log = ap (λ (s : Content TimedOp). s.elements) decodes ∙ ap (λ (l : List (law.Element TimedOp)). l ++ timed_elements body) c.requires.elements.ghost_log
           ∙ sym (map-append timed_element (take partial_body.start es) body) ∙ ap timed_elements (take-append-drop partial_body.start es);
       fit = c.requires.elements.fit;
@@ -67,7 +67,7 @@ returns-clause-tied c =
     let partial_body = c.args.partial_body in
     let body = drop partial_body.start es in
     let decodes : content_of c.with_body.result ≡ with_elements (content_of r.on_device) (partial_body.first - 1) (timed_elements body)
-    = c.with_body.ensures.decodes ∙ ap (λ (l : List Element). with_elements (content_of r.on_device) (partial_body.first - 1) (timed_elements (drop partial_body.start l))) c.ghost_log.ensures in
+    = c.with_body.ensures.decodes ∙ ap (λ (l : List Element). with_elements (content_of r.on_device) (partial_body.first - 1) (timed_elements (drop partial_body.start l))) c.same.ensures.changes in
     let count : length (timed_elements body) ≡ length body = length-map body timed_element in
     let last : top 0 (content_of c.with_body.result) ≡ partial_body.first - 1 + length (timed_elements body)
     = ap (top 0) decodes ∙ last_is (content_of r.on_device) (partial_body.first - 1) (timed_elements body) (omega (arith, count, c.requires.partial_body.some, c.requires.none)) c.requires.partial_body.ends in
@@ -79,7 +79,7 @@ returns-clause-reads c = λ id file rest here.
     let es = (read_by r) in
     let partial_body = c.args.partial_body in
     let decodes : content_of c.with_body.result ≡ with_elements (content_of r.on_device) (partial_body.first - 1) (timed_elements (drop partial_body.start es))
-    = c.with_body.ensures.decodes ∙ ap (λ (l : List Element). with_elements (content_of r.on_device) (partial_body.first - 1) (timed_elements (drop partial_body.start l))) c.ghost_log.ensures in
+    = c.with_body.ensures.decodes ∙ ap (λ (l : List Element). with_elements (content_of r.on_device) (partial_body.first - 1) (timed_elements (drop partial_body.start l))) c.same.ensures.changes in
     let empty : partial_body.left ≡ 0 = omega (arith, c.if-partial_body-gt0.false) in
     end_on id r.hives r.few file r.on_device es partial_body rest here c.requires.none empty c.requires.partial_body c.with_body.result decodes c.with_body.ensures.gate
 

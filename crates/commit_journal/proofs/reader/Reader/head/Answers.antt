@@ -4,8 +4,7 @@ use Rattle.byteorder.specs.Endian.{little_number}
 use Rattle.commit_journal.specs.Reading.{read_by}
 use Rattle.std.proofs.lemmas.List.{length-map}
 use Rattle.change_codec.specs.ModelChanges.{timed_element}
-use Rattle.commit_journal.specs.GhostLog.{logged_changes}
-use Rattle.commit_journal.proofs.Keepings.{follows_on, head_keeps, head_part}
+use Rattle.commit_journal.proofs.Keepings.{follows_on, head_keeps, head_part, same_numbers}
 use Rattle.commit_journal.proofs.Transitions.{head_on, head_none, ok_on, refused_on}
 use Rattle.commit_journal.proofs.reader.Reader.head.Goals as goal
 use Rattle.commit_journal.proofs.reader.Reader.head.Goals.{then-size-lt-HEAD_BYTES-via-then-size-lt-HEAD_BYTES, then-size-lt-HEAD_BYTES-via-else-size-lt-HEAD_BYTES+then-size-gt-MOST_BODY_BYTES, then-size-lt-HEAD_BYTES-via-else-size-lt-HEAD_BYTES+else-size-gt-MOST_BODY_BYTES+then-size-left}
@@ -44,8 +43,8 @@ returns-clause-reads c = ok_on c.partial_body.result _ _ (λ on id file behind l
     let bytes = c.args.bytes.now in
     let first = c.read_u64-first.ensures ∙ ap (little_number 8) (take_all (length bytes - 4) (drop 4 bytes) (omega (arith, length-drop 4 bytes))) in
     let count = c.from-count.ensures ∙ c.read_u32-2.ensures ∙ ap (little_number 4) (take_all (length bytes - 12) (drop 12 bytes) (omega (arith, length-drop 12 bytes))) in
-    on id file _ (head_on id r.hives r.few file r.on_device (logged_changes c.continue_at.new.self.read) bytes behind c.from-size.result c.read_u64-first.result c.from-count.result c.args.left c.requires.there (c.from-size.ensures ∙ c.read_u32.ensures) first count left here
-    c.count-start.result (omega (arith, c.count-start.ensures, ap length c.requires.keeps.ghost_log, length-map (read_by r) timed_element, ap length c.continue_at.ensures.read)) (omega (arith, c.if-size-lt-HEAD_BYTES.false)) (omega (arith, c.if-size-gt-MOST_BODY_BYTES.false)) (omega (arith, c.if-size-left.false)))) c.partial_body.ensures.reads
+    on id file _ (head_on id r.hives r.few file r.on_device (read_by r) bytes behind c.from-size.result c.read_u64-first.result c.from-count.result c.args.left c.requires.there (c.from-size.ensures ∙ c.read_u32.ensures) first count left here
+    c.count-start.result (omega (arith, c.count-start.ensures, ap length c.requires.keeps.ghost_log, length-map (read_by r) timed_element)) (omega (arith, c.if-size-lt-HEAD_BYTES.false)) (omega (arith, c.if-size-gt-MOST_BODY_BYTES.false)) (omega (arith, c.if-size-left.false)))) c.partial_body.ensures.reads
 
 pub returns-clause-refused : goal.returns-clause-refused
 returns-clause-refused c = refused_on c.partial_body.result _ _ _ (λ none id file behind left here.
@@ -53,24 +52,22 @@ returns-clause-refused c = refused_on c.partial_body.result _ _ _ (λ none id fi
     let bytes = c.args.bytes.now in
     let first = c.read_u64-first.ensures ∙ ap (little_number 8) (take_all (length bytes - 4) (drop 4 bytes) (omega (arith, length-drop 4 bytes))) in
     let count = c.from-count.ensures ∙ c.read_u32-2.ensures ∙ ap (little_number 4) (take_all (length bytes - 12) (drop 12 bytes) (omega (arith, length-drop 12 bytes))) in
-    none id file _ (head_on id r.hives r.few file r.on_device (logged_changes c.continue_at.new.self.read) bytes behind c.from-size.result c.read_u64-first.result c.from-count.result c.args.left c.requires.there (c.from-size.ensures ∙ c.read_u32.ensures) first count left here
-    c.count-start.result (omega (arith, c.count-start.ensures, ap length c.requires.keeps.ghost_log, length-map (read_by r) timed_element, ap length c.continue_at.ensures.read)) (omega (arith, c.if-size-lt-HEAD_BYTES.false)) (omega (arith, c.if-size-gt-MOST_BODY_BYTES.false)) (omega (arith, c.if-size-left.false)))) c.partial_body.ensures.refused
-
-pub continue_at-requires : goal.continue_at-requires
-continue_at-requires c =
-    let r = c.args.self.now in
-    let goes = c.if-not-may_follow.ensures.0 refl in
-    record { kept = c.requires.kept; number = goes.one; follows = follows_on r.on_device (read_by r) r.retention.last c.read_u64-first.result c.requires.keeps.ghost_log c.requires.tied goes.one goes.ends }
+    none id file _ (head_on id r.hives r.few file r.on_device (read_by r) bytes behind c.from-size.result c.read_u64-first.result c.from-count.result c.args.left c.requires.there (c.from-size.ensures ∙ c.read_u32.ensures) first count left here
+    c.count-start.result (omega (arith, c.count-start.ensures, ap length c.requires.keeps.ghost_log, length-map (read_by r) timed_element)) (omega (arith, c.if-size-lt-HEAD_BYTES.false)) (omega (arith, c.if-size-gt-MOST_BODY_BYTES.false)) (omega (arith, c.if-size-left.false)))) c.partial_body.ensures.refused
 
 pub partial_body-requires : goal.partial_body-requires
 partial_body-requires c =
     let r = c.args.self.now in
     let goes = c.if-not-may_follow.ensures.0 refl in
     let start : c.count-start.result ≡ length (read_by r) = omega (arith, c.count-start.ensures, ap length c.requires.keeps.ghost_log, length-map (read_by r) timed_element) in
-    let again : c.count-start.result ≡ length (logged_changes c.continue_at.new.self.read) = omega (arith, c.count-start.ensures, ap length c.requires.keeps.ghost_log, length-map (read_by r) timed_element, ap length c.continue_at.ensures.read) in
     record {
-      elements = head_keeps r.hives r.on_device (read_by r) (logged_changes c.continue_at.new.self.read) c.count-start.result c.continue_at.ensures.read start c.requires.keeps;
-      partial_body = head_part r.on_device (logged_changes c.continue_at.new.self.read) c.read_u64-first.result c.from-size.result c.from-count.result c.count-start.result again goes (omega (arith, c.if-size-lt-HEAD_BYTES.false)) (omega (arith, c.if-size-gt-MOST_BODY_BYTES.false));
-      tied = omega (arith, c.continue_at.ensures.last, again, length-drop c.count-start.result (logged_changes c.continue_at.new.self.read));
-      kept = c.continue_at.ensures.kept;
+      elements = head_keeps r.hives r.on_device (read_by r) (read_by r) c.count-start.result refl start c.requires.keeps;
+      partial_body = head_part r.on_device (read_by r) c.read_u64-first.result c.from-size.result c.from-count.result c.count-start.result start goes (omega (arith, c.if-size-lt-HEAD_BYTES.false)) (omega (arith, c.if-size-gt-MOST_BODY_BYTES.false));
+      tied = omega (arith, goes.one, start, length-drop c.count-start.result (read_by r));
     }
+
+pub returns-clause-same : goal.returns-clause-same
+returns-clause-same c =
+    let r = c.args.self.now in
+    let goes = c.if-not-may_follow.ensures.0 refl in
+    c.partial_body.ensures.same ∙ same_numbers (read_by r) r.last c.read_u64-first.result (follows_on r.on_device (read_by r) r.last c.read_u64-first.result c.requires.keeps.ghost_log c.requires.tied goes.one goes.ends)

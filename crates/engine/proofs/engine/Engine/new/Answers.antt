@@ -1,10 +1,14 @@
-use Rattle.std.proofs.Common.{◌≡◌, ◌∙◌, sym, ap, subst, map, arith, List}
+use Rattle.std.proofs.Common.{◌≡◌, ◌∙◌, ℕ, sym, ap, subst, map, arith, List}
+use Rattle.reg_tree.specs.Maps.{TreeMap}
+use Rattle.crash_model.specs.Promises.{Choice}
 use Rattle.reg_tree.specs.declared.element.Element.{Element}
 use Rattle.commit_journal.specs.Journals.{changes_of, choice_of}
 use Rattle.store_model.specs.Machine.{Machine, bounds_of}
 use Rattle.engine_invariant.specs.States.{IsConsistent}
 use Rattle.engine_invariant.specs.Prefixes.{view_of}
+use Rattle.engine_invariant.proofs.HiveLists.{view_at}
 use Rattle.recovery.specs.Invariant.{AreWhole}
+use Rattle.recovery.specs.Retained.{numbered_changes}
 use Rattle.recovery.specs.declared.found.RecoveredStore.{RecoveredStore}
 use Rattle.engine.specs.RetainedChanges.{RetainsWhatHivesLack}
 use Rattle.engine.specs.LastChangePerHive.{AreLastNaming}
@@ -35,8 +39,9 @@ invariant_of-result g c =
         });
         last_changes = subst (λ (l : List Element). AreLastNaming store.machine f.base l f.last_changes.last.items) (sym decoded) (naming_opens store.machine f.base all f.last_changes.last.items kept.begun durable (ap (λ (m : Machine). m.accepted) told) e.kept.names);
         named = e.kept.named;
-        retained = subst (λ (l : List Element). RetainsWhatHivesLack store f.base l f.opened.items f.hives.items) (sym decoded) (hand_opens store f.base f.below all f.opened.items f.hives.items kept.begun durable
-            (omega (arith, c.in-Ok.ensures.retained, ap (λ (m : Machine). m.before) told)) e.kept.opened);
+        retained = subst (λ (l : List Element). RetainsWhatHivesLack store f.base l (numbered_changes f.opened) f.hives.items) (sym decoded) (hand_opens store f.base all (numbered_changes f.opened) f.hives.items kept.begun durable
+            (omega (arith, c.in-Ok.ensures.retained, ap (λ (m : Machine). m.before) told)) e.kept.opened
+            (λ i hive is. ap (λ (k : Choice (TreeMap × ℕ)). k.now.1) (e.kept.recovers.each i (view_of hive) (view_at f.hives.items i hive is))));
       };
       on_disk = e.on_disk;
       prepared = tt;

@@ -9,6 +9,7 @@ use Rattle.hive_flush.specs.HiveStates.{FilesMatchHive, file_choice, memory_of, 
 use Rattle.disk_model.specs.FileState.{FileState}
 use Rattle.disk_model.specs.StoreFiles.{IsFileOfHive, primary_file, log_file}
 use Rattle.commit_journal.specs.Journals.{changes_of}
+use Rattle.recovery.specs.Retained.{numbered_changes}
 use Rattle.engine.specs.Events.{PartsStep}
 use Rattle.engine.proofs.Sound.{at_place, flush_sound}
 use Rattle.engine.proofs.Frames.{any_call, has_failed, works_else, quiet_by, flush_still}
@@ -39,7 +40,7 @@ returns-clause-continues g c =
             call.place call.store call.whole call.broken.0 c.note_fault.ensures.machine;
         last_changes = naming_flushes s.store.machine c.note_fault.new.self.store.machine s.base (changes_of s.decoded.value) s.last_changes.last.items c.step-come.result c.note_fault.ensures.machine c.requires.sound.last_changes;
         named = c.requires.sound.named ∙ sym (length-set s.hives.items c.args.place c.step-come.new.self);
-        retained = hand_flushes s.store c.note_fault.new.self.store s.base (changes_of s.decoded.value) s.opened.items s.hives.items c.args.place c.index_mut.result.now c.step-come.new.self c.step-come.result is call.memory c.note_fault.ensures.machine c.note_fault.ensures.retained c.requires.sound.retained;
+        retained = hand_flushes s.store c.note_fault.new.self.store s.base (changes_of s.decoded.value) (numbered_changes s.opened) s.hives.items c.args.place c.index_mut.result.now c.step-come.new.self c.step-come.result is call.memory c.note_fault.ensures.machine c.note_fault.ensures.retained c.requires.sound.retained;
       };
       on_disk = λ f on. hive_writes s.journal s.hives.items c.args.place c.index_mut.result.now c.step-come.new.self old new is on
           (λ file none. call.call.others file (λ own. none (subst (λ n. IsFileOfHive n file) its own)))

@@ -1,7 +1,6 @@
 use Rattle.std.proofs.Common.{◌≡◌, length, subst, arith}
 use Rattle.std.specs.Prelude.{false}
 use Rattle.disk_model.specs.Crash.{LeavesHonest}
-use Rattle.commit_journal.specs.Journals.{store_of}
 use Rattle.engine_invariant.specs.Prefixes.{IsPrimaryOf}
 use Rattle.engine_invariant.proofs.StoreReads.{reads_left}
 use Rattle.recovery.specs.Recovered.{seen_in}
