@@ -1,8 +1,13 @@
-//! Makes the calls that no command of `regtx` makes: some while allocations are refused, and others that are timed.
+//! Makes the calls that no command of `regtx` makes: some while allocations are refused, some on disks that are spoiled
+//! or watched, and others that are timed.
 //!
 //! | words | |
 //! |---|---|
 //! | `oom` | makes calls that may be refused memory, for `tools/failalloc each` |
+//! | `retries` | makes calls that try again until there is memory, for `tools/failalloc each` in its mode `at` alone |
+//! | `spoil` | opens a small store with each byte of its files spoiled in turn |
+//! | `reads` | opens stores, and makes changes of them, on a disk that tells the longest read |
+//! | `looks FILE` | loads the bins data of a primary file: how many looks at cells that took, and how it ended |
 //! | `bench load FILE` | loads the bins data of a primary file |
 //! | `bench emit KEYS` | makes the image of a tree of KEYS keys, each with a value of 16 bytes |
 //! | `bench flush VALUES BYTES CHANGES` | flushes changes of CHANGES values in a hive of VALUES values of 16,000 bytes each, with at least BYTES bytes of bins data |
@@ -20,7 +25,13 @@
 
 mod bench;
 mod engine_calls;
+mod looks;
 mod oom;
+mod primary_file;
+mod read_watch;
+mod reads;
+mod small_stores;
+mod spoils;
 mod words;
 
 use crate::words::{Task, USAGE, task_of};
@@ -29,6 +40,7 @@ use std::env;
 use std::io::Eprint;
 use std::process::ExitCode;
 use std::rt::{Env, Files};
+use std::sync::Wait;
 use std::time::CpuClock;
 use test_support::Fault;
 
@@ -51,12 +63,27 @@ fn status_of(fault: Fault) -> u8 {
 }
 
 // does what the words ask for: the status
-fn run<R: Print + Eprint + Files + Env + CpuClock + AllocGlobal>(rt: &R) -> Result<u8, Fault> {
+fn run<R: Print + Eprint + Files + Env + CpuClock + AllocGlobal + Wait>(
+    rt: &R,
+) -> Result<u8, Fault> {
     let alloc = rt.alloc();
     let given = words_given(rt, alloc)?;
     let words: Vec<&str> = given.iter().map(|word| word.as_str()).collect(alloc)?;
     match task_of(&words) {
-        Some(Task::Oom) => Ok(u8::from(oom::run(alloc)?)),
+        Some(Task::Oom) => Ok(u8::from(oom::run(rt, alloc)?)),
+        Some(Task::Retries) => Ok(u8::from(oom::run_patiently(rt, alloc)?)),
+        Some(Task::Spoil) => {
+            spoils::run(rt, alloc)?;
+            Ok(0)
+        }
+        Some(Task::Reads) => {
+            reads::run(rt, alloc)?;
+            Ok(0)
+        }
+        Some(Task::Looks { file }) => {
+            looks::count(rt, file)?;
+            Ok(0)
+        }
         Some(Task::Bench(work)) => {
             bench::time(rt, work)?;
             Ok(0)

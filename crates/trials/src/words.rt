@@ -2,13 +2,21 @@
 
 /// What is printed at other words.
 pub(crate) const USAGE: &str =
-    "usage: trials oom | bench load FILE | bench emit KEYS | bench flush VALUES BYTES CHANGES\n       | bench grow values N | bench grow keys N\n       | bench writes N | bench commits N | bench reads N | bench held N | bench opening N BYTES";
+    "usage: trials oom | retries | spoil | reads | looks FILE | bench load FILE | bench emit KEYS | bench flush VALUES BYTES CHANGES\n       | bench grow values N | bench grow keys N\n       | bench writes N | bench commits N | bench reads N | bench held N | bench opening N BYTES";
 
 /// What the words ask for.
 #[derive(Clone, Copy)]
 pub(crate) enum Task<'a> {
     /// Calls that may be refused memory.
     Oom,
+    /// Calls that try again until there is memory.
+    Retries,
+    /// Openings of a store in whose files one byte is another one.
+    Spoil,
+    /// Openings and runs whose longest read is looked at.
+    Reads,
+    /// A primary file's bins data are loaded, and the looks are counted.
+    Looks { file: &'a str },
     /// Work that is timed.
     Bench(Work<'a>),
 }
@@ -73,6 +81,10 @@ pub(crate) enum EngineWork {
 pub(crate) fn task_of<'a>(words: &[&'a str]) -> Option<Task<'a>> {
     match words {
         [_, "oom"] => Some(Task::Oom),
+        [_, "retries"] => Some(Task::Retries),
+        [_, "spoil"] => Some(Task::Spoil),
+        [_, "reads"] => Some(Task::Reads),
+        [_, "looks", file] => Some(Task::Looks { file: *file }),
         [_, "bench", rest @ ..] => Some(Task::Bench(work_of(rest)?)),
         _ => None,
     }

@@ -116,7 +116,7 @@ fn commit(engine: &mut Engine<MemDisk>, tx: Tx) -> Result<(), Fault> {
     };
     journal_all(engine)?;
     match ask(engine, Event::Acked { number }) {
-        Answer::Receipt => Ok(()),
+        Answer::Receipt(_) => Ok(()),
         _ => Err(Fault::Otherwise("no receipt")),
     }
 }
@@ -145,7 +145,7 @@ fn read(alloc: Global, engine: &mut Engine<MemDisk>) -> Result<(), Fault> {
         },
     };
     match ask(engine, event) {
-        Answer::Read => Ok(()),
+        Answer::Found(_) => Ok(()),
         _ => Err(Fault::Otherwise("a refused read")),
     }
 }

@@ -1,8 +1,6 @@
 //! How long a load takes.
-use base_block::BaseBlock;
+use crate::primary_file::block_and_bins;
 use hive_load::load_bins;
-use std::fs::File;
-use std::io::Read;
 use std::rt::Files;
 use std::time::CpuClock;
 use test_support::Fault;
@@ -13,14 +11,7 @@ pub(crate) fn time<R: Files + Print + CpuClock + AllocGlobal>(
     path: &str,
 ) -> Result<(), Fault> {
     let alloc = rt.alloc();
-    let mut file = File::open(rt, path)?;
-    let mut sector = [0; 512];
-    file.read_exact(&mut sector)?;
-    let mut rest = [0; 3_584];
-    file.read_exact(&mut rest)?;
-    let mut bins = Vec::new(alloc);
-    file.read_to_end(&mut bins)?;
-    let block = BaseBlock::read(&sector);
+    let (block, bins) = block_and_bins(rt, path)?;
     let start = rt.process_cpu_time()?;
     let loaded = load_bins(alloc, bins, block.root, block.minor)?;
     let took = rt.process_cpu_time()?.saturating_sub(start).as_micros();

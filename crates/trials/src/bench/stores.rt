@@ -1,10 +1,9 @@
 //! Stores of a thousand keys a hive, and changes of their values.
 ghost use Rattle.std.specs.Prelude.{◌≤◌};
 
-use crate::engine_calls::{Answer, SESSION, ask, begin, make, open, writing};
+use crate::engine_calls::{Answer, SESSION, ask, engine_on, make, writing};
 use disk_model::{MemDisk, Plan};
 use engine::Engine;
-use refusals::Refusal;
 use reg_names::{Name, Path, ValueName};
 use reg_tree::{Data, Op, Trees};
 use std::alloc::Global;
@@ -65,7 +64,7 @@ pub(crate) fn data_of(alloc: Global, bytes: u32) -> Result<Data, Fault> {
 // carries out an operation by itself
 fn change(engine: &mut Engine<MemDisk>, op: Op) -> Result<(), Fault> {
     match ask(engine, writing(op)) {
-        Answer::Accepted => Ok(()),
+        Answer::Accepted(_) => Ok(()),
         _ => Err(Fault::Otherwise("no write")),
     }
 }
@@ -120,17 +119,6 @@ pub(crate) fn filled(alloc: Global, hives: u8) -> Result<Engine<MemDisk>, Fault>
     let mut engine = engine_on(alloc, disk)?;
     fill(alloc, &mut engine, hives)?;
     Ok(engine)
-}
-
-// an engine over the store that is on a disk
-fn engine_on(alloc: Global, disk: MemDisk) -> Result<Engine<MemDisk>, Refusal> {
-    match open(alloc, disk) {
-        Ok(store) => match begin(alloc, store) {
-            Ok(engine) => Ok(engine),
-            Err((why, _)) => Err(why),
-        },
-        Err((why, _)) => Err(why),
-    }
 }
 
 // opens a session and creates the keys

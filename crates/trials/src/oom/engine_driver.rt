@@ -1,175 +1,201 @@
-//! An engine, and the events that may take memory: an event that is refused memory is made again.
-use crate::engine_calls::{
-    Answer, SESSION, ask, beginning, finish, prepare_write, writing, writing_in,
-};
-use crate::oom::expect_no_memory;
-use disk_model::MemDisk;
+//! An engine, and the events that may take memory: one that is refused memory has changed nothing, and is made again.
+use crate::engine_calls::{Answer, ask, finish, prepare_commit, prepare_write, run};
+use crate::oom::asks::{Ask, Change, event_of, op_of, tx_of};
+use crate::oom::claims::{Claimed, expect_claims};
+use crate::oom::digest::Digest;
+use crate::oom::pictures::{EnginePicture, outcomes_of};
+use crate::oom::watched_disk::DiskWatch;
+use crate::oom::{OomDisk, WatchedEngine};
 use engine::Engine;
-use reg_names::Path;
-use reg_tree::Op;
+use refusals::Refusal;
 use std::alloc::Global;
-use store_model::{Event, Progress, Tx};
+use std::sync::Arc;
+use store_model::{Progress, Tx};
 use test_support::Fault;
 
 /// An engine, and what is under way in it.
 #[derive(Drop)]
 pub(crate) struct EngineDriver {
     /// The engine.
-    pub engine: Engine<MemDisk>,
+    pub engine: Engine<OomDisk>,
     /// Whether a call was refused memory.
     pub was_refused: bool,
-    /// A transaction that is active.
+    /// A transaction that is active, for what takes no memory.
     pub tx: Option<Tx>,
     /// Whether a batch of the journal or a trim is under way.
     pub is_journaling: bool,
     /// Whether a flush of hive 0 is under way.
     pub is_flushing: bool,
+    /// Writes that meet a claim now, and such that meet none.
+    pub claims: &'static [Claimed],
+    // what the disk tells
+    watch: Arc<DiskWatch>,
+    // all transactions that were begun, in their order
+    transactions: Vec<Tx>,
 }
 
-// An event that may take memory; keys are of one letter, in hive 0.
+/// How an event is asked.
 #[derive(Clone, Copy)]
-enum Ask {
-    Start,
-    Create(u8),
-    Begin,
-    CreateIn(Tx, u8),
-    Journal,
-    Flush,
-}
-
-// the event, made anew
-fn event_of(alloc: Global, what: Ask) -> Result<Event, Fault> {
-    Ok(match what {
-        Ask::Start => Event::StartSession { session: SESSION },
-        Ask::Create(letter) => writing(creation(alloc, letter)?),
-        Ask::Begin => beginning(),
-        Ask::CreateIn(tx, letter) => writing_in(tx, creation(alloc, letter)?),
-        Ask::Journal => Event::JournalStep,
-        Ask::Flush => Event::FlusherStep { hive: 0 },
-    })
-}
-
-// the creation of a key of one letter
-fn creation(alloc: Global, letter: u8) -> Result<Op, Fault> {
-    let path = Path::parse(alloc, &[u16::from(letter)])?;
-    Ok(Op::CreateKey { hive: 0, path })
+pub(crate) enum How {
+    /// By itself.
+    Event,
+    /// As a run of one event.
+    Run,
+    /// Prepared and finished if it may accept a change, else by itself.
+    InTwoParts,
 }
 
 impl EngineDriver {
     /// Nothing is under way.
-    pub(crate) fn new(engine: Engine<MemDisk>, was_refused: bool) -> EngineDriver {
+    pub(crate) fn new(alloc: Global, made: WatchedEngine, was_refused: bool) -> EngineDriver {
+        let WatchedEngine { engine, watch } = made;
         EngineDriver {
             engine,
             was_refused,
             tx: None,
             is_journaling: false,
             is_flushing: false,
+            claims: &[],
+            watch,
+            transactions: Vec::new(alloc),
         }
     }
 
     /// The disk alone.
-    pub(crate) fn into_disk(self) -> MemDisk {
+    pub(crate) fn into_disk(self) -> OomDisk {
         self.engine.into_disk()
     }
 
-    // an event that may take memory: if it is refused memory, it is made again
-    fn asked(&mut self, alloc: Global, what: Ask) -> Result<Answer, Fault> {
-        let answer = ask(&mut self.engine, event_of(alloc, what)?);
+    /// An event that may take memory: if it is refused memory, all is as it was, and it is made again.
+    pub(crate) fn asked(&mut self, alloc: Global, how: How, what: Ask) -> Result<Answer, Fault> {
+        let outcomes = outcomes_of(&mut self.engine, &self.transactions)?;
+        let before = EnginePicture::of(&self.engine, &self.watch);
+        let answer = self.asked_once(alloc, how, what)?;
         if !answer.is_no_memory() {
             return Ok(answer);
         }
         self.was_refused = true;
-        let answer = ask(&mut self.engine, event_of(alloc, what)?);
+        self.expect_same(before, outcomes)?;
+        expect_claims(alloc, &mut self.engine, self.claims)?;
+        self.expect_same(before, outcomes)?;
+        let answer = self.asked_once(alloc, how, what)?;
         if answer.is_no_memory() {
             return Err(Fault::Twice);
         }
         Ok(answer)
     }
 
+    fn asked_once(&mut self, alloc: Global, how: How, what: Ask) -> Result<Answer, Fault> {
+        match (how, what) {
+            (How::Run, _) => self.run_of_one(alloc, what),
+            (How::InTwoParts, Ask::Write(change)) => self.write_in_two_parts(alloc, change),
+            (How::InTwoParts, Ask::Commit(index)) => self.commit_in_two_parts(index),
+            _ => Ok(ask(&mut self.engine, event_of(alloc, &self.transactions, what)?)),
+        }
+    }
+
+    fn run_of_one(&mut self, alloc: Global, what: Ask) -> Result<Answer, Fault> {
+        let mut events = Vec::new(alloc);
+        events.push(event_of(alloc, &self.transactions, what)?)?;
+        match run(alloc, &mut self.engine, events) {
+            Ok(Some(answer)) => Ok(answer),
+            Ok(None) => Err(Fault::Otherwise("a run without a reply")),
+            Err(_) => Ok(Answer::Refused(Refusal::NoMemory)),
+        }
+    }
+
+    // a write that is prepared changes nothing before it is finished, which takes no memory
+    fn write_in_two_parts(&mut self, alloc: Global, change: Change) -> Result<Answer, Fault> {
+        let op = op_of(alloc, change)?;
+        let before = EnginePicture::of(&self.engine, &self.watch);
+        match prepare_write(&mut self.engine, op) {
+            Ok(()) => {
+                expect_no_change(before, EnginePicture::of(&self.engine, &self.watch))?;
+                finished(finish(&mut self.engine))
+            }
+            Err(refusal) => Ok(Answer::Refused(refusal)),
+        }
+    }
+
+    // the same of a commit
+    fn commit_in_two_parts(&mut self, index: usize) -> Result<Answer, Fault> {
+        let tx = tx_of(&self.transactions, index)?;
+        let before = EnginePicture::of(&self.engine, &self.watch);
+        match prepare_commit(&mut self.engine, tx) {
+            Ok(()) => {
+                expect_no_change(before, EnginePicture::of(&self.engine, &self.watch))?;
+                finished(finish(&mut self.engine))
+            }
+            Err(refusal) => Ok(Answer::Refused(refusal)),
+        }
+    }
+
+    // what is seen of the engine is as it was
+    fn expect_same(&mut self, before: EnginePicture, outcomes: Digest) -> Result<(), Fault> {
+        expect_no_change(before, EnginePicture::of(&self.engine, &self.watch))?;
+        if outcomes_of(&mut self.engine, &self.transactions)? == outcomes {
+            Ok(())
+        } else {
+            Err(Fault::Otherwise("a refused event has ended a transaction"))
+        }
+    }
+
+    /// An event that takes no memory.
+    pub(crate) fn asked_without_memory(
+        &mut self,
+        alloc: Global,
+        what: Ask,
+    ) -> Result<Answer, Fault> {
+        let event = event_of(alloc, &self.transactions, what)?;
+        Ok(ask(&mut self.engine, event))
+    }
+
+    /// Begins a transaction.
+    pub(crate) fn begin(&mut self, alloc: Global, how: How) -> Result<Tx, Fault> {
+        self.transactions.reserve(1)?;
+        let Answer::Begun(tx) = self.asked(alloc, how, Ask::Begin)? else {
+            return Err(Fault::Otherwise("no transaction"));
+        };
+        self.transactions.push(tx)?;
+        Ok(tx)
+    }
+
     // the first step of a batch, or of a flush
     fn first_step(&mut self, alloc: Global, what: Ask) -> Result<(), Fault> {
-        match self.asked(alloc, what)? {
+        match self.asked(alloc, How::Event, what)? {
             Answer::Stepped(Progress::More) => Ok(()),
             _ => Err(Fault::Otherwise("another first step")),
         }
     }
 
-    fn begin_batch(&mut self, alloc: Global) -> Result<(), Fault> {
+    /// Begins a batch.
+    pub(crate) fn begin_batch(&mut self, alloc: Global) -> Result<(), Fault> {
         self.first_step(alloc, Ask::Journal)?;
         self.is_journaling = true;
         Ok(())
     }
 
-    fn begin_flush(&mut self, alloc: Global) -> Result<(), Fault> {
+    /// Begins a flush of hive 0.
+    pub(crate) fn begin_flush(&mut self, alloc: Global) -> Result<(), Fault> {
         self.first_step(alloc, Ask::Flush)?;
         self.is_flushing = true;
         Ok(())
     }
+}
 
-    // begins a transaction that creates a key
-    fn begin_transaction(&mut self, alloc: Global, letter: u8) -> Result<(), Fault> {
-        let Answer::Begun(tx) = self.asked(alloc, Ask::Begin)? else {
-            return Err(Fault::Otherwise("no transaction"));
-        };
-        self.tx = Some(tx);
-        match self.asked(alloc, Ask::CreateIn(tx, letter))? {
-            Answer::Added => Ok(()),
-            _ => Err(Fault::Otherwise("no write in a transaction")),
-        }
+// a finish is never refused memory
+fn finished(answer: Answer) -> Result<Answer, Fault> {
+    if answer.is_no_memory() {
+        Err(Fault::Otherwise("a finish that took memory"))
+    } else {
+        Ok(answer)
     }
+}
 
-    // the creation of a key, in one part
-    fn create(&mut self, alloc: Global, letter: u8) -> Result<(), Fault> {
-        match self.asked(alloc, Ask::Create(letter))? {
-            Answer::Accepted => Ok(()),
-            _ => Err(Fault::Otherwise("no write")),
-        }
-    }
-
-    // the creation of a key, prepared and finished
-    fn create_in_two_parts(&mut self, alloc: Global, letter: u8) -> Result<(), Fault> {
-        if self.is_prepared_and_finished(creation(alloc, letter)?)? {
-            return Ok(());
-        }
-        self.was_refused = true;
-        if self.is_prepared_and_finished(creation(alloc, letter)?)? {
-            return Ok(());
-        }
-        Err(Fault::Twice)
-    }
-
-    // prepares an operation and finishes it, which takes no memory; or whether the first was refused memory
-    fn is_prepared_and_finished(&mut self, op: Op) -> Result<bool, Fault> {
-        match prepare_write(&mut self.engine, op) {
-            Ok(()) => match finish(&mut self.engine) {
-                Answer::Accepted => Ok(true),
-                _ => Err(Fault::Otherwise("no finished write")),
-            },
-            Err(refusal) => {
-                expect_no_memory(refusal)?;
-                Ok(false)
-            }
-        }
-    }
-
-    /// Two changes, of which the first is durable. A batch of the second is under way then, a flush of the first, and a
-    /// transaction.
-    pub(crate) fn begin_batch_and_flush(&mut self, alloc: Global) -> Result<(), Fault> {
-        self.asked(alloc, Ask::Start)?;
-        self.create(alloc, b'A')?;
-        self.begin_batch(alloc)?;
-        self.end_journaling()?;
-        self.create_in_two_parts(alloc, b'B')?;
-        self.begin_batch(alloc)?;
-        self.begin_flush(alloc)?;
-        self.begin_transaction(alloc, b'C')
-    }
-
-    /// Flushes the rest, and begins a trim and a transaction.
-    pub(crate) fn begin_trim(&mut self, alloc: Global) -> Result<(), Fault> {
-        self.begin_flush(alloc)?;
-        self.end_flush()?;
-        self.trim()?;
-        self.begin_transaction(alloc, b'D')
+fn expect_no_change(before: EnginePicture, now: EnginePicture) -> Result<(), Fault> {
+    if before == now {
+        Ok(())
+    } else {
+        Err(Fault::Otherwise("a refused event has changed something"))
     }
 }

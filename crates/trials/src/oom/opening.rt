@@ -1,64 +1,107 @@
-//! The making of a store and its openings: a call that is refused memory is made again.
+//! The making of a store and its openings: a call that is refused memory has changed nothing, hands back what it was
+//! given, and is made again.
+ghost use Rattle.std.specs.Prelude.{◌≡◌, [], IfOk, length};
+
 use crate::engine_calls::{begin, make, open};
-use crate::oom::{expect_no_memory, refused_again, roomy_disk};
-use disk_model::MemDisk;
+use crate::oom::digest::{Digest, digest_of, digest_of_files};
+use crate::oom::watched_disk::{DiskCalls, DiskWatch, WatchedDisk};
+use crate::oom::{FILES, OomDisk, WatchedEngine, expect_no_memory, refused_again, roomy_disk};
 use engine::Engine;
 use recovery::Opened;
 use reg_tree::Trees;
 use std::alloc::Global;
+use std::sync::Arc;
 use test_support::Fault;
 
 /// An engine over a new store of two hives. Tells whether a call was refused memory.
-pub(crate) fn made(alloc: Global, was_refused: &mut bool) -> Result<Engine<MemDisk>, Fault> {
-    let disk = disk_with_store(alloc, was_refused)?;
+pub(crate) fn made(alloc: Global, was_refused: &mut bool) -> Result<WatchedEngine, Fault>
+    ensures { IfOk result (λ made. (made.engine.machine.accepted ≡ [])
+        × (made.engine.machine.sessions ≡ [])
+        × (made.engine.machine.bounds.hives ≡ length made.engine.machine.opened)) }
+{
+    let watch = DiskWatch::new(alloc)?;
+    let seen = Arc::try_clone(&watch)?;
+    let mut disk = WatchedDisk::new(roomy_disk(alloc)?, watch);
+    make_store(alloc, &mut disk, &seen, was_refused)?;
     let store = opened(alloc, disk, was_refused)?;
-    begun(alloc, store, was_refused)
+    let engine = begun(alloc, store, &seen, was_refused)?;
+    Ok(WatchedEngine {
+        engine,
+        watch: seen,
+    })
 }
 
-fn disk_with_store(alloc: Global, was_refused: &mut bool) -> Result<MemDisk, Fault> {
+// makes a store of two hives; if that is refused memory, no file has changed
+fn make_store(
+    alloc: Global,
+    disk: &mut OomDisk,
+    watch: &DiskWatch,
+    was_refused: &mut bool,
+) -> Result<(), Fault> {
     let trees = Trees::new(alloc, 2)?;
-    let mut disk = roomy_disk(alloc)?;
-    let Err(refusal) = make(alloc, &mut disk, &trees) else {
-        return Ok(disk);
+    let before = (watch.calls(), digest_of_files(disk, FILES)?);
+    let Err(refusal) = make(alloc, disk, &trees) else {
+        return Ok(());
     };
     expect_no_memory(refusal)?;
     *was_refused = true;
-    match make(alloc, &mut disk, &trees) {
-        Ok(()) => Ok(disk),
+    if (watch.calls(), digest_of_files(disk, FILES)?) != before {
+        return Err(Fault::Otherwise("a refused store has changed a file"));
+    }
+    match make(alloc, disk, &trees) {
+        Ok(()) => Ok(()),
         Err(refusal) => Err(refused_again(refusal)),
     }
 }
 
-/// Opens a store. Tells whether that was refused memory.
+/// Opens a store. Tells whether that was refused memory: each file that comes back has the bytes that it had.
 pub(crate) fn opened(
     alloc: Global,
-    disk: MemDisk,
+    disk: OomDisk,
     was_refused: &mut bool,
-) -> Result<Opened<MemDisk>, Fault> {
-    let (refusal, disk) = match open(alloc, disk) {
+) -> Result<Opened<OomDisk>, Fault> {
+    let mut disk = disk;
+    let before = digest_of_files(&mut disk, FILES)?;
+    let (refusal, mut disk) = match open(alloc, disk) {
         Ok(store) => return Ok(store),
         Err(back) => back,
     };
     expect_no_memory(refusal)?;
     *was_refused = true;
+    if digest_of_files(&mut disk, FILES)? != before {
+        return Err(Fault::Otherwise("a refused opening has changed a file"));
+    }
     match open(alloc, disk) {
         Ok(store) => Ok(store),
         Err((refusal, _)) => Err(refused_again(refusal)),
     }
 }
 
-// an engine over a store
-fn begun(
+// what is seen of an opened store
+fn picture_of(store: &Opened<OomDisk>, watch: &DiskWatch) -> (u64, Digest, DiskCalls) {
+    (store.number(), digest_of(store.trees()), watch.calls())
+}
+
+/// An engine over a store, which comes back as it was if there is no memory for that.
+pub(crate) fn begun(
     alloc: Global,
-    store: Opened<MemDisk>,
+    store: Opened<OomDisk>,
+    watch: &DiskWatch,
     was_refused: &mut bool,
-) -> Result<Engine<MemDisk>, Fault> {
+) -> Result<Engine<OomDisk>, Fault>
+    ensures { IfOk result (λ e. (e.machine.accepted ≡ []) × (e.machine.sessions ≡ [])
+        × (e.machine.bounds.hives ≡ length e.machine.opened)) }
+{
+    let before = picture_of(&store, watch);
     let (refusal, store) = match begin(alloc, store) {
         Ok(engine) => return Ok(engine),
         Err(back) => back,
     };
     expect_no_memory(refusal)?;
     *was_refused = true;
+    if picture_of(&store, watch) != before {
+        return Err(Fault::Otherwise("a refused engine has changed its store"));
+    }
     match begin(alloc, store) {
         Ok(engine) => Ok(engine),
         Err((refusal, _)) => Err(refused_again(refusal)),

@@ -17,7 +17,8 @@ const IN_CELL: usize = 600;
 
 const IN_SEGMENTS: usize = 20_000;
 
-const TYPE: u32 = 3;
+/// The type of each value.
+pub(crate) const TYPE: u32 = 3;
 
 /// A key with two values, one of them in segments, and below it a key with a value.
 pub(crate) fn small_tree(alloc: Global) -> Result<Tree, Fault> {
@@ -55,29 +56,39 @@ fn units(alloc: Global, text: &str) -> Result<Vec<u16>, Fault> {
     )
 }
 
-fn path(alloc: Global, text: &str) -> Result<Path, Fault> {
+/// The path of a text.
+pub(crate) fn path(alloc: Global, text: &str) -> Result<Path, Fault> {
     Ok(Path::parse(alloc, &units(alloc, text)?)?)
 }
 
-fn value_name(alloc: Global, text: &str) -> Result<ValueName, Fault> {
+/// The name of a value.
+pub(crate) fn value_name(alloc: Global, text: &str) -> Result<ValueName, Fault> {
     Ok(Name::value(alloc, &units(alloc, text)?)?)
 }
 
-fn create(alloc: Global, at: &str) -> Result<Op, Fault> {
+/// A key of hive 0 is created.
+pub(crate) fn create(alloc: Global, at: &str) -> Result<Op, Fault> {
     let path = path(alloc, at)?;
     Ok(Op::CreateKey { hive: 0, path })
 }
 
-fn delete(alloc: Global, at: &str) -> Result<Op, Fault> {
+/// A key of hive 0 is deleted.
+pub(crate) fn delete(alloc: Global, at: &str) -> Result<Op, Fault> {
     let path = path(alloc, at)?;
     Ok(Op::DeleteKey { hive: 0, path })
 }
 
-fn set(alloc: Global, at: &str, name: &str, len: usize) -> Result<Op, Fault> {
+/// So many bytes of data.
+pub(crate) fn data_of(alloc: Global, len: usize) -> Result<Data, Fault> {
+    let bytes = vec![in alloc; 0x5au8; len]?;
+    Ok(Data::new(alloc, &bytes)?)
+}
+
+/// A value of a key of hive 0 gets so many bytes.
+pub(crate) fn set(alloc: Global, at: &str, name: &str, len: usize) -> Result<Op, Fault> {
     let path = path(alloc, at)?;
     let name = value_name(alloc, name)?;
-    let bytes = vec![in alloc; 0x5au8; len]?;
-    let data = Data::new(alloc, &bytes)?;
+    let data = data_of(alloc, len)?;
     Ok(Op::SetValue {
         hive: 0,
         path,
@@ -87,7 +98,8 @@ fn set(alloc: Global, at: &str, name: &str, len: usize) -> Result<Op, Fault> {
     })
 }
 
-fn unset(alloc: Global, at: &str, name: &str) -> Result<Op, Fault> {
+/// A value of a key of hive 0 is deleted.
+pub(crate) fn unset(alloc: Global, at: &str, name: &str) -> Result<Op, Fault> {
     let path = path(alloc, at)?;
     let name = value_name(alloc, name)?;
     Ok(Op::DeleteValue {

@@ -102,7 +102,7 @@ impl EngineDriver {
         let third = ask(&mut self.engine, Event::Acked { number: 3 });
         let asked = ask(&mut self.engine, Event::FlushAsk);
         match (none, third, asked) {
-            (Answer::Receipt, Answer::NotYet, Answer::Awaits(0..3)) => Ok(()),
+            (Answer::Receipt(0), Answer::NotYet, Answer::Awaits(0..3)) => Ok(()),
             _ => Err(Fault::Otherwise("another number")),
         }
     }
