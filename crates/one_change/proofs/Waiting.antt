@@ -1,5 +1,5 @@
 -- A wait for a change accepts none, and ends when it is durable.
-use Rattle.std.proofs.Common.{inl, inr, ℕ, ◌≤◌, List, [], ◌∷◌, Option, Some, None, sym, ◌∙◌, ap, subst}
+use Rattle.std.proofs.Common.{inl, inr, ◌≡◌, ℕ, ◌≤◌, List, [], ◌∷◌, Option, Some, None, sym, ◌∙◌, ap, subst}
 use Rattle.refusals.specs.declared.refusal.Refusal.{Refusal}
 use Rattle.disk_model.specs.declared.progress.Progress.{Progress}
 use Rattle.reg_tree.specs.declared.op.Op.{Op}
@@ -8,7 +8,7 @@ use Rattle.store_model.specs.Steps.{Step, Run}
 use Rattle.store_model.specs.declared.event.Event.TheVariants.{Acked, JournalStep}
 use Rattle.store_model.specs.declared.event.Reply.TheVariants.{NotYet, Stepped, Refused}
 use Rattle.script_runner.specs.Waits.{IsWaited, Waits}
-use Rattle.one_change.specs.Commits.{AcceptsOps, KeepsAccepted}
+use Rattle.one_change.specs.Commits.{AcceptsOps, FailsToCommit, KeepsAccepted, number_of}
 use Rattle.one_change.proofs.Transacting.{keeps_same, keeps_on}
 
 -- a step of the journal accepts nothing, whether it is made or refused
@@ -44,3 +44,8 @@ waited_durable old number new waited = waits_durable waited.0 old number new wai
 -- what was accepted before the wait is accepted after it
 pub accepts_on : (first old new : Machine) (moment : ℕ) (ops : List Op) → AcceptsOps first moment ops old → KeepsAccepted old new → AcceptsOps first moment ops new
 accepts_on first old new moment ops accepts keeps = record { opened = keeps.opened ∙ accepts.opened; before = keeps.before ∙ accepts.before; accepted = keeps.accepted ∙ accepts.accepted }
+
+-- a change was accepted, and the wait for it was refused
+pub wait_stops : (first old new : Machine) (moment number : ℕ) (ops : List Op) (why : Refusal) → AcceptsOps first moment ops old → number ≡ number_of first ops → IsWaited old number (Some why) new → FailsToCommit first moment ops why new
+wait_stops first old new moment number ops why accepts numbered waited =
+    inr (accepts_on first old new moment ops accepts (waited_keeps old number (Some why) new waited), (old, accepts, subst (λ (n : ℕ). IsWaited old n (Some why) new) numbered waited))

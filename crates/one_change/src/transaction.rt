@@ -4,6 +4,7 @@ ghost use Rattle.reg_tree.specs.Judgement.{applied, legal};
 ghost use Rattle.reg_tree.specs.declared.op.Legality.TheVariants.{Legal};
 ghost use Rattle.reg_tree.specs.declared.op.Op.{Op as AnyOp};
 ghost use Rattle.store_model.specs.Machine.{Machine, is_open, last_number, trees_now};
+ghost use Rattle.store_model.specs.Steps.{Step};
 ghost use Rattle.script_runner.specs.Later.{IsLater};
 ghost use Rattle.one_change.specs.Commits.{AcceptsOps, InTransaction, KeepsAccepted, number_of};
 
@@ -26,6 +27,8 @@ pub(crate) fn begin<D: Disk>(engine: &mut Engine<D>, id: Uuid) -> Result<Tx, Ref
     ensures begun { IfOk result (λ tx. (moment : ℕ) → InTransaction engine.old.machine tx moment []
         engine.new.machine) }
     ensures refused { IfErr result (λ why. KeepsAccepted engine.old.machine engine.new.machine) }
+    ensures cause { IfErr result (λ why.
+        Step engine.old.machine (Event.Begin 0 id) (Reply.Refused why) engine.new.machine) }
     ensures later { IsLater D.faithful D.failures engine.old engine.new }
 {
     match ask(
@@ -53,6 +56,8 @@ pub(crate) fn add<D: Disk>(
         legal (applied (trees_now first) ops moment) op ≡ Ok Legal →
         InTransaction first tx moment (ops ++ op ∷ []) engine.new.machine) }
     ensures kept { KeepsAccepted engine.old.machine engine.new.machine }
+    ensures cause { IfErr result (λ why.
+        Step engine.old.machine (Event.TxWrite 0 tx moment op) (Reply.Refused why) engine.new.machine) }
     ensures later { IsLater D.faithful D.failures engine.old engine.new }
 {
     match ask(
@@ -78,6 +83,8 @@ pub(crate) fn accept<D: Disk>(engine: &mut Engine<D>, tx: Tx, moment: u64) -> Re
         InTransaction first tx moment ops engine.old.machine →
         AcceptsOps first moment ops engine.new.machine × (number ≡ number_of first ops))) }
     ensures refused { IfErr result (λ why. KeepsAccepted engine.old.machine engine.new.machine) }
+    ensures cause { IfErr result (λ why.
+        Step engine.old.machine (Event.CommitAccept 0 tx moment) (Reply.Refused why) engine.new.machine) }
     ensures later { IsLater D.faithful D.failures engine.old engine.new }
 {
     match ask(

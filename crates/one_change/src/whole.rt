@@ -16,9 +16,9 @@ use uuid::Uuid;
 /// Commits operations as one change at a moment, in a transaction of this unit of work in session 0, and waits until it
 /// is durable. Answers the change's number, or 0 if there are no operations: they change nothing.
 ///
-/// Refused as the transaction is, such as with `TooLarge`, `HistoryFull` or `JournalFull`, and with `NoMemory`: nothing
-/// is accepted then. Refused with `DiskFault` or `Faulted` also if the change was accepted and the device failed: the
-/// next opening has all of it or nothing.
+/// Refused as the calls of the transaction are, such as with `TooLarge`, `HistoryFull` or `JournalFull`: nothing is
+/// accepted then. Refused with `DiskFault`, `Faulted` or `NoMemory` also if the change was accepted and the wait for it
+/// was refused: the next opening has all of it or nothing.
 pub fn commit<D: Disk>(
     engine: &mut Engine<D>,
     id: Uuid,
@@ -30,7 +30,7 @@ pub fn commit<D: Disk>(
     ensures committed { IfOk result (λ number.
         Commits engine.old.machine moment ops.items number engine.new.machine) }
     ensures refused { IfErr result (λ why.
-        FailsToCommit engine.old.machine moment ops.items engine.new.machine) }
+        FailsToCommit engine.old.machine moment ops.items why engine.new.machine) }
     ensures later { IsLater D.faithful D.failures engine.old engine.new }
 {
     let tx = begin(engine, id)?;

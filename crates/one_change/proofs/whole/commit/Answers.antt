@@ -1,13 +1,13 @@
-use Rattle.std.proofs.Common.{rules, ◌≡◌, ◌++◌, ◌∷◌, [], List, length, arith, refl, sym, ◌∙◌, ap, subst, append_assoc}
+use Rattle.std.proofs.Common.{rules, inl, inr, ◌≡◌, ◌++◌, ◌∷◌, [], List, length, arith, refl, sym, ◌∙◌, ap, subst, append_assoc}
 use Rattle.std.specs.Vec.Iter.{into_iter_items, into_iter_len}
 use Rattle.reg_tree.specs.declared.op.Op.{Op}
 use Rattle.store_model.specs.Machine.{trees_now}
 use Rattle.store_model.specs.Invariant.{AreLegalChanges}
 use Rattle.script_runner.proofs.Later.{later_on}
-use Rattle.one_change.specs.Commits.{InTransaction}
+use Rattle.one_change.specs.Commits.{FailsToCommit, InTransaction, StopsInTransaction}
 use Rattle.std.proofs.lemmas.List.{append-nil}
-use Rattle.one_change.proofs.Transacting.{legal_at, none_left}
-use Rattle.one_change.proofs.Waiting.{accepts_on, waited_keeps, waited_durable}
+use Rattle.one_change.proofs.Transacting.{keeps_on, legal_at, none_left}
+use Rattle.one_change.proofs.Waiting.{accepts_on, wait_stops, waited_keeps, waited_durable}
 use Rattle.one_change.proofs.whole.commit.Goals as goal
 
 pub loop-op-init : goal.loop-op-init
@@ -41,11 +41,52 @@ pub returns-clause-later : goal.returns-clause-later
 returns-clause-later g c = later_on g.D.Disk.faithful g.D.Disk.failures c.args.engine.now c.accept.new.engine c.wait.new.engine
     (later_on g.D.Disk.faithful g.D.Disk.failures c.args.engine.now c.loop-op.engine c.accept.new.engine c.loop-op.invariant.3 c.accept.ensures.later) c.wait.ensures.later
 
+pub returns-in_err-tx-clause-refused : goal.returns-in_err-tx-clause-refused
+returns-in_err-tx-clause-refused g c =
+    let fails : FailsToCommit c.args.engine.now.machine c.args.moment c.args.ops.items _ c.begin.new.engine.machine = inl (c.in_err-tx.ensures.refused, inl (c.args.id, c.in_err-tx.ensures.cause)) in
+    search rules
+
+pub returns-in_err-add-clause-refused : goal.returns-in_err-add-clause-refused
+returns-in_err-add-clause-refused g c =
+    let first = c.args.engine.now.machine in
+    let left = into_iter_items c.next.new.self in
+    let all : into_iter_items c.into_iter-op-iterator.result ≡ c.loop-op.yielded ++ c.in-Some.op ∷ left = c.loop-op.invariant.0 ∙ ap (λ xs. c.loop-op.yielded ++ xs) c.in-Some.ensures.steps.0 in
+    let stops : StopsInTransaction first c.args.moment c.args.ops.items _ c.add.new.engine.machine =
+    record {
+      tx = c.in_ok-tx.tx;
+      first = c.loop-op.yielded;
+      left = c.in-Some.op ∷ left;
+      whole = sym c.into_iter-op-iterator.ensures.into_iter_gives.0 ∙ all;
+      mid = c.loop-op.engine.machine;
+      has = c.loop-op.invariant.1;
+      refuses = c.in_err-add.ensures.cause;
+    } in
+    let fails : FailsToCommit first c.args.moment c.args.ops.items _ c.add.new.engine.machine = inl (keeps_on first c.loop-op.engine.machine c.add.new.engine.machine c.loop-op.invariant.1.keeps c.add.ensures.kept, inr stops) in
+    search rules
+
+pub returns-in_err-number-clause-refused : goal.returns-in_err-number-clause-refused
+returns-in_err-number-clause-refused g c =
+    let first = c.args.engine.now.machine in
+    let whole : c.loop-op.yielded ≡ c.args.ops.items = sym (sym c.into_iter-op-iterator.ensures.into_iter_gives.0 ∙ c.loop-op.invariant.0 ∙ ap (λ xs. c.loop-op.yielded ++ xs) (none_left (into_iter_items c.loop-op.op-iterator) (sym c.loop-op.invariant.2 ∙ c.in-None.ensures.steps.0)) ∙ append-nil c.loop-op.yielded) in
+    let stops : StopsInTransaction first c.args.moment c.args.ops.items _ c.accept.new.engine.machine =
+    record {
+      tx = c.in_ok-tx.tx;
+      first = c.loop-op.yielded;
+      left = [];
+      whole = sym (append-nil c.loop-op.yielded ∙ whole);
+      mid = c.loop-op.engine.machine;
+      has = c.loop-op.invariant.1;
+      refuses = c.in_err-number.ensures.cause;
+    } in
+    let fails : FailsToCommit first c.args.moment c.args.ops.items _ c.accept.new.engine.machine = inl (keeps_on first c.loop-op.engine.machine c.accept.new.engine.machine c.loop-op.invariant.1.keeps c.in_err-number.ensures.refused, inr stops) in
+    search rules
+
 pub returns-in_err-wait-clause-refused : goal.returns-in_err-wait-clause-refused
 returns-in_err-wait-clause-refused g c =
     let whole : c.loop-op.yielded ≡ c.args.ops.items = sym (sym c.into_iter-op-iterator.ensures.into_iter_gives.0 ∙ c.loop-op.invariant.0 ∙ ap (λ xs. c.loop-op.yielded ++ xs) (none_left (into_iter_items c.loop-op.op-iterator) (sym c.loop-op.invariant.2 ∙ c.in-None.ensures.steps.0)) ∙ append-nil c.loop-op.yielded) in
-    let accepts = c.in_ok-number.ensures.accepted.1 c.args.engine.now.machine c.args.ops.items (subst (λ (ops : List Op). InTransaction c.args.engine.now.machine c.in_ok-tx.tx c.args.moment ops c.loop-op.engine.machine) whole c.loop-op.invariant.1) in
-    let fails = accepts_on c.args.engine.now.machine c.accept.new.engine.machine c.wait.new.engine.machine c.args.moment c.args.ops.items accepts.0 (waited_keeps c.accept.new.engine.machine c.in_ok-number.number _ c.wait.new.engine.machine c.in_err-wait.ensures.waited) in
+    let first = c.args.engine.now.machine in
+    let accepts = c.in_ok-number.ensures.accepted.1 first c.args.ops.items (subst (λ (ops : List Op). InTransaction first c.in_ok-tx.tx c.args.moment ops c.loop-op.engine.machine) whole c.loop-op.invariant.1) in
+    let fails = wait_stops first c.accept.new.engine.machine c.wait.new.engine.machine c.args.moment c.in_ok-number.number c.args.ops.items _ accepts.0 accepts.1 c.in_err-wait.ensures.waited in
     search rules
 
 pub returns-clause-committed : goal.returns-clause-committed
