@@ -1,7 +1,7 @@
 -- How an application ends.
-use Rattle.std.proofs.Common.{◌≡◌, ◌⊎◌, inl, inr, ℕ, List, None, Result, Ok, Err, IfOk, refl}
+use Rattle.std.proofs.Common.{◌≡◌, inl, inr, ℕ, List, None, Result, Ok, Err, IfOk, refl}
 use Rattle.store_model.specs.Machine.{Machine}
-use Rattle.one_change.specs.Commits.{AcceptsOps, KeepsAccepted}
+use Rattle.one_change.specs.Commits.{FailsToCommit, KeepsAccepted}
 use Rattle.one_change.proofs.Transacting.{keeps_on}
 use Rattle.one_change.proofs.Waiting.{accepts_on}
 use Rattle.reg_prefixes.specs.declared.prefix.Prefix.{Prefix}
@@ -27,9 +27,9 @@ all_or_nothing prefixes moment file old mid new (Denied line why) ends keeps = i
 all_or_nothing prefixes moment file old mid new (Refused why) (inl lacking) keeps = inl (keeps_on old mid new lacking.1 keeps)
 all_or_nothing prefixes moment file old mid new (Refused why) (inr failed) keeps = by_case failed.3
   where
-    by_case : KeepsAccepted old mid ⊎ AcceptsOps old moment failed.0.ops mid → AllOrNothing prefixes moment file old new
-    by_case (inl none) = inl (keeps_on old mid new none keeps)
-    by_case (inr accepts) = inr (failed.0, failed.2, accepts_on old mid new moment _ accepts keeps)
+    by_case : FailsToCommit old moment failed.0.ops why mid → AllOrNothing prefixes moment file old new
+    by_case (inl none) = inl (keeps_on old mid new none.0 keeps)
+    by_case (inr accepts) = inr (failed.0, failed.2, accepts_on old mid new moment _ accepts.0 keeps)
 
 pub if_ok : {T E : Type 0} {P Q : T → Type 0} (answer : Result T E) → ((x : T) → P x → Q x) → IfOk answer P → IfOk answer Q
 if_ok (Ok x) f p = f x p

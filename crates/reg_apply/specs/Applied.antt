@@ -39,7 +39,7 @@ StopsIn prefixes moment file old line why = StopsAt prefixes (length (trees_now 
 
 -- How it ends. The operations of all statements are the change that is committed, if the file has no fault. If a
 -- statement is denied, or the file has a fault after statements that are taken, nothing is accepted. The first of these
--- is told.
+-- is told. An application is refused if memory for its plan is lacking, or for the same reason as its commit.
 abbrev pub Ends : List Prefix → ℕ → RegFile → Machine → Outcome → Machine → Type 0
 Ends prefixes moment file old (Applied number) new =
     (plan : Planned) × (file.fault ≡ None) × TakesAll prefixes moment file old plan × Commits old moment plan.ops number new
@@ -51,7 +51,7 @@ Ends prefixes moment file old (NoHive line) new = KeepsAccepted old new × Stops
 Ends prefixes moment file old (Denied line why) new = KeepsAccepted old new × StopsIn prefixes moment file old line (denial.Refused why)
 Ends prefixes moment file old (Refused why) new =
     ((why ≡ NoMemory) × KeepsAccepted old new)
-    ⊎ ((plan : Planned) × (file.fault ≡ None) × TakesAll prefixes moment file old plan × FailsToCommit old moment plan.ops new)
+    ⊎ ((plan : Planned) × (file.fault ≡ None) × TakesAll prefixes moment file old plan × FailsToCommit old moment plan.ops why new)
 
 -- what is printed: how it ended, and what is refused of the steps that are left, if anything is
 abbrev pub report_text : Outcome → Option Refusal → List ℕ

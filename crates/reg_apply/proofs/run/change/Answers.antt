@@ -1,4 +1,4 @@
-use Rattle.std.proofs.Common.{◌≡◌, [], None, List, sym, ◌∙◌, ap, subst}
+use Rattle.std.proofs.Common.{rules, inr, ◌≡◌, [], None, List, sym, ◌∙◌, ap, subst}
 use Rattle.reg_tree.specs.Maps.{TreeMap}
 use Rattle.reg_tree.specs.declared.op.Op.{Op}
 use Rattle.store_model.specs.Machine.{trees_now}
@@ -6,6 +6,8 @@ use Rattle.store_model.specs.Invariant.{AreLegalChanges}
 use Rattle.script_runner.proofs.Later.{later_same}
 use Rattle.change_plan.specs.Plans.{Planned}
 use Rattle.change_plan.proofs.LegalPlans.{IsLegalPlan, fresh_plan}
+use Rattle.one_change.specs.Commits.{FailsToCommit}
+use Rattle.reg_apply.specs.Applied.{TakesAll}
 use Rattle.reg_apply.proofs.LegalPlans.{same_moment, statements_on}
 use Rattle.reg_apply.proofs.run.change.Goals as goal
 
@@ -29,3 +31,11 @@ commit-requires-clause-are_legal g c =
     let plan = statements_on trees prefixes c.len-hives.result None c.new-plan.result c.into_vec.result.items taken.0 c.take_all.new.plan fresh taken.1 in
     let same : c.take_all.new.plan.moment ≡ moment = same_moment prefixes c.len-hives.result None c.new-plan.result c.into_vec.result.items taken.0 c.take_all.new.plan taken.1 ∙ ap (λ (p : Planned). p.moment) c.new-plan.ensures in
     subst (λ (ops : List Op). AreLegalChanges trees ops moment) (sym c.into_ops.ensures) (subst (AreLegalChanges trees c.take_all.new.plan.ops) same plan.legal)
+
+pub returns-in-Err-commit-clause-ends : goal.returns-in-Err-commit-clause-ends
+returns-in-Err-commit-clause-ends g c =
+    let old = c.args.engine.now.machine in
+    let moment = c.args.request.now.moment in
+    let none : c.args.file.fault ≡ None = search rules in
+    let takes : TakesAll c.args.request.now.prefixes.now moment c.args.file old c.take_all.new.plan = search rules in
+    inr (c.take_all.new.plan, none, takes, subst (λ (ops : List Op). FailsToCommit old moment ops c.in-Err-commit.refusal c.commit.new.engine.machine) c.into_ops.ensures c.in-Err-commit.ensures.refused)
