@@ -1,13 +1,14 @@
 -- How a change of a store ends.
-use Rattle.std.proofs.Common.{◌≡◌, ◌⊎◌, inl, inr, ℕ, List, [], ◌∷◌, Result, Ok, Err, sym, ◌∙◌, ap, subst}
+use Rattle.std.proofs.Common.{◌≡◌, inl, inr, ℕ, List, [], ◌∷◌, Result, Ok, Err, IfOk, IfErr, sym, ◌∙◌, ap, subst}
 use Rattle.refusals.specs.declared.refusal.Refusal.{Refusal}
 use Rattle.reg_tree.specs.Maps.{TreeMap}
-use Rattle.store_model.specs.Machine.{Machine}
+use Rattle.reg_tree.specs.declared.op.Op.{Op}
+use Rattle.store_model.specs.Machine.{Machine, trees_now}
 use Rattle.store_model.specs.Invariant.{AreLegalChanges}
 use Rattle.change_plan.specs.declared.edit.Edit.{Edit}
 use Rattle.change_plan.specs.Plans.{Planned}
 use Rattle.change_plan.proofs.LegalPlans.{IsLegalPlan, edit_on, fresh_plan}
-use Rattle.one_change.specs.Commits.{AcceptsOps, KeepsAccepted}
+use Rattle.one_change.specs.Commits.{Commits, FailsToCommit, KeepsAccepted}
 use Rattle.one_change.proofs.Transacting.{keeps_on}
 use Rattle.one_change.proofs.Waiting.{accepts_on}
 use Rattle.store_values.specs.declared.change.Change.{Change}
@@ -34,6 +35,11 @@ all_or_nothing moment change old mid new (Ok number) ends keeps = inr (ends.0, e
 all_or_nothing moment change old mid new (Err why) (inl denied) keeps = inl (keeps_on old mid new denied.0 keeps)
 all_or_nothing moment change old mid new (Err why) (inr failed) keeps = by_case failed.2
   where
-    by_case : KeepsAccepted old mid ⊎ AcceptsOps old moment failed.0.ops mid → AllOrNothing moment change old new
-    by_case (inl none) = inl (keeps_on old mid new none keeps)
-    by_case (inr accepts) = inr (failed.0, failed.1, accepts_on old mid new moment _ accepts keeps)
+    by_case : FailsToCommit old moment failed.0.ops why mid → AllOrNothing moment change old new
+    by_case (inl none) = inl (keeps_on old mid new none.0 keeps)
+    by_case (inr accepts) = inr (failed.0, failed.1, accepts_on old mid new moment _ accepts.0 keeps)
+
+-- how the commit of a change that was planned ends
+pub commit_ends : (moment : ℕ) (change : Change) (old new : Machine) (plan : Planned) (ops : List Op) (outcome : Result ℕ Refusal) → IsPlanned (trees_now old) moment change plan → ops ≡ plan.ops → IfOk outcome (λ number. Commits old moment ops number new) → IfErr outcome (λ why. FailsToCommit old moment ops why new) → Ends moment change old outcome new
+commit_ends moment change old new plan ops (Ok number) is same commits fails = (plan, is, subst (λ (os : List Op). Commits old moment os number new) same commits)
+commit_ends moment change old new plan ops (Err why) is same commits fails = inr (plan, is, subst (λ (os : List Op). FailsToCommit old moment os why new) same fails)

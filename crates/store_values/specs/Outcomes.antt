@@ -17,12 +17,12 @@ use Rattle.store_values.specs.declared.change.Change.{Change}
 use Rattle.store_values.specs.Changes.{IsDenied, IsPlanned}
 
 -- How it ends: the operations that are planned are committed as one change of this number. Or it is refused: it can't be
--- planned, and nothing is accepted; or its commit is refused.
+-- planned, and nothing is accepted; or its commit is refused, for this reason.
 abbrev pub Ends : ℕ → Change → Machine → Result ℕ Refusal → Machine → Type 0
 Ends moment change old (Ok number) new = (plan : Planned) × IsPlanned (trees_now old) moment change plan × Commits old moment plan.ops number new
 Ends moment change old (Err why) new =
     (KeepsAccepted old new × IsDenied (trees_now old) moment change why)
-    ⊎ ((plan : Planned) × IsPlanned (trees_now old) moment change plan × FailsToCommit old moment plan.ops new)
+    ⊎ ((plan : Planned) × IsPlanned (trees_now old) moment change plan × FailsToCommit old moment plan.ops why new)
 
 -- After a change was committed the steps that are left are made, up to one that is refused; else none is made.
 abbrev pub Finishes : Result ℕ Refusal → Option Refusal → Machine → Machine → Type 0

@@ -1,4 +1,8 @@
+use Rattle.std.proofs.Common.{rules}
+use Rattle.store_model.specs.Machine.{trees_now}
 use Rattle.script_runner.proofs.Later.{later_same}
+use Rattle.store_values.specs.Changes.{IsPlanned}
+use Rattle.store_values.proofs.Ended.{commit_ends}
 use Rattle.store_values.proofs.run.make.Goals as goal
 
 pub returns-in_default-clause-later : goal.returns-in_default-clause-later
@@ -6,3 +10,8 @@ returns-in_default-clause-later g c = later_same g.D.Disk.faithful g.D.Disk.fail
 
 pub returns-in-Err-clause-later : goal.returns-in-Err-clause-later
 returns-in-Err-clause-later g c = later_same g.D.Disk.faithful g.D.Disk.failures c.args.engine.now
+
+pub returns-in-Ok-planned-clause-ends : goal.returns-in-Ok-planned-clause-ends
+returns-in-Ok-planned-clause-ends g c =
+    let is : IsPlanned (trees_now c.args.engine.now.machine) c.args.moment c.args.change c.in-Ok-planned.plan = search rules in
+    commit_ends c.args.moment c.args.change c.args.engine.now.machine c.commit.new.engine.machine c.in-Ok-planned.plan c.into_ops.result.items c.commit.result is c.into_ops.ensures c.commit.ensures.committed c.commit.ensures.refused
