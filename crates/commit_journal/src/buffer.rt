@@ -146,9 +146,11 @@ impl ReadBuffer {
         ensures at { self.new.at ≡ self.old.at }
         ensures end { self.new.end_of_file ≡ self.old.end_of_file }
     {
-        self.bytes.copy_within(self.start..self.end, 0);
-        self.end -= self.start;
-        self.start = 0;
+        if self.start > 0 {
+            self.bytes.copy_within(self.start..self.end, 0);
+            self.end -= self.start;
+            self.start = 0;
+        }
         self.limit = limit;
     }
 
