@@ -5,19 +5,20 @@ use Rattle.refusals.specs.declared.refusal.Refusal.TheVariants as refusal
 use Rattle.refusals.specs.declared.refusal.Cause.TheVariants as cause
 use Rattle.refusals.specs.declared.limits.TheConstants.{MOST_BINS_BYTES}
 use Rattle.base_block.specs.declared.block.BaseBlock.{BaseBlock}
+use Rattle.base_block.specs.declared.block.TheConstants.{MINOR_VERSION, OLDEST_MINOR_VERSION}
 use Rattle.base_block.specs.Layout.{is_clean_block}
 
 -- a size of hive bins data: a multiple of 4,096, not 0
 abbrev pub IsBinsSize : ℕ → Type 0
 IsBinsSize size = (size % 4096 ≡ 0) × (size ≢ 0)
 
--- the versions and the format that a primary file may have: 1.5, format 1
+-- the versions and the format that a primary file may have: 1.3 to 1.5, format 1
 abbrev pub IsPrimaryVersion : BaseBlock → Type 0
-IsPrimaryVersion b = (b.major ≡ 1) × (b.minor ≡ 5) × (b.format ≡ 1)
+IsPrimaryVersion b = (b.major ≡ 1) × (OLDEST_MINOR_VERSION ≤ b.minor) × (b.minor ≤ MINOR_VERSION) × (b.format ≡ 1)
 
--- those that a log may have: 1.5, format 1
+-- those that a log may have, and that are written: 1.5, format 1
 abbrev pub IsLogVersion : BaseBlock → Type 0
-IsLogVersion b = (b.major ≡ 1) × (b.minor ≡ 5) × (b.format ≡ 1)
+IsLogVersion b = (b.major ≡ 1) × (b.minor ≡ MINOR_VERSION) × (b.format ≡ 1)
 
 -- what every block that is used has, whatever its file is: `regf`, and a bins size within the limit
 pub record IsUsable (b : BaseBlock) : Type 0 where

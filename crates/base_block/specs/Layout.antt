@@ -27,16 +27,16 @@ block_at bytes =
       sum_is_right = number_at 508 4 bytes == sum_of bytes;
     }
 
--- a clean block of a primary file of version 1.5 and format 1, written at 0, with no change applied
-abbrev pub fresh_primary : ℕ → ℕ → ℕ → List ℕ → BaseBlock
-fresh_primary number root bins_size store =
+-- a clean block of a primary file of a minor version of 1 and format 1, written at 0, with no change applied
+abbrev pub fresh_primary : ℕ → ℕ → ℕ → ℕ → List ℕ → BaseBlock
+fresh_primary number minor root bins_size store =
     record {
       signature = record { 0 = 0x6667_6572 };
       primary = record { 0 = number };
       secondary = record { 0 = number };
       last_written = 0;
       major = 1;
-      minor = 5;
+      minor = minor;
       file_type = record { 0 = 0 };
       format = 1;
       root = root;

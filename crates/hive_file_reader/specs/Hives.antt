@@ -1,6 +1,6 @@
 -- Which bins data and which tree the bytes of a hive's primary file hold, if they are read without a log, and why they
 -- hold none.
-use Rattle.std.specs.Prelude.{◌≡◌, ◌≢◌, ℕ, ◌≤◌, ◌<◌, true, false, List, [], ◌++◌, length}
+use Rattle.std.specs.Prelude.{◌≡◌, ◌≢◌, ◌⊎◌, ℕ, ◌+◌, ◌≤◌, ◌<◌, true, false, List, [], ◌++◌, length}
 use Rattle.refusals.specs.declared.refusal.Refusal.{Refusal}
 use Rattle.refusals.specs.declared.refusal.Refusal.TheVariants as refusal
 use Rattle.refusals.specs.declared.refusal.Cause.TheVariants as cause
@@ -60,3 +60,14 @@ pub data FileHoldsNoHive (file : List ℕ) : Refusal → Type 0 where
 -- bytes are the first of a file, and all of it if they are fewer than 4,096
 abbrev pub IsFilePrefix : List ℕ → List ℕ → Type 0
 IsFilePrefix front file = (rest : List ℕ) × (file ≡ front ++ rest) × (length front < 4096 → rest ≡ [])
+
+-- bytes are the first of a file, and enough of it to decide which hive it holds: all of them, or a base block's and the
+-- bins data, if the block is that of a clean hive
+pub record IsEnoughOf (front file : List ℕ) : Type 0 where
+  pub rest : List ℕ
+  pub begins : file ≡ front ++ rest
+  pub enough : (rest ≡ []) ⊎ ((4096 ≤ length front) × ((block : BaseBlock) → FileHasBlock front block → 4096 + block.bins_size ≤ length front))
+
+-- bytes go no further than a base block, or than the bins data, if the block is one of a clean hive
+abbrev pub EndsWithinHive : List ℕ → Type 0
+EndsWithinHive front = (length front ≤ 4096) ⊎ ((block : BaseBlock) × FileHasBlock front block × (length front ≤ 4096 + block.bins_size))

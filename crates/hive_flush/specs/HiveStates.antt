@@ -1,5 +1,5 @@
 -- What contracts see of a hive's files and memory.
-use Rattle.std.specs.Prelude.{◌≡◌, ℕ, ◌+◌, if◌then◌else◌, true, false, List, length}
+use Rattle.std.specs.Prelude.{◌≡◌, ◌≢◌, ◌≤◌, ℕ, ◌+◌, if◌then◌else◌, true, false, List, length, take, drop}
 use Rattle.crash_model.specs.Promises.{Choice}
 use Rattle.crash_model.specs.Changes.{AreLegal, applied, ops_on}
 use Rattle.change_codec.specs.ModelChanges.{tree_rules, timed_elements}
@@ -12,12 +12,14 @@ use Rattle.hive_flush_model.specs.Plans.{FlushPlan, PlanFitsImage}
 use Rattle.hive_flush_model.specs.States.{PrimaryIsSyncedIn, files_match_phase}
 use Rattle.dirty_vector.specs.Pages.{Pages, clean_pages, dirty_count}
 use Rattle.dirt_log.specs.FileContents.{is_clean_file}
-use Rattle.dirt_log.specs.WholeLog.{pages_in}
+use Rattle.dirt_log.specs.WholeLog.{block_of, pages_in}
 use Rattle.hive_writer.specs.declared.writer.HiveWriter.{HiveWriter}
 use Rattle.hive_writer.specs.declared.stage.Purpose.TheVariants as purpose
 use Rattle.hive_writer.specs.declared.stage.FlushStage.{FlushStage}
 use Rattle.hive_writer.specs.declared.stage.FlushStage.TheVariants as stage
 use Rattle.hive_writer.specs.WriterSteps.{PlanEndsWith, IsFlushing, calls_left, dirty_from, choice_at, phase_in, plan_of, work_of}
+use Rattle.base_block.specs.declared.block.TheConstants.{MINOR_VERSION}
+use Rattle.hive_emit.specs.Forms.{IsFormed}
 use Rattle.hive_flush.specs.Decoders.{DecoderIsSound}
 use Rattle.hive_flush.specs.NextBlocks.{block_again}
 use Rattle.hive_flush.specs.declared.hive.HiveFile.{HiveFile}
@@ -93,6 +95,18 @@ pub record MemoryIsDurable (old new : HiveFile) : Type 0 where
   pub bins : new.image.bytes ≡ old.image.bytes
   pub pages : new.pages ≡ clean_pages old.pages.bins_size
   pub writer : new.writer ≡ record old.writer { block = block_again old.writer.block }
+
+-- A writer, an image, its pages and a tree are those of a hive that was opened from a clean primary file. The file's own
+-- block is the one whose primary number a flush raises first. If it is of the minor version that is written, the image is
+-- the file's bins data, and no page differs. Otherwise the image is made anew of the tree, no shorter than the bins data.
+pub record IsOpenedAs (primary : List ℕ) (writer : HiveWriter) (image : List ℕ) (pages : Pages) (tree : TreeMap) : Type 0 where
+  pub base : writer.base ≡ block_of primary
+  pub kept : (block_of primary).minor ≡ MINOR_VERSION → (image ≡ take (block_of primary).bins_size (drop 4096 primary)) × (pages ≡ clean_pages (block_of primary).bins_size)
+  pub renewed : (block_of primary).minor ≢ MINOR_VERSION → ((block_of primary).bins_size ≤ length image) × IsFormed image writer.block.root tree
+
+-- a hive is opened from a clean primary file
+abbrev pub IsOpenedFrom : List ℕ → HiveFile → Type 0
+IsOpenedFrom primary file = IsOpenedAs primary file.writer file.image.bytes file.pages file.tree
 
 -- how many pages the next flush writes, or the repair that is left
 abbrev pub dirty_pages : HiveFile → ℕ

@@ -10,14 +10,16 @@ use Rattle.reg_tree.specs.Maps.{TreeMap}
 use Rattle.hive_writer.specs.declared.writer.HiveWriter.{HiveWriter}
 use Rattle.hive_writer.specs.WriterSteps.{IsFlushing}
 use Rattle.base_block.specs.declared.block.BaseBlock.{BaseBlock}
+use Rattle.base_block.specs.declared.block.TheConstants.{MINOR_VERSION}
 use Rattle.base_block.specs.Numbers.{number_after}
 
--- the block with which the flush after one ends: the numbers are one more, and it is for this root, size, time and
--- number
+-- the block with which the flush after one ends: the numbers are one more, the minor version is the one that is written,
+-- and it is for this root, size, time and number
 abbrev pub block_after : BaseBlock → ℕ → ℕ → ℕ → ℕ → BaseBlock
 block_after base root bins_size time applied = record base {
   primary = record { 0 = number_after base.secondary.0 };
   secondary = record { 0 = number_after base.secondary.0 };
+  minor = MINOR_VERSION;
   last_written = time;
   root = root;
   bins_size = bins_size;
@@ -32,9 +34,16 @@ block_again block = block_after block block.root block.bins_size block.last_writ
 abbrev pub IsSteady : HiveWriter → TreeMap → TreeMap → Type 0
 IsSteady writer held tree = (IsFlushing writer.stage → ⊥) → (writer.base ≡ writer.block) × (held ≡ tree)
 
--- the writer of a clean primary file with this block, and of an unclean one whose log has it
-abbrev pub clean_writer : ℕ → BaseBlock → HiveWriter
-clean_writer hive block = record { hive = hive; base = block; block = block_again block; stage = stage.AtRest; failed = false }
+-- the writer of a clean primary file with this block, for an image of a size with a root; and that of an unclean one
+-- whose log has the block
+abbrev pub clean_writer : ℕ → BaseBlock → ℕ → ℕ → HiveWriter
+clean_writer hive block root size = record {
+  hive = hive;
+  base = block;
+  block = block_after block root size block.last_written block.applied.0;
+  stage = stage.AtRest;
+  failed = false;
+}
 
 abbrev pub unclean_writer : ℕ → BaseBlock → HiveWriter
 unclean_writer hive block = record { hive = hive; base = block; block = block; stage = stage.WritingPages purpose.Repair 0; failed = false }

@@ -3,6 +3,7 @@ use Rattle.std.specs.Prelude.{ℕ, zero, suc, ◌+◌, ◌*◌, ◌/◌, ◌%◌
 use Rattle.std.specs.Cmp.Lexicographic.{pointwise}
 use Rattle.refusals.specs.declared.limits.TheConstants.{MOST_BINS_BYTES}
 use Rattle.base_block.specs.declared.block.BaseBlock.{BaseBlock}
+use Rattle.base_block.specs.declared.block.TheConstants.{MINOR_VERSION, OLDEST_MINOR_VERSION}
 use Rattle.base_block.specs.Layout.{is_clean_block}
 use Rattle.dirty_vector.specs.Pages.{Pages, is_dirty, dirty_count}
 use Rattle.dirt_log.specs.LogEncoding.{bitmap_end, pages_at}
@@ -14,17 +15,21 @@ use Rattle.hive_flush_model.specs.StoredTrees.{TreeDecoder, tree_under}
 abbrev pub is_usable : BaseBlock → Bool
 is_usable b = (b.signature.0 == 0x6667_6572) && ((b.bins_size % 4096 == 0) && (not (b.bins_size == 0) && nat_le b.bins_size MOST_BINS_BYTES))
 
+-- version 1.3 to 1.5, format 1
+abbrev pub is_primary_version : BaseBlock → Bool
+is_primary_version b = (b.major == 1) && (nat_le OLDEST_MINOR_VERSION b.minor && (nat_le b.minor MINOR_VERSION && (b.format == 1)))
+
 -- version 1.5, format 1
-abbrev pub is_of_version : BaseBlock → Bool
-is_of_version b = (b.major == 1) && ((b.minor == 5) && (b.format == 1))
+abbrev pub is_log_version : BaseBlock → Bool
+is_log_version b = (b.major == 1) && ((b.minor == MINOR_VERSION) && (b.format == 1))
 
 -- a block of a primary file that may be used
 abbrev pub is_primary : BaseBlock → Bool
-is_primary b = is_usable b && (is_of_version b && (b.file_type.0 == 0))
+is_primary b = is_usable b && (is_primary_version b && (b.file_type.0 == 0))
 
 -- a block of a whole log
 abbrev pub is_log : BaseBlock → Bool
-is_log b = is_usable b && (is_clean_block b && (is_of_version b && ((b.file_type.0 == 1) || (b.file_type.0 == 2))))
+is_log b = is_usable b && (is_clean_block b && (is_log_version b && ((b.file_type.0 == 1) || (b.file_type.0 == 2))))
 
 -- a whole log
 abbrev pub is_whole : List ℕ → Bool

@@ -4,11 +4,15 @@ use Rattle.refusals.specs.declared.limits.TheConstants.{MOST_WEIGHT}
 use Rattle.refusals.specs.declared.refusal.Refusal.{Refusal}
 use Rattle.refusals.specs.declared.refusal.Refusal.TheVariants.{NoMemory, TooLarge}
 use Rattle.reg_tree.specs.Maps.{TreeMap, weight}
+use Rattle.disk_model.specs.Crash.{LeavesHonest}
 use Rattle.disk_model.specs.FileState.{FileState, at_rest}
 use Rattle.disk_model.specs.StoreFiles.{IsJournal, IsFileOfHive, primary_file, log_file, journal_file}
 use Rattle.commit_journal.specs.Store.{Store, created_bytes}
-use Rattle.hive_flush.specs.Creation.{AreCreated, IsImageOf}
+use Rattle.hive_flush.specs.Creation.{AreCreated, AreCreatedFrom, IsImageOf, IsImageOfFile}
+use Rattle.hive_flush.specs.Decoders.{HiveFilesHold}
 use Rattle.hive_flush.specs.declared.image.HiveImage.{HiveImage}
+use Rattle.engine_invariant.specs.Prefixes.{IsPrimaryOf}
+use Rattle.recovery.specs.Recovered.{IsRecovered, seen_in}
 
 -- the store of these trees' hives that is made under an id
 abbrev pub new_store : List ℕ → List TreeMap → Store
@@ -23,6 +27,22 @@ HivesAreMade id trees state = (i : ℕ) (tree : TreeMap) → slice_get trees i �
 pub record StoreIsCreated (id : List ℕ) (trees : List TreeMap) (state : ℕ → FileState) : Type 0 where
   pub journal : state journal_file ≡ at_rest (created_bytes (new_store id trees))
   pub hives : HivesAreMade id trees state
+
+-- A hive's two files hold a tree at number 0, as a hive of a store, and all of both is on the disk.
+pub record HiveIsDurable (id : List ℕ) (tree : TreeMap) (primary log : FileState) : Type 0 where
+  pub primary_rests : primary ≡ at_rest primary.synced
+  pub log_rests : log ≡ at_rest log.synced
+  pub holds : HiveFilesHold id primary.synced log.synced (tree, 0)
+
+-- the files of hive i hold the i-th tree at number 0, and all of them is on the disk
+abbrev pub HivesAreDurable : List ℕ → List TreeMap → (ℕ → FileState) → Type 0
+HivesAreDurable id trees state = (i : ℕ) (tree : TreeMap) → slice_get trees i ≡ Some tree → HiveIsDurable id tree (state (primary_file i)) (state (log_file i))
+
+-- A store of these trees is durable at number 0 under an id: whatever a crash leaves of its files, with honest first
+-- sectors of its primary files, recovers the trees, as does what a read gives.
+pub record RecoversTrees (id : List ℕ) (trees : List TreeMap) (state : ℕ → FileState) : Type 0 where
+  pub left : (files : ℕ → List ℕ) → LeavesHonest (IsPrimaryOf (length trees)) state files → IsRecovered files (new_store id trees) 0 trees
+  pub seen : IsRecovered (seen_in state) (new_store id trees) 0 trees
 
 -- one of the files of the `hives` hives, and of a store of them
 abbrev pub IsOfHives : ℕ → ℕ → Type 0
@@ -43,9 +63,10 @@ IsRefusedFor trees why = (why ≡ NoMemory) ⊎ ((why ≡ TooLarge) × SomeIsHea
 abbrev pub AreImagesOf : List ℕ → List TreeMap → List HiveImage → Type 0
 AreImagesOf id trees images = (i : ℕ) (image : HiveImage) → slice_get images i ≡ Some image → (tree : TreeMap) → slice_get trees i ≡ Some tree → IsImageOf id tree image
 
--- a hive's two files are made of an image
-abbrev pub IsWritten : HiveImage → FileState → FileState → Type 0
-IsWritten image primary log = (store : List ℕ) (tree : TreeMap) → IsImageOf store tree image → AreCreated store tree primary log
+-- a hive's two files are made of an image, be it one of a tree or of a file
+pub record IsWritten (image : HiveImage) (primary log : FileState) : Type 0 where
+  pub created : (store : List ℕ) (tree : TreeMap) → IsImageOf store tree image → AreCreated store tree primary log
+  pub copied : (store file : List ℕ) (tree : TreeMap) → IsImageOfFile store file tree image → AreCreatedFrom store file tree primary log
 
 -- the files of each hive are made of the image at its index
 abbrev pub AreWritten : List HiveImage → (ℕ → FileState) → Type 0

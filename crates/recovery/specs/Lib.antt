@@ -1,4 +1,5 @@
 pub mod Recovered
+pub mod FileCopies
 pub mod Retained
 pub mod Replays
 pub mod ReplayLaws

@@ -8,7 +8,7 @@ use Rattle.refusals.specs.declared.limits.TheConstants.{MOST_JOURNAL_BYTES}
 use Rattle.commit_journal.specs.Numbered.{NumberedChange}
 use Rattle.commit_journal.specs.Store.{room_of}
 use Rattle.commit_journal.specs.Journals.{choice_of, store_of}
-use Rattle.hive_flush.specs.HiveStates.{dirty_pages, file_choice}
+use Rattle.hive_flush.specs.HiveStates.{dirty_pages, file_choice, repairs_left}
 use Rattle.hive_flush.specs.declared.hive.HiveFile.{HiveFile}
 use Rattle.recovery.specs.Retained.{count_lacked, numbered_changes}
 use Rattle.recovery.specs.declared.found.RecoveredStore.{RecoveredStore}
@@ -28,6 +28,10 @@ repair_text pages = if pages == 0 then [] else codes ", half written in " ++ dec
 abbrev pub applied_text : ℕ → ℕ → List ℕ
 applied_text hive applied = codes "hive " ++ decimal hive ++ codes ": applied " ++ decimal applied
 
+-- how many pages a repair of a hive's file writes: none if no repair is left
+abbrev pub pages_to_repair : HiveFile → ℕ
+pages_to_repair file = if repairs_left file == 0 then 0 else dirty_pages file
+
 abbrev pub state_line : ℕ → ℕ → ℕ → ℕ → List ℕ
 state_line hive applied pages count = applied_text hive applied ++ (repair_text pages ++ lacks_text count)
 
@@ -35,7 +39,7 @@ state_line hive applied pages count = applied_text hive applied ++ (repair_text 
 abbrev pub hive_line : ℕ → List NumberedChange → HiveFile → List ℕ
 hive_line hive changes file =
     let applied = (file_choice file).now.1 in
-    state_line hive applied (dirty_pages file) (count_lacked hive applied changes)
+    state_line hive applied (pages_to_repair file) (count_lacked hive applied changes)
 
 -- the lines of hives, the first of which has this number
 abbrev pub hive_lines : ℕ → List NumberedChange → List HiveFile → List ℕ
