@@ -12,8 +12,11 @@ use uuid::Uuid;
 /// The major version of the profile.
 pub const MAJOR_VERSION: u32 = 1;
 
-/// The minor version of the profile.
+/// The minor version that is written, and the newest one that is read.
 pub const MINOR_VERSION: u32 = 5;
+
+/// The oldest minor version that is read, in a primary file alone.
+pub const OLDEST_MINOR_VERSION: u32 = 3;
 
 /// The file format of the profile.
 pub const FILE_FORMAT: u32 = 1;
@@ -60,10 +63,16 @@ pub struct BaseBlock {
 }
 
 impl BaseBlock {
-    /// A clean block of a primary file of the profile, which was never written since it was made.
-    /// It was last written at 0, and no change is applied.
-    pub fn of_primary(number: SequenceNumber, root: u32, bins_size: u32, store: Uuid) -> BaseBlock
-        ensures { result ≡ fresh_primary number.0 root bins_size store }
+    /// A clean block of a primary file of a minor version, which was never written since it was
+    /// made. It was last written at 0, and no change is applied.
+    pub fn of_primary(
+        number: SequenceNumber,
+        minor: u32,
+        root: u32,
+        bins_size: u32,
+        store: Uuid,
+    ) -> BaseBlock
+        ensures { result ≡ fresh_primary number.0 minor root bins_size store }
     {
         BaseBlock {
             signature: Signature::REGF,
@@ -71,7 +80,7 @@ impl BaseBlock {
             secondary: number,
             last_written: 0,
             major: MAJOR_VERSION,
-            minor: MINOR_VERSION,
+            minor,
             file_type: FileType::PRIMARY,
             format: FILE_FORMAT,
             root,

@@ -4,7 +4,7 @@
 ghost use Rattle.std.specs.Prelude.{◌≡◌, ◌↔◌, IsOk, IfErr, IsTrue};
 ghost use Rattle.base_block.specs.Judgements.{IsPrimary, IsLog, IsUsable, IsBinsSize, IsPrimaryVersion, IsLogVersion, PrimaryRefused};
 
-use crate::block::{BaseBlock, FILE_FORMAT, MAJOR_VERSION, MINOR_VERSION};
+use crate::block::{BaseBlock, FILE_FORMAT, MAJOR_VERSION, MINOR_VERSION, OLDEST_MINOR_VERSION};
 use crate::fields::{FileType, Signature};
 use refusals::limits::MOST_BINS_BYTES;
 use refusals::{Cause, Refusal};
@@ -17,6 +17,8 @@ const _: () = prove!(MAJOR_VERSION == 1);
 
 const _: () = prove!(MINOR_VERSION == 5);
 
+const _: () = prove!(OLDEST_MINOR_VERSION == 3);
+
 const _: () = prove!(FILE_FORMAT == 1);
 
 const _: () = prove!(BIN_BYTES == 4096);
@@ -25,7 +27,7 @@ impl BaseBlock {
     /// Judges the block of a primary file that is used. Refused with `HiveDamaged` of hive 0 and
     /// the cause `BadBase` if the signature isn't `regf`. Refused so too if the bins size is 0 or
     /// no multiple of 4,096. Refused with `Unsupported` if a version, the format or the type is
-    /// outside a primary file's profile (1.5, format 1, type 0). Refused with `TooLarge` if the
+    /// outside a primary file's profile (1.3 to 1.5, format 1, type 0). Refused with `TooLarge` if the
     /// bins size is over the limit. If several of these hold, one of them is reported.
     pub fn judge_primary(&self) -> Result<(), Refusal>
         ensures ok { IsOk result ↔ IsPrimary self.now }
@@ -72,7 +74,10 @@ impl BaseBlock {
     fn is_primary_version(&self) -> bool
         ensures { IsTrue result ↔ IsPrimaryVersion self.now }
     {
-        self.major == MAJOR_VERSION && self.minor == MINOR_VERSION && self.format == FILE_FORMAT
+        self.major == MAJOR_VERSION
+            && self.minor >= OLDEST_MINOR_VERSION
+            && self.minor <= MINOR_VERSION
+            && self.format == FILE_FORMAT
     }
 
     // whether a log may have them

@@ -11,6 +11,6 @@ mod fields;
 mod judgement;
 mod sums;
 
-pub use block::{BaseBlock, FILE_FORMAT, MAJOR_VERSION, MINOR_VERSION};
+pub use block::{BaseBlock, FILE_FORMAT, MAJOR_VERSION, MINOR_VERSION, OLDEST_MINOR_VERSION};
 pub use fields::{AppliedNumber, FileType, SequenceNumber, Signature};
 pub use sums::{sum, sum_is_of_words};

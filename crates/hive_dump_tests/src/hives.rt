@@ -1,5 +1,5 @@
 //! A hive's file, written by hand.
-use base_block::{BaseBlock, SequenceNumber};
+use base_block::{BaseBlock, MINOR_VERSION, SequenceNumber};
 use std::alloc::{AllocError, Global};
 use uuid::Uuid;
 
@@ -30,7 +30,7 @@ const BEHIND: usize = 3_584;
 
 /// The file, and some more bytes after it.
 pub fn file(alloc: Global, more: &[u8]) -> Result<Vec<u8>, AllocError> {
-    let block = BaseBlock::of_primary(SequenceNumber(1), 32, 4_096, Uuid::nil());
+    let block = BaseBlock::of_primary(SequenceNumber(1), MINOR_VERSION, 32, 4_096, Uuid::nil());
     let mut file = Vec::new(alloc);
     file.extend_from_slice(&block.write())?;
     file.extend_from_slice(&[0; BEHIND])?;

@@ -1,7 +1,7 @@
 //! A hive on a disk in memory.
 ghost use Rattle.hive_flush.specs.HiveStates.{HiveIsRepaired};
 
-use base_block::{BaseBlock, SequenceNumber};
+use base_block::{BaseBlock, MINOR_VERSION, SequenceNumber};
 use change_codec::EncodedChange;
 use disk_model::{Disk, MemDisk, Plan, Progress, Tear};
 use hive_emit::{Emitted, emit};
@@ -30,7 +30,13 @@ pub fn fresh(alloc: Global, number: u32) -> Result<MemDisk, Refusal> {
     let Ok(size) = u32::try_from(bins.len()) else {
         return Err(Refusal::TooLarge);
     };
-    let block = BaseBlock::of_primary(SequenceNumber(number), root, size, Uuid::nil());
+    let block = BaseBlock::of_primary(
+        SequenceNumber(number),
+        MINOR_VERSION,
+        root,
+        size,
+        Uuid::nil(),
+    );
     let mut disk = MemDisk::new(alloc, Arc::new(alloc, Plan::new())?);
     disk.write_at(PRIMARY, 0, &block.write())?;
     disk.write_at(PRIMARY, 4_096, &bins)?;

@@ -1,6 +1,6 @@
 //! How long a flush of one changed value takes, and what it writes.
 use crate::bench::{letters, now, trees_after};
-use base_block::{BaseBlock, SequenceNumber};
+use base_block::{BaseBlock, MINOR_VERSION, SequenceNumber};
 use change_codec::EncodedChange;
 use dirty_vector::PAGE_BYTES;
 use disk_model::{Disk, MemDisk, Plan, Progress};
@@ -172,7 +172,7 @@ fn write_primary(disk: &mut MemDisk, root: u32, bins: &[u8]) -> Result<(), Fault
     let Ok(size) = u32::try_from(bins.len()) else {
         return Err(Fault::Otherwise("too many bytes"));
     };
-    let block = BaseBlock::of_primary(SequenceNumber(1), root, size, Uuid::nil());
+    let block = BaseBlock::of_primary(SequenceNumber(1), MINOR_VERSION, root, size, Uuid::nil());
     disk.write_at(PRIMARY, 0, &block.write())?;
     disk.write_at(PRIMARY, BINS_AT, bins)?;
     disk.sync(PRIMARY)?;

@@ -1,7 +1,7 @@
 //! Calls without a store that take no memory, made after a growth that may be refused, and with it all others: they
 //! answer as with memory.
 use crate::oom::asks::{Change, op_of};
-use base_block::{BaseBlock, SequenceNumber, sum};
+use base_block::{BaseBlock, MINOR_VERSION, SequenceNumber, sum};
 use conflicts::{claims, conflict};
 use dirty_vector::DirtyVector;
 use reg_names::{Path, folded_unit};
@@ -124,7 +124,7 @@ fn expect_sums() -> Result<(), Fault> {
 
 // a new block of one page of bins data: its sum, and itself again
 fn expect_block() -> Result<(), Fault> {
-    let block = BaseBlock::of_primary(SequenceNumber(1), 32, 4_096, Uuid::nil());
+    let block = BaseBlock::of_primary(SequenceNumber(1), MINOR_VERSION, 32, 4_096, Uuid::nil());
     let sector = block.write();
     expect(
         sector.ends_with(&[0x56, 0x75, 0x67, 0x66]),
