@@ -10,16 +10,12 @@ ghost use Rattle.hive_load.specs.Roots.{LoadsRoot, RefusesRoot};
 use crate::keys::load_key;
 use hive_cells::{Image, Looks};
 use hive_load_parts::{Descriptors, Flags};
+use hive_records::has_segments;
 use refusals::limits::{MOST_PATH_NAMES, MOST_WEIGHT};
 use refusals::{Cause, Refusal};
 use reg_tree::Tree;
 use reg_tree_parts::Node;
 use std::alloc::{AllocError, Global};
-
-// the least minor version whose big data lie in segments
-const SPLITTING_MINOR: u32 = 4;
-
-const _: () = prove!(SPLITTING_MINOR == 4);
 
 // bytes in which at most one cell begins
 const FLAGGED_BYTES: usize = 8;
@@ -86,7 +82,7 @@ pub fn load(
 {
     image.tiles(0); // for the prover
     let mut seen = flags_for(alloc, image.len())?;
-    let split = minor >= SPLITTING_MINOR;
+    let split = has_segments(minor);
     let node = match load_root(alloc, image, &mut seen, looks, split, root) {
         Ok(node) => node,
         Err(refusal) => return Err(refusal),

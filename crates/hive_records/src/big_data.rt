@@ -1,5 +1,6 @@
 //! Big data, which lie in segments.
 ghost use Rattle.std.specs.Prelude.{◌≡◌, MatchResult, Some, None};
+ghost use Rattle.hive_records.specs.Images.{splits};
 ghost use Rattle.hive_records.specs.Values.{segments_of};
 
 use crate::numbers::{begins_with, u16_at, u32_at};
@@ -14,9 +15,22 @@ const FIELDS: usize = 8;
 /// The bytes of each segment but the last.
 pub const SEGMENT_BYTES: usize = 16_344;
 
+// the least minor version whose big data lie in segments
+const SEGMENTS_FROM_MINOR: u32 = 4;
+
 const _: () = prove!(LETTERS == 0x6264);
 
+const _: () = prove!(SEGMENTS_FROM_MINOR == 4);
+
 const _: () = prove!(SEGMENT_BYTES == 16_344);
+
+/// Whether data of more than one segment's bytes lie in segments in a hive of a minor version. They lie in one cell
+/// below version 4.
+pub fn has_segments(minor: u32) -> bool
+    ensures { result ≡ splits minor }
+{
+    minor >= SEGMENTS_FROM_MINOR
+}
 
 /// How many segments data of a size lie in.
 pub fn segment_count(size: u32) -> usize

@@ -25,7 +25,7 @@ mod security_cell;
 mod stored_name;
 mod value_record;
 
-pub use big_data::{BigData, SEGMENT_BYTES, segment_count};
+pub use big_data::{BigData, SEGMENT_BYTES, has_segments, segment_count};
 pub use encoder::{
     put_big_data, put_hashed, put_hashed_head, put_indirect, put_key_node, put_large_value,
     put_offsets, put_plain_leaf, put_security, put_small_value,

@@ -14,28 +14,17 @@ use crate::errors::{ImageError, refused_at};
 use crate::siblings::{Sibling, are_named};
 use hive_cells::{Image, Looks};
 use hive_load_parts::{Descriptors, Flags, key};
+use hive_records::has_segments;
 use key_walk::KeyPath;
 use refusals::limits::MOST_PATH_NAMES;
 use refusals::{Cause, Refusal};
 use reg_names::Name;
 use std::alloc::{AllocError, Global};
 
-// the least minor version whose big data lie in segments
-const SPLITTING_MINOR: u32 = 4;
-
-const _: () = prove!(SPLITTING_MINOR == 4);
-
 // bytes in which at most one cell begins
 const FLAGGED_BYTES: usize = 8;
 
 const _: () = prove!(FLAGGED_BYTES == 8);
-
-/// Whether big data lie in segments in a hive of this minor version.
-pub(crate) fn is_split(minor: u32) -> bool
-    ensures { result ≡ splits minor }
-{
-    minor >= SPLITTING_MINOR
-}
 
 /// A flag for each cell that may be in this many bytes, none of them set.
 pub(crate) fn flags_for(alloc: Global, bytes: usize) -> Result<Flags, AllocError>
@@ -231,5 +220,5 @@ pub(crate) fn judge(alloc: Global, image: &Image, root: u32, minor: u32) -> Resu
 {
     image.tiles(0); // for the prover
     let mut seen = flags_for(alloc, image.len())?;
-    judge_root(alloc, image, &mut seen, is_split(minor), root)
+    judge_root(alloc, image, &mut seen, has_segments(minor), root)
 }

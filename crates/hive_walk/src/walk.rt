@@ -21,10 +21,11 @@ ghost use Rattle.hive_walk.specs.Walks.{KeysAreSound, KeyIsSound, AreUnmarked, M
 
 use crate::errors::{ImageError, WalkError, refused_at};
 use crate::fields::key_name;
-use crate::judgement::{flags_for, is_split, judge};
+use crate::judgement::{flags_for, judge};
 use crate::siblings::{Sibling, in_order};
 use hive_cells::{Image, Looks};
 use hive_load_parts::{Descriptors, Flags, key};
+use hive_records::has_segments;
 use key_walk::{KeyPath, KeySink};
 use refusals::limits::MOST_PATH_NAMES;
 use std::alloc::Global;
@@ -205,7 +206,7 @@ pub(crate) fn walk_judged<S: KeySink>(
         Err(_) => return Err(WalkError::Image(ImageError::NoMemory)),
     };
     let mut known = Descriptors::new(alloc);
-    let split = is_split(minor);
+    let split = has_segments(minor);
     let path = KeyPath::Root;
     walk_key(
         alloc,

@@ -1,4 +1,4 @@
-use Rattle.std.proofs.Common.{◌≡◌, ◌≤◌, ◌<◌, nat_le, min, ℕ, refl, sym, subst, arith, rules}
+use Rattle.std.proofs.Common.{◌≡◌, ◌≤◌, ◌<◌, min, ℕ, refl, sym, subst, arith, rules}
 use Rattle.refusals.specs.declared.refusal.Refusal.TheVariants.{TooLarge}
 use Rattle.refusals.specs.declared.limits.TheConstants.{MOST_WEIGHT}
 use Rattle.std.below.core.specs.declared.int.u64.TheConstants.{MAX}
@@ -18,28 +18,28 @@ light all kept e h = search (rules, arith)
 pub returns-in-Err-clause-refused : goal.returns-in-Err-clause-refused
 returns-in-Err-clause-refused c =
     let shown = c.tiles.ensures.shown in
-    refused_for c.args.image.now.bytes c.args.root c.args.minor (nat_le 4 c.args.minor) refl shown.0 shown.1 c.in-Err.refusal (c.in-Err.ensures.answers shown.0 shown.1)
+    refused_for c.args.image.now.bytes c.args.root c.args.minor c.has_segments-split.result c.has_segments-split.ensures shown.0 shown.1 c.in-Err.refusal (c.in-Err.ensures.answers shown.0 shown.1)
 
 pub returns-then-weight-gt-MOST_WEIGHT-clause-refused : goal.returns-then-weight-gt-MOST_WEIGHT-clause-refused
 returns-then-weight-gt-MOST_WEIGHT-clause-refused c =
     let shown = c.tiles.ensures.shown in
-    too_heavy c.args.image.now.bytes c.args.root c.args.minor (nat_le 4 c.args.minor) refl shown.0 shown.1 c.in-Ok.node (c.in-Ok.ensures.answers shown.0 shown.1) c.in-Ok.ensures.node c.tiles.ensures.tiles
+    too_heavy c.args.image.now.bytes c.args.root c.args.minor c.has_segments-split.result c.has_segments-split.ensures shown.0 shown.1 c.in-Ok.node (c.in-Ok.ensures.answers shown.0 shown.1) c.in-Ok.ensures.node c.tiles.ensures.tiles
     (heavy (entries_weight c.in-Ok.node) c.weight.result c.weight.ensures c.if-weight-gt-MOST_WEIGHT.true) TooLarge refl
 
 pub from_root-requires : goal.from_root-requires
 from_root-requires c =
     let shown = c.tiles.ensures.shown in
-    is_encodable c.args.image.now.bytes c.args.root c.args.minor (nat_le 4 c.args.minor) refl shown.0 shown.1 c.in-Ok.node (c.in-Ok.ensures.answers shown.0 shown.1) c.in-Ok.ensures.node c.tiles.ensures.bytes
+    is_encodable c.args.image.now.bytes c.args.root c.args.minor c.has_segments-split.result c.has_segments-split.ensures shown.0 shown.1 c.in-Ok.node (c.in-Ok.ensures.answers shown.0 shown.1) c.in-Ok.ensures.node c.tiles.ensures.bytes
 
 pub returns-clause-stands : goal.returns-clause-stands
 returns-clause-stands c =
     let shown = c.tiles.ensures.shown in
     subst (λ (tree : TreeMap). BinsEncodeTree c.args.image.now.bytes c.args.root c.args.minor tree) (sym c.in_ok-from_root.ensures)
-    (stands_for c.args.image.now.bytes c.args.root c.args.minor (nat_le 4 c.args.minor) refl shown.0 shown.1 c.in-Ok.node (c.in-Ok.ensures.answers shown.0 shown.1) c.in-Ok.ensures.node c.tiles.ensures.tiles)
+    (stands_for c.args.image.now.bytes c.args.root c.args.minor c.has_segments-split.result c.has_segments-split.ensures shown.0 shown.1 c.in-Ok.node (c.in-Ok.ensures.answers shown.0 shown.1) c.in-Ok.ensures.node c.tiles.ensures.tiles)
 
 pub returns-clause-within : goal.returns-clause-within
 returns-clause-within c =
     let shown = c.tiles.ensures.shown in
     subst (λ (tree : TreeMap). TreeIsInLimits tree) (sym c.in_ok-from_root.ensures)
-    (is_within c.args.image.now.bytes c.args.root c.args.minor (nat_le 4 c.args.minor) refl shown.0 shown.1 c.in-Ok.node (c.in-Ok.ensures.answers shown.0 shown.1) c.in-Ok.ensures.node
+    (is_within c.args.image.now.bytes c.args.root c.args.minor c.has_segments-split.result c.has_segments-split.ensures shown.0 shown.1 c.in-Ok.node (c.in-Ok.ensures.answers shown.0 shown.1) c.in-Ok.ensures.node
     (light (entries_weight c.in-Ok.node) c.weight.result c.weight.ensures c.if-weight-gt-MOST_WEIGHT.false))
