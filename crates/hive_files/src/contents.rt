@@ -1,6 +1,7 @@
 //! What is found in a hive's two files.
-ghost use Rattle.std.specs.Prelude.{◌≡◌, length};
-ghost use Rattle.hive_files.specs.Blocks.{IsPlanned};
+ghost use Rattle.std.specs.Prelude.{◌≡◌, false, length};
+ghost use Rattle.base_block.specs.declared.block.TheConstants.{MINOR_VERSION};
+ghost use Rattle.hive_files.specs.Blocks.{IsBlockFor};
 
 use base_block::BaseBlock;
 use dirty_vector::DirtyVector;
@@ -17,5 +18,7 @@ pub struct HiveContents {
     /// Whether the primary file is clean.
     pub is_clean: bool,
     pub ghost sizes: { length bins.items ≡ pages.bins_size },
-    pub ghost planned: { IsPlanned block pages },
+    pub ghost used: { IsBlockFor block pages },
+    // what a log repairs is of the version that is written
+    pub ghost repaired: { is_clean ≡ false → block.minor ≡ MINOR_VERSION },
 }

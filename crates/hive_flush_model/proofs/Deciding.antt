@@ -6,14 +6,15 @@ use Rattle.std.specs.Bool.{MatchBool}
 use Rattle.std.proofs.lemmas.Bool.{cases_Bool, cases_eq, eq-eqb, ne_eqb, le-leb, leb-true, eqb-true, and_from, and_parts, MatchBool-at_true, MatchBool-at_false}
 use Rattle.std.proofs.lemmas.Option.{same_Some, none-some}
 use Rattle.base_block.specs.declared.block.BaseBlock.{BaseBlock}
-use Rattle.base_block.specs.Judgements.{IsUsable, IsPrimaryVersion, IsPrimary, IsLog}
+use Rattle.base_block.specs.declared.block.TheConstants.{MINOR_VERSION, OLDEST_MINOR_VERSION}
+use Rattle.base_block.specs.Judgements.{IsUsable, IsPrimaryVersion, IsLogVersion, IsPrimary, IsLog}
 use Rattle.dirty_vector.specs.Pages.{Pages, is_dirty, dirty_count}
 use Rattle.dirt_log.specs.LogEncoding.{bitmap_end, pages_at}
 use Rattle.dirt_log.specs.WholeLog.{LogIsWhole, IsCovered, block_of, pages_in, page_bytes_in, repaired}
 use Rattle.dirt_log.specs.FileContents.{is_clean_file, PrimaryDecodesTo, LogRepairsTo}
 use Rattle.hive_flush_model.specs.StoredTrees.{TreeDecoder, tree_under, FilesHoldTree}
 use Rattle.hive_flush_model.proofs.StoredTrees.{true_false}
-use Rattle.hive_flush_model.specs.Decisions.{is_usable, is_of_version, is_primary, is_log, is_whole, covers_below, with_number, held_by_clean, held_by_log, held}
+use Rattle.hive_flush_model.specs.Decisions.{is_usable, is_primary_version, is_log_version, is_primary, is_log, is_whole, covers_below, with_number, held_by_clean, held_by_log, held}
 
 or_left : (x y : Bool) → x ≡ true → (x || y) ≡ true
 or_left x y e = ap (λ (b : Bool). b || y) e
@@ -26,14 +27,19 @@ usable_test b h =
     and_from _ _ (eq-eqb b.signature.0 1718052210 h.signature)
     (and_from _ _ (eq-eqb (b.bins_size % 4096) 0 h.bins_size.0) (and_from _ _ (ap not (ne_eqb b.bins_size 0 h.bins_size.1)) (le-leb b.bins_size 67108864 h.within)))
 
-version_test : (b : BaseBlock) → IsPrimaryVersion b → is_of_version b ≡ true
-version_test b h = and_from _ _ (eq-eqb b.major 1 h.0) (and_from _ _ (eq-eqb b.minor 5 h.1) (eq-eqb b.format 1 h.2))
+primary_version_test : (b : BaseBlock) → IsPrimaryVersion b → is_primary_version b ≡ true
+primary_version_test b h =
+    and_from _ _ (eq-eqb b.major 1 h.0)
+    (and_from _ _ (le-leb OLDEST_MINOR_VERSION b.minor h.1) (and_from _ _ (le-leb b.minor MINOR_VERSION h.2) (eq-eqb b.format 1 h.3)))
+
+log_version_test : (b : BaseBlock) → IsLogVersion b → is_log_version b ≡ true
+log_version_test b h = and_from _ _ (eq-eqb b.major 1 h.0) (and_from _ _ (eq-eqb b.minor MINOR_VERSION h.1) (eq-eqb b.format 1 h.2))
 
 primary_test : (b : BaseBlock) → IsPrimary b → is_primary b ≡ true
-primary_test b h = and_from _ _ (usable_test b h.0) (and_from _ _ (version_test b h.1) (eq-eqb b.file_type.0 0 h.2))
+primary_test b h = and_from _ _ (usable_test b h.0) (and_from _ _ (primary_version_test b h.1) (eq-eqb b.file_type.0 0 h.2))
 
 log_test : (b : BaseBlock) → IsLog b → is_log b ≡ true
-log_test b h = and_from _ _ (usable_test b h.0) (and_from _ _ h.1 (and_from _ _ (version_test b h.2) (elim h.3 [
+log_test b h = and_from _ _ (usable_test b h.0) (and_from _ _ h.1 (and_from _ _ (log_version_test b h.2) (elim h.3 [
   | inl e ↦ or_left (eqb b.file_type.0 1) (eqb b.file_type.0 2) (eq-eqb b.file_type.0 1 e)
   | inr e ↦ or_right (eqb b.file_type.0 1) (eqb b.file_type.0 2) (eq-eqb b.file_type.0 2 e)
 ])))
@@ -103,17 +109,24 @@ usable_back b e =
       within = leb-true b.bins_size 67108864 d.1;
     }
 
-version_back : (b : BaseBlock) → is_of_version b ≡ true → IsPrimaryVersion b
-version_back b e =
+primary_version_back : (b : BaseBlock) → is_primary_version b ≡ true → IsPrimaryVersion b
+primary_version_back b e =
     let a = and_parts _ _ e in
     let c = and_parts _ _ a.1 in
-    (eqb-true b.major 1 a.0, eqb-true b.minor 5 c.0, eqb-true b.format 1 c.1)
+    let d = and_parts _ _ c.1 in
+    (eqb-true b.major 1 a.0, leb-true OLDEST_MINOR_VERSION b.minor c.0, leb-true b.minor MINOR_VERSION d.0, eqb-true b.format 1 d.1)
+
+log_version_back : (b : BaseBlock) → is_log_version b ≡ true → IsLogVersion b
+log_version_back b e =
+    let a = and_parts _ _ e in
+    let c = and_parts _ _ a.1 in
+    (eqb-true b.major 1 a.0, eqb-true b.minor MINOR_VERSION c.0, eqb-true b.format 1 c.1)
 
 primary_back : (b : BaseBlock) → is_primary b ≡ true → IsPrimary b
 primary_back b e =
     let a = and_parts _ _ e in
     let c = and_parts _ _ a.1 in
-    (usable_back b a.0, version_back b c.0, eqb-true b.file_type.0 0 c.1)
+    (usable_back b a.0, primary_version_back b c.0, eqb-true b.file_type.0 0 c.1)
 
 or_cases : (x y : Bool) → (x || y) ≡ true → (x ≡ true) ⊎ (y ≡ true)
 or_cases x y e = elim (cases_Bool x) [ inl t ↦ inl t | inr f ↦ inr (sym (ap (λ (b : Bool). b || y) f) ∙ e) ]
@@ -123,7 +136,7 @@ log_back b e =
     let a = and_parts _ _ e in
     let c = and_parts _ _ a.1 in
     let d = and_parts _ _ c.1 in
-    (usable_back b a.0, c.0, version_back b d.0, elim (or_cases (eqb b.file_type.0 1) (eqb b.file_type.0 2) d.1) [ inl k ↦ inl (eqb-true b.file_type.0 1 k) | inr k ↦ inr (eqb-true b.file_type.0 2 k) ])
+    (usable_back b a.0, c.0, log_version_back b d.0, elim (or_cases (eqb b.file_type.0 1) (eqb b.file_type.0 2) d.1) [ inl k ↦ inl (eqb-true b.file_type.0 1 k) | inr k ↦ inr (eqb-true b.file_type.0 2 k) ])
 
 whole_back : (log : List ℕ) → is_whole log ≡ true → LogIsWhole log
 whole_back log e =

@@ -3,6 +3,7 @@ use Rattle.std.proofs.Common.{◌≡◌, ◌≢◌, ℕ, ◌+◌, ◌*◌, ◌/�
 use Rattle.std.proofs.lemmas.Bool.{ne_eqb, eqb-true, and_parts}
 use Rattle.std.proofs.lemmas.List.FromFn.{get_or-map-range_with_len, length-map-range_with_len}
 use Rattle.base_block.specs.declared.block.BaseBlock.{BaseBlock}
+use Rattle.base_block.specs.Judgements.{IsLogVersion, IsPrimaryVersion}
 use Rattle.base_block.specs.Layout.{block_at, is_clean_block}
 use Rattle.base_block.specs.Numbers.{number_after}
 use Rattle.dirty_vector.specs.Marks.{marked_count}
@@ -12,6 +13,10 @@ use Rattle.dirt_log.specs.WholeLog.{LogIsWhole, IsCovered, IsLoggable, LogDecode
 use Rattle.dirt_log.proofs.Replaced.{repairs, repaired_same}
 use Rattle.hive_flush_model.specs.StoredTrees.{TreeDecoder, tree_under}
 use Rattle.hive_flush_model.specs.Plans.{FlushPlan, PlanFitsImage, IsBehind}
+
+-- a version that is written may be read
+as_primary_version : (b : BaseBlock) → IsLogVersion b → IsPrimaryVersion b
+as_primary_version b h = (h.0, omega (arith, h), omega (arith, h), h.2)
 
 -- also if it wraps
 next_differs : (n : ℕ) → n < 2 ^ 32 → number_after n ≢ n
@@ -30,7 +35,7 @@ ready decode memory image v old plan size loggable kind tree number fits raised_
     let whole : v.bins_size % 4096 ≡ 0 = subst (λ (n : ℕ). n % 4096 ≡ 0) loggable.size loggable.usable.bins_size.0 in
     record {
       size = size;
-      own = (loggable.usable, loggable.version, kind);
+      own = (loggable.usable, as_primary_version plan.block loggable.version, kind);
       equal = loggable.equal;
       bins = loggable.size;
       tree = tree;
@@ -76,7 +81,7 @@ ready_again decode memory old primary log raised final whole covered tree number
     let b = block_of log in (
       record {
         size = repaired_long bins v bytes;
-        own = (record { signature = whole.block.0.signature; bins_size = whole.block.0.bins_size; within = whole.block.0.within }, whole.block.2, refl);
+        own = (record { signature = whole.block.0.signature; bins_size = whole.block.0.bins_size; within = whole.block.0.within }, as_primary_version b whole.block.2, refl);
         equal = eqb-true b.primary.0 b.secondary.0 (and_parts _ _ whole.block.1).1;
         bins = refl;
         tree = tree;

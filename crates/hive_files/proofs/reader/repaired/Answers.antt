@@ -23,11 +23,12 @@ invariant_of-result c =
     let b = c.args.log.base in
     record {
       sizes = ap (λ (l : List ℕ). length l) c.in-Ok.ensures.ok ∙ repaired_long c.args.bins.items c.args.log.vector c.args.log.pages.now;
-      planned = record {
-        own = (record { signature = used.0.signature; bins_size = used.0.bins_size; within = used.0.within }, used.2, refl);
+      used = record {
+        own = (record { signature = used.0.signature; bins_size = used.0.bins_size; within = used.0.within }, (used.2.0, omega (arith, used.2.1), omega (arith, used.2.1), used.2.2), refl);
         equal = eqb-true b.primary.0 b.secondary.0 (and_parts _ _ used.1).1;
         size = c.requires.used.1;
       };
+      repaired = λ unclean. used.2.1;
     }
 
 pub returns-clause-found : goal.returns-clause-found
