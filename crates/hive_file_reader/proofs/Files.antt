@@ -26,11 +26,14 @@ pub some_as : {A : Type 0} {P Q : A → Type 0} (known : Option A) → ((x : A) 
 some_as None f h = tt
 some_as (Some x) f h = f x h
 
--- bytes that were read are the file's first ones, and all of it if no more were there
+-- bytes that were read are the file's first ones, and all of it if they are fewer than were asked for
+pub read_first : (size : ℕ) (known now : Option (List ℕ)) (front : List ℕ) → Consumes known now front → (length front < size → IsAtEnd now) → IfSome known (λ file. (rest : List ℕ) × (file ≡ front ++ rest) × (length front < size → rest ≡ []))
+read_first size None now front read end = tt
+read_first size (Some file) None front read end = absurd read
+read_first size (Some file) (Some rest) front read end = (rest, read, end)
+
 pub read_front : (known now : Option (List ℕ)) (head : List ℕ) → Consumes known now head → (length head < 4096 → IsAtEnd now) → IfSome known (IsFilePrefix head)
-read_front None now head read end = tt
-read_front (Some file) None head read end = absurd read
-read_front (Some file) (Some rest) head read end = (rest, read, end)
+read_front known now head read end = read_first 4096 known now head read end
 
 -- a front of fewer than 4,096 bytes is the file
 whole_front : (file front : List ℕ) → IsFilePrefix front file → length front < 4096 → length file ≡ length front
@@ -74,7 +77,7 @@ read_own (Some file) (Some rest) None head bins block a b long size has = absurd
 read_own (Some file) (Some rest) (Some tail) head bins block a b long size has = (has, own_bins file head rest bins tail block a long b has size)
 
 -- a file that ends before its bins data do
-cut_short : (file : List ℕ) (block : BaseBlock) → FileHasBlock file block → length file < 4096 + block.bins_size → FileLacksBins file (refusal.HiveDamaged 0 cause.Truncated)
+pub cut_short : (file : List ℕ) (block : BaseBlock) → FileHasBlock file block → length file < 4096 + block.bins_size → FileLacksBins file (refusal.HiveDamaged 0 cause.Truncated)
 cut_short file block has short =
     not_usable (refusal.HiveDamaged 0 cause.Truncated) has.clean (inr (refl, subst IsPrimary has.read has.judged, subst (λ (b : BaseBlock). length file < 4096 + b.bins_size) has.read short))
 
@@ -141,7 +144,7 @@ told_cut file front block is has short = cut_short file block has (omega (arith,
 -- ---- a file holds a tree or none
 
 -- the block and the bins data of a file are the only ones
-same_block : (file : List ℕ) (block other : BaseBlock) → block ≡ block_of file → other ≡ block_of file → block ≡ other
+pub same_block : (file : List ℕ) (block other : BaseBlock) → block ≡ block_of file → other ≡ block_of file → block ≡ other
 same_block file block other e o = e ∙ sym o
 
 same_bins : (file bins others : List ℕ) (block other : BaseBlock) → PrimaryDecodesTo file block bins → PrimaryDecodesTo file other others → bins ≡ others
@@ -190,8 +193,16 @@ unusable block refusal.Faulted h judged = h
 unusable block refusal.JournalDamaged h judged = h
 unusable block refusal.Fixed h judged = h
 
-clean_here : (file : List ℕ) → is_clean_file file ≡ true → is_clean_block (block_of file) ≡ true
+pub clean_here : (file : List ℕ) → is_clean_file file ≡ true → is_clean_block (block_of file) ≡ true
 clean_here file clean = (and_parts (nat_le 512 (length file)) (is_clean_block (block_of file)) clean).1
+
+-- a file that has a block and as many bytes as it says lacks no bins data
+pub lacks_none : (file : List ℕ) (block : BaseBlock) (why : Refusal) → FileHasBlock file block → 4096 + block.bins_size ≤ length file → FileLacksBins file why → ⊥
+lacks_none file block why has long (no_sector short) = let no : ⊥ = omega (arith, short, long) in no
+lacks_none file block why has long (no_signature there other) = other (subst (λ (b : BaseBlock). b.signature.0 ≡ 0x6667_6572) has.read has.judged.0.signature)
+lacks_none file block why has long (not_clean there unclean) = let no : ⊥ = let e : true ≡ false = sym (clean_here file has.clean) ∙ unclean in cc in no
+lacks_none file block why has long (not_usable _ clean (inl refused)) = unusable (block_of file) why refused (subst IsPrimary has.read has.judged)
+lacks_none file block why has long (not_usable _ clean (inr (is, judged, short))) = omega (arith, short, ap (λ (b : BaseBlock). b.bins_size) has.read, long)
 
 -- the bins data that are refused are those of the tree
 other_bins : ((bytes : List ℕ) (root minor : ℕ) (why : Refusal) → BinsRefused bytes root minor why → why ≢ refusal.NoMemory → (tree : TreeMap) → BinsEncodeTreeInLimits bytes root minor tree → ⊥)
@@ -204,11 +215,7 @@ other_bins law file why block bins has refused some tree holds =
 
 pub none_held : ((bytes : List ℕ) (root minor : ℕ) (why : Refusal) → BinsRefused bytes root minor why → why ≢ refusal.NoMemory → (tree : TreeMap) → BinsEncodeTreeInLimits bytes root minor tree → ⊥)
     → (file : List ℕ) (why : Refusal) → FileHoldsNoHive file why → why ≢ refusal.NoMemory → (tree : TreeMap) → FileHoldsHive file tree → ⊥
-none_held law file why (no_bins _ (lacks_bins _ (no_sector short))) some tree holds = let no : ⊥ = omega (arith, short, holds.own.long) in no
-none_held law file why (no_bins _ (lacks_bins _ (no_signature long other))) some tree holds = other (subst (λ (b : BaseBlock). b.signature.0 ≡ 0x6667_6572) holds.has.read holds.has.judged.0.signature)
-none_held law file why (no_bins _ (lacks_bins _ (not_clean long unclean))) some tree holds = let no : ⊥ = let e : true ≡ false = sym (clean_here file holds.has.clean) ∙ unclean in cc in no
-none_held law file why (no_bins _ (lacks_bins _ (not_usable _ clean (inl refused)))) some tree holds = unusable (block_of file) why refused (subst IsPrimary holds.has.read holds.has.judged)
-none_held law file why (no_bins _ (lacks_bins _ (not_usable _ clean (inr (is, judged, short))))) some tree holds = omega (arith, short, ap (λ (b : BaseBlock). b.bins_size) holds.has.read, holds.own.long)
+none_held law file why (no_bins _ (lacks_bins _ lacks)) some tree holds = lacks_none file holds.block why holds.has holds.own.long lacks
 none_held law file why (no_bins _ (not_tiled _ block bins has refused)) some tree holds = other_bins law file why block bins has (inl refused) some tree holds
 none_held law file why (not_loaded _ block bins has refused) some tree holds = other_bins law file why block bins has (inr refused) some tree holds
 

@@ -1,5 +1,6 @@
 //! Bytes of a reader, as far as there are any.
-ghost use Rattle.std.specs.Prelude.{◌≡◌, ◌≤◌, ◌<◌, length, take, IfOk};
+ghost use Rattle.std.specs.Prelude.{◌≡◌, ◌+◌, ◌≤◌, ◌<◌, length, take, IfOk, OnOk};
+ghost use Rattle.std.specs.Io.{StartsWith, appended_bytes};
 ghost use Rattle.std.specs.Io.KnownBytes.{Consumes, IsAtEnd};
 
 use std::alloc::{AllocError, Global};
@@ -46,7 +47,37 @@ fn make_room(part: &mut Vec<u8>, least: usize, most: usize) -> Result<(), AllocE
     part.reserve_exact((part.len() / 4).min(most).max(least))
 }
 
-/// As many bytes as are asked for, or all that are left if they are fewer. Room is made a chunk at a time.
+/// Reads as many bytes as are asked for, or all that are left if they are fewer, to the end of those that are there.
+/// Room is made a chunk at a time. After an error nothing is said of the bytes.
+pub(crate) fn append_part<R: Read>(
+    reader: &mut R,
+    bytes: &mut Vec<u8>,
+    size: usize,
+) -> io::Result<()>
+    ensures appends { OnOk result (StartsWith bytes.new.items bytes.old.items) }
+    ensures within { OnOk result (length bytes.new.items ≤ length bytes.old.items + size) }
+    ensures bytes { OnOk result (Consumes (R.remaining reader.old) (R.remaining reader.new)
+        (appended_bytes bytes.old.items bytes.new.items)) }
+    ensures end { OnOk result (length bytes.new.items < length bytes.old.items + size →
+        IsAtEnd (R.remaining reader.new)) }
+{
+    let mut left = size;
+    'pieces: while left > 0 {
+        let from = bytes.len();
+        let most = left.min(CHUNK_BYTES);
+        make_room(bytes, most, left)?;
+        bytes.resize(from + most, 0)?;
+        let count = fill(reader, &mut bytes[from..])?;
+        bytes.truncate(from + count);
+        if count < most {
+            return Ok(());
+        }
+        left -= most;
+    }
+    Ok(())
+}
+
+/// As many bytes as are asked for, or all that are left if they are fewer, read as by [`append_part`].
 pub(crate) fn read_part<R: Read>(alloc: Global, reader: &mut R, size: usize) -> io::Result<Vec<u8>>
     ensures within { IfOk result (λ part. length part.items ≤ size) }
     ensures bytes { IfOk result (λ part. Consumes (R.remaining reader.old) (R.remaining reader.new)
@@ -54,16 +85,6 @@ pub(crate) fn read_part<R: Read>(alloc: Global, reader: &mut R, size: usize) -> 
     ensures end { IfOk result (λ part. length part.items < size → IsAtEnd (R.remaining reader.new)) }
 {
     let mut part = Vec::new(alloc);
-    'pieces: while part.len() < size {
-        let from = part.len();
-        let most = (size - from).min(CHUNK_BYTES);
-        make_room(&mut part, most, size - from)?;
-        part.resize(from + most, 0)?;
-        let count = fill(reader, &mut part[from..])?;
-        part.truncate(from + count);
-        if count < most {
-            return Ok(part);
-        }
-    }
+    append_part(reader, &mut part, size)?;
     Ok(part)
 }

@@ -124,8 +124,8 @@ fn read_tree<R: Read>(alloc: Global, reader: &mut R) -> Result<Tree, ReadError>
     }
 }
 
-// a refusal, reported of the hive of this number
-fn with_number(why: Refusal, hive: u8) -> Refusal
+/// A refusal, reported of the hive of this number.
+pub(crate) fn with_number(why: Refusal, hive: u8) -> Refusal
     ensures { result ≡ of_hive hive why }
 {
     match why {

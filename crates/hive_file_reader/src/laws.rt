@@ -3,7 +3,8 @@ ghost use Rattle.std.specs.Prelude.{◌≡◌, ◌≢◌, ℕ, List};
 ghost use Rattle.refusals.specs.declared.refusal.Refusal.{Refusal};
 ghost use Rattle.refusals.specs.declared.refusal.Refusal.TheVariants.{NoMemory};
 ghost use Rattle.reg_tree.specs.Maps.{TreeMap};
-ghost use Rattle.hive_file_reader.specs.Hives.{FileHoldsHive, FileHoldsNoHive};
+ghost use Rattle.base_block.specs.declared.block.BaseBlock.{BaseBlock};
+ghost use Rattle.hive_file_reader.specs.Hives.{FileHasBins, FileHoldsHive, FileHoldsNoHive, IsEnoughOf};
 ghost use Rattle.hive_file_reader.specs.Readings.{FileRefusedAs, FileBinsRefusedAs};
 
 /// A file holds at most one tree. A file of which a refusal is true, but for want of memory, holds none. The same goes
@@ -21,3 +22,14 @@ pub fn one_or_none()
     hive_load::laws::refused_bins_exclude_trees();
     hive_records::laws::one_tree();
 }
+
+/// A law of the first bytes of a file that are enough to decide which hive it holds. The bins data and the tree that they
+/// hold are the file's, and why they are refused is true of the file.
+pub fn fronts_decide()
+    ensures bins { (front file : List ℕ) (block : BaseBlock) (bins : List ℕ) → IsEnoughOf front file →
+        FileHasBins front block bins → FileHasBins file block bins }
+    ensures holds { (front file : List ℕ) (tree : TreeMap) → IsEnoughOf front file →
+        FileHoldsHive front tree → FileHoldsHive file tree }
+    ensures refused { (hive : ℕ) (front file : List ℕ) (why : Refusal) → IsEnoughOf front file →
+        FileRefusedAs hive front why → FileRefusedAs hive file why }
+{}
