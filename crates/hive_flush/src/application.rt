@@ -6,6 +6,7 @@ ghost use Rattle.reg_tree.specs.Maps.{TreeMap, weight};
 ghost use Rattle.dirty_vector.specs.Pages.{is_bins_size};
 ghost use Rattle.base_block.specs.declared.block.TheConstants.{MINOR_VERSION};
 ghost use Rattle.reg_tree.specs.declared.element.Element.{Element as Change};
+ghost use Rattle.hive_emit.specs.Forms.{IsFormed};
 ghost use Rattle.hive_load.specs.Limits.{BinsEncodeTreeInLimits};
 ghost use Rattle.hive_flush.specs.Decoders.{IsRefusedFor};
 ghost use Rattle.hive_flush.specs.HiveStates.{ChangesAreLegalOn, IsBroken, HiveIsRepaired, KeepsMatch, file_choice, tree_after_changes, memory_of, hive_number, store_of};
@@ -149,6 +150,7 @@ pub(crate) fn encoded_tree(
     requires most { least_size ≤ MOST_BINS_BYTES }
     ensures stands { IfOk result (λ made.
         BinsEncodeTreeInLimits made.image.bytes made.root MINOR_VERSION tree.now) }
+    ensures formed { IfOk result (λ made. IsFormed made.image.bytes made.root tree.now) }
     ensures size { IfOk result (λ made. is_bins_size (length made.image.bytes) ≡ true) }
     ensures least { IfOk result (λ made. least_size ≤ length made.image.bytes) }
     ensures refused { IfErr result (IsRefusedFor (weight tree.now)) }

@@ -6,14 +6,16 @@ ghost use Rattle.refusals.specs.declared.refusal.Refusal.TheVariants.{DiskFault,
 ghost use Rattle.disk_model.specs.Call.{CountsFailure, HasFailed};
 ghost use Rattle.disk_model.specs.StoreFiles.{IsFileOfHive as IsFileOf, primary_file, log_file};
 ghost use Rattle.hive_files.specs.Frames.{TouchesOwnFiles};
-ghost use Rattle.hive_flush.specs.Creation.{AreCreated, IsImageOf};
+ghost use Rattle.hive_file_reader.specs.Readings.{FileRefusedAs};
+ghost use Rattle.hive_flush.specs.Creation.{AreCreated, AreCreatedFrom, IsImageOf, IsImageOfFile};
 ghost use Rattle.hive_flush.specs.Decoders.{IsRefusedFor};
 
 use crate::application::encoded_tree;
 use crate::hive::HiveFile;
 use crate::image::HiveImage;
-use base_block::{BaseBlock, SequenceNumber};
+use base_block::{BaseBlock, MINOR_VERSION, SequenceNumber};
 use disk_model::{Disk, Failed};
+use hive_file_reader::{FileHive, load_file};
 use hive_files::{make, sector};
 use refusals::Refusal;
 use reg_tree::Tree;
@@ -38,17 +40,55 @@ impl HiveImage {
         let emitted = encoded_tree(alloc, tree, LEAST_BINS_BYTES)?;
         let root = emitted.root;
         let bins = emitted.image.into_bytes();
-        Ok(HiveImage { store, root, bins })
+        Ok(HiveImage {
+            store,
+            root,
+            minor: MINOR_VERSION,
+            bins,
+        })
     }
 
-    /// Makes the two files of a hive, by its number, whatever was in them. They are a clean primary file of the image's
-    /// tree at number 0, and an empty log. Both are synced. A write takes at most 65,536 bytes.
+    /// The image of the hive that a file's bytes hold, for a store: the bins data, root and minor version are the
+    /// file's. The bytes are not copied. Only a refusal names the hive's number.
+    ///
+    /// Refused as [`load_file`] is, if the file holds no hive.
+    pub fn of_file(
+        alloc: Global,
+        store: Uuid,
+        hive: u8,
+        file: Vec<u8>,
+    ) -> Result<HiveImage, Refusal>
+        ensures image { IfOk result (λ image. (tree : TreeMap) × IsImageOfFile store file.items tree image) }
+        ensures refused { IfErr result (FileRefusedAs hive file.items) }
+    {
+        let FileHive {
+            block,
+            bins,
+            tree: _,
+        } = match load_file(alloc, file, hive) {
+            Ok(held) => held,
+            Err(why) => return Err(why),
+        };
+        Ok(HiveImage {
+            store,
+            root: block.root,
+            minor: block.minor,
+            bins,
+        })
+    }
+
+    /// Makes the two files of a hive, by its number, whatever was in them. They are a clean primary file with the
+    /// image's bins data, root and minor version, which holds its tree at number 0, and an empty log. Both are synced. A write takes at most 65,536 bytes.
     ///
     /// Takes no memory. Failed if the device failed in a call, which was the last one. Then nothing is said of the two
     /// files.
     pub fn write<D: Disk>(&self, disk: &mut D, hive: u8) -> Result<(), Failed>
         ensures created { OnOk result (D.faithful disk.new → (store : List ℕ) (tree : TreeMap) →
             IsImageOf store tree self.now → AreCreated store tree
+            (D.state_at disk.new (D.clock disk.new) (primary_file hive))
+            (D.state_at disk.new (D.clock disk.new) (log_file hive))) }
+        ensures copied { OnOk result (D.faithful disk.new → (store file : List ℕ) (tree : TreeMap) →
+            IsImageOfFile store file tree self.now → AreCreatedFrom store file tree
             (D.state_at disk.new (D.clock disk.new) (primary_file hive))
             (D.state_at disk.new (D.clock disk.new) (log_file hive))) }
         ensures stays { TouchesOwnFiles (IsFileOf hive) (D.state_at disk.old) (D.state_at disk.new)
@@ -59,6 +99,7 @@ impl HiveImage {
         let size = self.bins.len() as u32;
         let block = BaseBlock::of_primary(
             SequenceNumber(FIRST_NUMBER),
+            self.minor,
             self.root,
             size,
             self.store,

@@ -12,15 +12,15 @@ ghost use Rattle.hive_writer.specs.declared.stage.FlushStage.TheVariants as stag
 ghost use Rattle.hive_files.specs.Blocks.{IsPlanned};
 ghost use Rattle.hive_flush.specs.NextBlocks.{block_after, block_for, repair_plan};
 
-use base_block::{AppliedNumber, BaseBlock, FileType, SequenceNumber};
+use base_block::{AppliedNumber, BaseBlock, FileType, MINOR_VERSION, SequenceNumber};
 use dirt_log::write_steps;
 use dirty_vector::DirtyVector;
 use hive_files::sector;
 use hive_writer::HiveWriter;
 use reg_tree::Tree;
 
-/// The block with which a flush ends that follows a flush that ended with this block. It is for a root and bins data of
-/// a size, and has the moment and the number of the last change in them.
+/// The block with which a flush ends that follows a flush that ended with this block. It is of the minor version that is
+/// written, for a root and bins data of a size, and has the moment and the number of the last change in them.
 pub(crate) fn next_block(
     base: &BaseBlock,
     root: u32,
@@ -35,6 +35,7 @@ pub(crate) fn next_block(
         primary: number,
         secondary: number,
         last_written: time,
+        minor: MINOR_VERSION,
         root,
         bins_size,
         applied: AppliedNumber(applied),

@@ -11,6 +11,7 @@ mod hive;
 mod image;
 pub mod laws;
 mod opening;
+mod renewal;
 
 pub use crate::hive::HiveFile;
 pub use crate::image::HiveImage;

@@ -6,14 +6,16 @@ ghost use Rattle.disk_model.specs.Call.{Extends};
 ghost use Rattle.disk_model.specs.FileState.{FileState, at_rest};
 ghost use Rattle.disk_model.specs.StoreFiles.{IsFileOfHive, primary_file, log_file};
 ghost use Rattle.disk_model.specs.ReadOnly.{OnlySyncs};
+ghost use Rattle.dirt_log.specs.FileContents.{is_clean_file};
 ghost use Rattle.hive_files.specs.Contents.{FilesContain};
 ghost use Rattle.hive_files.specs.Frames.{RefusalHasCause};
 ghost use Rattle.hive_flush.specs.Decoders.{HiveFilesHold, FilesHoldNone, RefusalNamesHive, RefusesHiveFiles, as_hive_refusal};
 ghost use Rattle.hive_flush.specs.NextBlocks.{clean_writer, unclean_writer};
-ghost use Rattle.hive_flush.specs.HiveStates.{IsBroken, FilesMatchHive, HiveIsRepaired, file_choice, marked_pages, memory_of, most_repairs, hive_number, repairs_left, steps_left, store_of};
+ghost use Rattle.hive_flush.specs.HiveStates.{IsBroken, IsOpenedFrom, FilesMatchHive, HiveIsRepaired, file_choice, marked_pages, memory_of, most_repairs, hive_number, repairs_left, steps_left, store_of};
 
 use crate::flush_plan::{next_block, plan_fits, repair_fits};
 use crate::hive::HiveFile;
+use crate::renewal::in_written_version;
 use base_block::BaseBlock;
 use disk_model::Disk;
 use hive_files::{HiveContents, find};
@@ -29,6 +31,10 @@ impl HiveFile {
     /// Opens a hive of a store, by its number: the tree and the number that its two files hold. If the primary file is
     /// unclean, its repair is to be made before anything else. A repair by a log that marks `p` pages is done within
     /// `p + 3` steps, if none is refused.
+    ///
+    /// Of a clean primary file of an older minor version the image in memory is made anew, in the version that is
+    /// written, of the tree and no shorter than the file's bins data. So the first flush writes a whole hive of that
+    /// version. Until then the files stay as they are.
     ///
     /// The primary file is synced before it is read. So is the log, unless the primary file is clean: then the log
     /// isn't looked at. Both are read in chunks.
@@ -56,6 +62,9 @@ impl HiveFile {
         ensures place { IfOk result (λ file. hive_number file ≡ hive) }
         ensures store { IfOk result (λ file. store_of file ≡ store) }
         ensures sound { IfOk result (λ file. IsBroken file → ⊥) }
+        ensures from { IfOk result (λ file. D.faithful disk.new →
+            is_clean_file (D.state_at disk.old (D.clock disk.old) (primary_file hive)).seen ≡ true →
+            IsOpenedFrom (D.state_at disk.old (D.clock disk.old) (primary_file hive)).seen file) }
         ensures few { IfOk result (λ file. D.faithful disk.new → ¬ (HiveIsRepaired file) →
             steps_left file ≤ marked_pages
             (D.state_at disk.old (D.clock disk.old) (log_file hive)).seen + 3) }
@@ -128,6 +137,8 @@ fn of_contents(
     ensures place { IfOk result (λ file. hive_number file ≡ hive) }
     ensures store { IfOk result (λ file. store_of file ≡ store) }
     ensures sound { IfOk result (λ file. IsBroken file → ⊥) }
+    ensures from { IfOk result (λ file. (primary log : List ℕ) → FilesContain primary log found →
+        is_clean_file primary ≡ true → IsOpenedFrom primary file) }
     ensures few { IfOk result (λ file. (primary log : List ℕ) → FilesContain primary log found →
         ¬ (HiveIsRepaired file) → steps_left file ≤ marked_pages log + 3) }
     ensures repairs { IfOk result (λ file. (primary log : List ℕ) → FilesContain primary log found →
@@ -154,10 +165,12 @@ fn of_contents(
         Err(why) => return Err(hive_refusal(why, hive)),
     };
     let log = UndoLog::new(alloc)?;
-    let _ = pages.bins_size(); // for the prover
+    let mut pages = pages;
+    let made = in_written_version(alloc, &tree, &block, image, &mut pages)?;
+    let size = pages.bins_size() as u32;
     let held = Snapshot::of(&tree);
-    let writer = writer_for(block, hive, is_clean);
-    let mut image = SavepointImage::of(image, log);
+    let writer = writer_for(block, hive, is_clean, made.root, size);
+    let mut image = SavepointImage::of(made.image, log);
     plan_fits(&writer, image.bytes(), &pages); // for the prover
     repair_fits(&block); // for the prover
     Ok(HiveFile {
@@ -169,21 +182,15 @@ fn of_contents(
     })
 }
 
-// the writer of files whose block in use this is, clean or unclean
-fn writer_for(block: BaseBlock, hive: u8, is_clean: bool) -> HiveWriter
-    ensures clean { is_clean ≡ true → result ≡ clean_writer hive block }
+// the writer of files whose block in use this is, clean or unclean, for an image of a size with a root
+fn writer_for(block: BaseBlock, hive: u8, is_clean: bool, root: u32, size: u32) -> HiveWriter
+    ensures clean { is_clean ≡ true → result ≡ clean_writer hive block root size }
     ensures unclean { is_clean ≡ false → result ≡ unclean_writer hive block }
 {
     if !is_clean {
         return HiveWriter::of_unclean(hive, block);
     }
     let mut writer = HiveWriter::of_clean(hive, block);
-    writer.plan(next_block(
-        &block,
-        block.root,
-        block.bins_size,
-        block.last_written,
-        block.applied.0,
-    ));
+    writer.plan(next_block(&block, root, size, block.last_written, block.applied.0));
     writer
 }

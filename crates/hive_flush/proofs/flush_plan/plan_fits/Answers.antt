@@ -32,7 +32,7 @@ returns-clause-ready c = λ stands memory tree number.
     let pages = c.args.pages.now in
     let writer = c.args.writer.now in
     let own = c.requires.planned.own in
-    let loggable : IsLoggable writer.block pages = record { usable = own.0; version = own.1; equal = c.requires.planned.equal; size = c.requires.planned.size } in
+    let loggable : IsLoggable writer.block pages = record { usable = own.0; version = (own.1.0, c.requires.planned.version, own.1.3); equal = c.requires.planned.equal; size = c.requires.planned.size } in
     let next = c.next.ensures ∙ ap (λ (n : SequenceNumber). number_after n.0) c.bounded-number.ensures.same in
     let is : c.sector.result ≡ sector_of (marked_block writer.base) = raised_is writer.base c.next.result c.sector.result next c.sector.ensures.encoding in
     c.plans.ensures.flush stands memory image pages writer.base (plan_of writer image pages) c.requires.size loggable own.2 tree number c.bounded-number.ensures.fits

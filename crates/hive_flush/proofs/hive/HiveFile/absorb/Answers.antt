@@ -19,14 +19,14 @@ pub edit_batch-requires-clause-encodes : goal.edit_batch-requires-clause-encodes
 edit_batch-requires-clause-encodes c =
     let f = c.args.self.now in
     let encodes = c.one_encoding.ensures f.image.bytes f.writer.block.root f.writer.block.minor f.tree c.tiles.ensures.tiles c.tiles.ensures.shown.0 c.tiles.ensures.shown.1 f.encodes in
-    subst (BinsEncodeTree f.image.bytes f.writer.block.root 5) (sym c.in_ok-tree.ensures) (subst (λ (m : ℕ). BinsEncodeTree f.image.bytes f.writer.block.root m f.tree) f.planned.own.1.1 encodes.0)
+    subst (BinsEncodeTree f.image.bytes f.writer.block.root 5) (sym c.in_ok-tree.ensures) (subst (λ (m : ℕ). BinsEncodeTree f.image.bytes f.writer.block.root m f.tree) f.planned.version encodes.0)
 
 pub invariant_of-self-in-Done-clause-encodes : goal.invariant_of-self-in-Done-clause-encodes
 invariant_of-self-in-Done-clause-encodes c =
     let f = c.args.self.now in
     let encodes = c.in-Ok.ensures.done c.in-Done.is in
     encodes_as c.edit_batch.new.image.bytes f.writer.block.root 5 c.bytes.follows.lender-at-none c.plan_for.new.writer.block c.in-Ok.made.tree (ap (λ (s : SavedBytes). s.bytes) (c.bytes.follows.holds-at-none ∙ c.release.ensures.now))
-    (ap (λ (w : HiveWriter). w.block.root) c.plan_for.ensures) (ap (λ (w : HiveWriter). w.block.minor) c.plan_for.ensures ∙ f.planned.own.1.1) ∣ encodes ∣₁
+    (ap (λ (w : HiveWriter). w.block.root) c.plan_for.ensures) (ap (λ (w : HiveWriter). w.block.minor) c.plan_for.ensures ∙ f.planned.version) ∣ encodes ∣₁
 
 pub invariant_of-self-in-Rebuild : goal.invariant_of-self-in-Rebuild
 invariant_of-self-in-Rebuild c =
@@ -75,7 +75,7 @@ returns-in-Done-clause-on c = λ primary log on.
     let last : c.bytes.follows.lender-at-none.bytes ≡ bins = ap (λ (s : SavedBytes). s.bytes) (c.bytes.follows.holds-at-none ∙ c.release.ensures.now) in
     let marks : ChangesAreMarked f.image.bytes f.pages bins left = subst (λ (l : List ℕ). ChangesAreMarked l f.pages bins left) saved c.release.ensures.marks in
     planned_on f.writer c.plan_for.new.writer f.image.bytes bins _ c.bytes.result.now f.pages left f.held.value f.tree tree f.writer.block.root _ _ c.args.upto primary log
-    c.one_tree.ensures.one (rests f.writer.stage (durable_of f) (memory_of f) c.requires.whole c.requires.rest) c.plan_for.ensures f.planned.own.1.1 (c.in-Ok.ensures.done c.in-Done.is) marks last
+    c.one_tree.ensures.one (rests f.writer.stage (durable_of f) (memory_of f) c.requires.whole c.requires.rest) c.plan_for.ensures f.planned.version (c.in-Ok.ensures.done c.in-Done.is) marks last
     (c.bytes.ensures.all ∙ ap (λ (s : SavedBytes). s.bytes) c.release.ensures.now)
     (λ stands. c.plan_fits.ensures.ready stands (tree, c.args.upto)) on
 

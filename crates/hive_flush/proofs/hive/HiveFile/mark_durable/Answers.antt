@@ -22,4 +22,4 @@ invariant_of-self-clause-encodes c =
     let f = c.args.self.now in
     let block : c.plan.new.self.block ≡ c.next_block.result = ap (λ (w : HiveWriter). w.block) c.plan.ensures in
     encodes_as f.image.bytes f.writer.block.root f.writer.block.minor c.bytes.follows.lender-at-none c.plan.new.self.block f.tree (ap (λ (s : SavedBytes). s.bytes) c.bytes.follows.holds-at-none)
-    (ap (λ (b : BaseBlock). b.root) (block ∙ c.next_block.ensures)) (ap (λ (b : BaseBlock). b.minor) (block ∙ c.next_block.ensures)) f.encodes
+    (ap (λ (b : BaseBlock). b.root) (block ∙ c.next_block.ensures)) (ap (λ (b : BaseBlock). b.minor) (block ∙ c.next_block.ensures) ∙ sym f.planned.version) f.encodes

@@ -13,6 +13,11 @@ returns-in-Ok-clause-held g c = IfOk-weaker c.of_contents.result _ _ (λ file he
     let old = g.D.Disk.state_at c.args.disk.now (g.D.Disk.clock c.args.disk.now) in
     held (old (primary_file c.args.hive)).seen (old (log_file c.args.hive)).seen (c.in-Ok.ensures.found faithful)) c.of_contents.ensures.held
 
+pub returns-in-Ok-clause-from : goal.returns-in-Ok-clause-from
+returns-in-Ok-clause-from g c = IfOk-weaker c.of_contents.result _ _ (λ file from faithful.
+    let old = g.D.Disk.state_at c.args.disk.now (g.D.Disk.clock c.args.disk.now) in
+    from (old (primary_file c.args.hive)).seen (old (log_file c.args.hive)).seen (c.in-Ok.ensures.found faithful)) c.of_contents.ensures.from
+
 pub returns-in-Ok-clause-few : goal.returns-in-Ok-clause-few
 returns-in-Ok-clause-few g c = IfOk-weaker c.of_contents.result _ _ (λ file few faithful.
     let old = g.D.Disk.state_at c.args.disk.now (g.D.Disk.clock c.args.disk.now) in

@@ -45,7 +45,8 @@ returns-in-Ok-Done-clause-on g c = λ faithful on.
     let again : HiveWriter = record w { block = block_again w.block } in
     let clean = clean_pages f.pages.bins_size in
     let fits : (stands : TreeDecoder TreeMap) (memory : TreeMap × ℕ) → tree_under stands w.block f.image.bytes ≡ Some memory.0 → w.block.applied.0 ≡ memory.1 → PlanFitsImage stands memory f.image.bytes clean (plan_of again f.image.bytes clean)
-    = λ stands memory. ready_same again c.mark_durable.new.self.writer f.image.bytes c.mark_durable.new.self.image.bytes clean c.mark_durable.new.self.pages memory stands settled_is.writer (settled_is.bins ∙ still) settled_is.pages (c.mark_durable.ensures.fits stands memory) in
+    = λ stands memory given. ready_same again c.mark_durable.new.self.writer f.image.bytes c.mark_durable.new.self.image.bytes clean c.mark_durable.new.self.pages memory stands settled_is.writer (settled_is.bins ∙ still) settled_is.pages (c.mark_durable.ensures.fits stands memory)
+    (subst (λ (m : ℕ). stands f.image.bytes w.block.root m w.block.store ≡ Some memory.0) (ap (λ (b : BaseBlock). b.minor) keeps.block ∙ f.planned.version) given) in
     same_on again c.mark_durable.new.self.writer f.image.bytes c.mark_durable.new.self.image.bytes clean c.mark_durable.new.self.pages f.tree c.mark_durable.new.self.held.value f.tree c.mark_durable.new.self.tree _ _
     settled_is.writer (settled_is.bins ∙ still) settled_is.pages settled_is.held settled_is.tree
     (done f.writer w f.image.bytes f.pages clean f.held.value f.tree before after (sym f.sizes) keeps quiet led fits on)
