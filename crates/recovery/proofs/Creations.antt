@@ -1,9 +1,10 @@
 -- A store that is made recovers the trees of which it is made, at number 0.
-use Rattle.std.proofs.Common.{◌≡◌, inl, inr, ℕ, ◌+◌, ◌<◌, ◌≤◌, List, [], ◌∷◌, ◌++◌, length, take, refl, sym, ◌∙◌, ap, subst, arith, Some, slice_get}
+use Rattle.std.proofs.Common.{◌≡◌, inl, inr, ℕ, ◌+◌, ◌<◌, ◌≤◌, List, [], ◌∷◌, ◌++◌, length, take, refl, sym, ◌∙◌, ap, subst, arith, Result, Ok, Err, OnOk, Some, slice_get, length-append}
 use Rattle.std.proofs.lemmas.Option.{get_or_from_slice_get, none-some, same_Some, slice_get_within}
 use Rattle.std.proofs.lemmas.Bool.{cases_eq}
 use Rattle.std.specs.Prelude.{min}
 use Rattle.refusals.specs.declared.limits.TheConstants.{GREATEST_NUMBER, MOST_WEIGHT}
+use Rattle.refusals.specs.declared.refusal.Refusal.{Refusal}
 use Rattle.reg_tree.specs.Fresh.{fresh_tree}
 use Rattle.reg_tree.specs.Maps.{TreeMap, weight}
 use Rattle.crash_model.specs.Files.{DecodesBy}
@@ -11,7 +12,7 @@ use Rattle.crash_model.specs.Promises.{Choice, JournalOn, Content, nothing, sett
 use Rattle.crash_model.specs.Promises as promises
 use Rattle.crash_model.specs.Recovery.{Recovers}
 use Rattle.crash_model.proofs.OfFiles.{files_recover}
-use Rattle.disk_model.specs.FileState.{FileState, Leaves}
+use Rattle.disk_model.specs.FileState.{FileState, Leaves, at_rest}
 use Rattle.disk_model.specs.Call.{Extends}
 use Rattle.disk_model.specs.Sector.{IsHonest}
 use Rattle.disk_model.specs.StoreFiles.{IsJournal, IsFileOfHive, primary_file, log_file, journal_file}
@@ -24,19 +25,28 @@ use Rattle.commit_journal.specs.Journals.{choice_of, store_of, encodings_of, jou
 use Rattle.commit_journal.specs.declared.journal.Journal.{Journal}
 use Rattle.hive_files.specs.Frames.{TouchesOwnFiles}
 use Rattle.hive_files.proofs.Frames.{extends_on}
-use Rattle.hive_flush.specs.Creation.{AreCreated, IsImageOf}
+use Rattle.hive_file_reader.specs.Hives.{FileHoldsHive}
+use Rattle.hive_file_reader.specs.Readings.{FileRefusedAs}
+use Rattle.hive_flush.specs.Creation.{IsImageOf, IsImageOfFile}
 use Rattle.hive_flush.specs.Decoders.{HiveFilesHold}
 use Rattle.hive_flush.specs.declared.image.HiveImage.{HiveImage}
 use Rattle.engine_invariant.specs.Prefixes.{Holds, JournalDecodesTo}
 use Rattle.engine_invariant.specs.States.{tree_of}
 use Rattle.engine_invariant.proofs.HiveLists.{at_slot, each_pushed}
-use Rattle.recovery.specs.Created.{AreImagesOf, AreWritten, HivesAreMade, IsOfHives, IsOfStore, IsWritten, new_store}
+use Rattle.recovery.specs.Created.{AreImagesOf, AreWritten, HiveIsDurable, HivesAreDurable, HivesAreMade, IsOfHives, IsOfStore, IsWritten, new_store}
+use Rattle.recovery.specs.FileCopies.{AreImagesOfFiles, HivesAreCopied, IsRefusalOfFile}
 use Rattle.recovery.specs.Recovered.{IsRecovered}
+use Rattle.recovery.proofs.ListEntries.{got_end, got_front, got_next, got_push}
 
 -- The law of a journal's phases that is used
 
 abbrev pub Spelling : Type 0
 Spelling = (v : JournalView TimedOp) (store : Store) (state : FileState) → is_on (encodings store) v state → JournalOn (DecodesBy (decoded (encodings store))) v.choice (Leaves state)
+
+-- what follows of a success from two facts
+pub on_ok_and : {T E P Q R : Type 0} (result : Result T E) → OnOk result P → OnOk result Q → (P → Q → R) → OnOk result R
+on_ok_and (Ok x) p q f = f p q
+on_ok_and (Err e) p q f = tt
 
 -- ---- one hive after another
 
@@ -72,24 +82,97 @@ one_more_image id trees images n image tree many before is here =
     each_pushed images image (λ i x. (t : TreeMap) → slice_get trees i ≡ Some t → IsImageOf id t x) before
     (λ t at. subst (λ (x : TreeMap). IsImageOf id x image) (same_Some tree t (sym is ∙ sym (ap (slice_get trees) many) ∙ at)) here)
 
+-- the tree that an image has is the one that its file holds
+image_holds : (id file : List ℕ) (tree : TreeMap) (image : HiveImage) → IsImageOfFile id file tree image → FileHoldsHive file tree
+image_holds id file tree image is = record {
+  block = is.block;
+  bins = image.bins.items;
+  has = is.has.0;
+  own = is.has.1;
+  tree_is = rw (is.root_is, is.minor_is) at is.stands;
+}
+
+pub no_file_yet : (id : List ℕ) (images : List HiveImage) → AreImagesOfFiles id [] images
+no_file_yet id images = record {
+  trees = [];
+  hold = record { many = refl; held = λ i file tree at. absurd (none-some file at) };
+  each = λ i image file tree at there. absurd (none-some file there);
+}
+
+module _ (id : List ℕ) (files : List (List ℕ)) (images : List HiveImage) (file : List ℕ) (many : length images ≡ length files) (before : AreImagesOfFiles id files images) where
+  -- one more image is that of the next file
+  pub one_more_file : (image : HiveImage) (tree : TreeMap) → IsImageOfFile id file tree image → AreImagesOfFiles id (files ++ file ∷ []) (images ++ image ∷ [])
+  one_more_file image tree here = record {
+    trees = before.trees ++ tree ∷ [];
+    hold = record {
+      many = length-append before.trees (tree ∷ []) ∙ ap (λ n. n + 1) before.hold.many ∙ sym (length-append files (file ∷ []));
+      held = λ i f t at is. elim (got_push files file i f at) [
+        | inl there ↦ before.hold.held i f t there (sym (got_front before.trees (tree ∷ []) i (omega (arith, slice_get_within files i f there, before.hold.many))) ∙ is)
+        | inr end ↦ subst (λ (l : List ℕ). FileHoldsHive l t) end.1 (subst (FileHoldsHive file) (got_end before.trees tree [] i t (end.0 ∙ sym before.hold.many) is) (image_holds id file tree image here))
+      ];
+    };
+    each = λ i x f t at is_f is_t. each_pushed images image (λ j y. (g : List ℕ) (u : TreeMap) → slice_get (files ++ file ∷ []) j ≡ Some g → slice_get (before.trees ++ tree ∷ []) j ≡ Some u → IsImageOfFile id g u y)
+        (λ j y own g u is_g is_u. let lt = slice_get_within images j y own in
+        before.each j y g u own (sym (got_front files (file ∷ []) j (omega (arith, lt, many))) ∙ is_g) (sym (got_front before.trees (tree ∷ []) j (omega (arith, lt, many, before.hold.many))) ∙ is_u))
+        (λ g u is_g is_u. subst (λ (l : List ℕ). IsImageOfFile id l u image) (got_end files file [] (length images) g many is_g)
+        (subst (λ (m : TreeMap). IsImageOfFile id file m image) (got_end before.trees tree [] (length images) u (many ∙ sym before.hold.many) is_u) here))
+        i x at f t is_f is_t;
+  }
+
+  -- the next file is refused
+  pub next_refused : (rest : List (List ℕ)) (index : ℕ) (why : Refusal) → index ≡ length images → FileRefusedAs index file why → IsRefusalOfFile (files ++ file ∷ rest) why
+  next_refused rest index why is refused = record {
+    index = index;
+    file = file;
+    at = ap (slice_get (files ++ file ∷ rest)) (is ∙ many) ∙ got_next files file rest;
+    refused = refused;
+    before = λ i other lt at.
+        let tree = at_slot before.trees i (omega (arith, lt, is, many, before.hold.many)) in
+        (tree.0, before.hold.held i other tree.0 (sym (got_front files (file ∷ rest) i (omega (arith, lt, is, many))) ∙ at) tree.1);
+  }
+
+-- ---- what is written
+
 -- images that are written make the hives' files
 pub hives_made : (id : List ℕ) (trees : List TreeMap) (images : List HiveImage) (state : ℕ → FileState) → length images ≡ length trees → AreImagesOf id trees images → AreWritten images state → HivesAreMade id trees state
 hives_made id trees images state many are written i tree is =
     let lt = slice_get_within trees i tree is in
     let at = at_slot images i (omega (arith, lt, many)) in
-    written i at.0 at.1 id tree (are i at.0 at.1 tree is)
+    (written i at.0 at.1).created id tree (are i at.0 at.1 tree is)
+
+-- those of files make copies of them
+pub hives_copied : (id : List ℕ) (files : List (List ℕ)) (images : List HiveImage) (state : ℕ → FileState) → length images ≡ length files → (are : AreImagesOfFiles id files images) → AreWritten images state
+    → HivesAreCopied id files are.trees state
+hives_copied id files images state many are written i file tree there is =
+    let lt = slice_get_within files i file there in
+    let at = at_slot images i (omega (arith, lt, many)) in
+    (written i at.0 at.1).copied id file tree (are.each i at.0 file tree at.1 there is)
 
 -- the journal's file alone is written after them
-pub hives_stay : (id : List ℕ) (trees : List TreeMap) (mid new : ℕ → FileState) → ((f : ℕ) → ¬ (IsJournal f) → new f ≡ mid f) → HivesAreMade id trees mid → HivesAreMade id trees new
-hives_stay id trees mid new others made i tree is =
-    subst (λ (p : FileState). AreCreated id tree p (new (log_file i))) (sym (others (primary_file i) (λ e. omega (arith, e))))
-    (subst (λ (l : FileState). AreCreated id tree (mid (primary_file i)) l) (sym (others (log_file i) (λ e. omega (arith, e)))) (made i tree is))
+pub written_stay : (images : List HiveImage) (mid new : ℕ → FileState) → ((f : ℕ) → ¬ (IsJournal f) → new f ≡ mid f) → AreWritten images mid → AreWritten images new
+written_stay images mid new others written i image is =
+    subst (λ (p : FileState). IsWritten image p (new (log_file i))) (sym (others (primary_file i) (λ e. omega (arith, e))))
+    (subst (λ (l : FileState). IsWritten image (mid (primary_file i)) l) (sym (others (log_file i) (λ e. omega (arith, e)))) (written i image is))
 
--- a primary file that was made is at rest
-pub made_honest : (id : List ℕ) (tree : TreeMap) (primary log : FileState) → AreCreated id tree primary log → IsHonest primary primary.seen
-made_honest id tree primary log made =
-    let rest = made.made.whole in
-    inl (ap (λ (s : FileState). take 512 s.seen) rest ∙ sym (ap (λ (s : FileState). take 512 s.synced) rest))
+-- files that were made are at rest
+rests : (state : FileState) (bytes : List ℕ) → state ≡ at_rest bytes → state ≡ at_rest state.synced
+rests state bytes is = is ∙ ap at_rest (sym (ap (λ (s : FileState). s.synced) is))
+
+pub created_durable : (id : List ℕ) (trees : List TreeMap) (state : ℕ → FileState) → HivesAreMade id trees state → HivesAreDurable id trees state
+created_durable id trees state made i tree is =
+    let own = made i tree is in
+    record { primary_rests = rests _ _ own.made.whole; log_rests = rests _ _ own.made.empty; holds = own.holds }
+
+pub copied_durable : (id : List ℕ) (files : List (List ℕ)) (trees : List TreeMap) (state : ℕ → FileState) → length trees ≡ length files → HivesAreCopied id files trees state → HivesAreDurable id trees state
+copied_durable id files trees state many copied i tree is =
+    let lt = slice_get_within trees i tree is in
+    let at = at_slot files i (omega (arith, lt, many)) in
+    let own = copied i at.0 tree at.1 is in
+    record { primary_rests = rests _ _ own.made.whole; log_rests = rests _ _ own.made.empty; holds = own.holds }
+
+-- what a read gives of a primary file at rest has an honest first sector
+pub durable_honest : (id : List ℕ) (tree : TreeMap) (primary log : FileState) → HiveIsDurable id tree primary log → IsHonest primary primary.seen
+durable_honest id tree primary log durable = inl (ap (λ (s : FileState). take 512 s.seen) durable.primary_rests)
 
 pub stays_off : (hives : ℕ) (first mid last : ℕ → ℕ → FileState) (a b c : ℕ) → TouchesOwnFiles (IsOfHives hives) first mid a b → Extends mid last b c → ((f : ℕ) → ¬ (IsJournal f) → last c f ≡ mid b f) → TouchesOwnFiles (IsOfStore hives) first last a c
 stays_off hives first mid last a b c stays time others = record {
@@ -97,14 +180,12 @@ stays_off hives first mid last a b c stays time others = record {
   others = λ f not. others f (λ j. not (inl j)) ∙ stays.others f (λ h. not (inr h));
 }
 
--- files that are left of a hive's, as it was made, decode to its tree
-left_held : (id : List ℕ) (tree : TreeMap) (primary log : FileState) → AreCreated id tree primary log → (p l : List ℕ) → Leaves primary p → Leaves log l → HiveFilesHold id p l (tree, 0)
-left_held id tree primary log made p l first second =
-    let whole = made.made.whole in
-    let empty = made.made.empty in
-    let p_is : p ≡ primary.synced = left_at_rest _ p (subst (λ (s : FileState). Leaves s p) whole first) ∙ sym (ap (λ (s : FileState). s.synced) whole) in
-    let l_is : l ≡ log.synced = left_at_rest _ l (subst (λ (s : FileState). Leaves s l) empty second) ∙ sym (ap (λ (s : FileState). s.synced) empty) in
-    subst (λ (b : List ℕ). HiveFilesHold id b l (tree, 0)) (sym p_is) (subst (λ (b : List ℕ). HiveFilesHold id primary.synced b (tree, 0)) (sym l_is) made.holds)
+-- what is left of a hive's files decodes to its tree
+left_held : (id : List ℕ) (tree : TreeMap) (primary log : FileState) → HiveIsDurable id tree primary log → (p l : List ℕ) → Leaves primary p → Leaves log l → HiveFilesHold id p l (tree, 0)
+left_held id tree primary log durable p l first second =
+    let p_is : p ≡ primary.synced = left_at_rest primary.synced p (subst (λ (s : FileState). Leaves s p) durable.primary_rests first) in
+    let l_is : l ≡ log.synced = left_at_rest log.synced l (subst (λ (s : FileState). Leaves s l) durable.log_rests second) in
+    subst (λ (b : List ℕ). HiveFilesHold id b l (tree, 0)) (sym p_is) (subst (λ (b : List ℕ). HiveFilesHold id primary.synced b (tree, 0)) (sym l_is) durable.holds)
 
 -- what is left of a journal's file, as it was made, decodes to no element
 nothing_left : Spelling → (journal : Journal) (store : Store) → store_of journal ≡ store → choice_of journal ≡ settled nothing → (state : FileState) → is_on (encodings_of journal) (journal_view journal) state
@@ -128,10 +209,10 @@ fresh trees some = record {
   allowed = λ i lt. refl;
 }
 
-pub recovers_made : Spelling → (journal : Journal) (id : List ℕ) (trees : List TreeMap) → store_of journal ≡ new_store id trees → choice_of journal ≡ settled nothing → IsStore (new_store id trees)
-    → (state : ℕ → FileState) → is_on (encodings_of journal) (journal_view journal) (state journal_file) → HivesAreMade id trees state
+pub recovers_durable : Spelling → (journal : Journal) (id : List ℕ) (trees : List TreeMap) → store_of journal ≡ new_store id trees → choice_of journal ≡ settled nothing → IsStore (new_store id trees)
+    → (state : ℕ → FileState) → is_on (encodings_of journal) (journal_view journal) (state journal_file) → HivesAreDurable id trees state
     → (files : ℕ → List ℕ) → ((f : ℕ) → Leaves (state f) (files f)) → IsRecovered files (new_store id trees) 0 trees
-recovers_made law journal id trees is empty store state on hives files left = record {
+recovers_durable law journal id trees is empty store state on hives files left = record {
   store_is = store;
   many = refl;
   recovers = files_recover tree_rules (JournalDecodesTo (new_store id trees)) (Holds (new_store id trees)) GREATEST_NUMBER (length trees) files nothing (λ i. (tree_of trees i, 0)) 0 (tree_of trees)

@@ -8,6 +8,7 @@ mod Openings
 mod Refused
 mod Repairs
 mod Crashes
+pub mod ListEntries
 mod Creations
 mod Beginnings
 mod Counting

@@ -1,13 +1,18 @@
-//! Making a store: a journal without a change, and a hive of each tree.
-ghost use Rattle.std.specs.Prelude.{◌≡◌, ◌⊎◌, ◌<◌, ◌≤◌, ℕ, List, true, false, length, slice_get, Some, Err, IfErr, IfOk, OnOk};
+//! Making a store: a journal without a change, and a hive of each tree or of each file.
+ghost use Rattle.std.specs.Prelude.{◌≡◌, ◌⊎◌, ◌<◌, ◌≤◌, ℕ, List, true, false, length, map, slice_get, Some, Err, IfErr, IfOk, OnOk};
+ghost use Rattle.reg_tree.specs.Maps.{TreeMap};
 ghost use Rattle.refusals.specs.declared.limits.TheConstants.{MOST_HIVES};
 ghost use Rattle.refusals.specs.declared.refusal.Refusal.TheVariants.{DiskFault, NoMemory, TooLarge};
 ghost use Rattle.reg_tree.specs.Sequences.{AreWithin};
 ghost use Rattle.disk_model.specs.Call.{CountsFailure};
 ghost use Rattle.disk_model.specs.Crash.{LeavesHonest};
+ghost use Rattle.disk_model.specs.FileState.{at_rest};
+ghost use Rattle.disk_model.specs.StoreFiles.{journal_file};
+ghost use Rattle.commit_journal.specs.Store.{created_bytes};
 ghost use Rattle.engine_invariant.specs.Prefixes.{IsPrimaryOf};
 ghost use Rattle.hive_files.specs.Frames.{TouchesOwnFiles};
-ghost use Rattle.recovery.specs.Created.{AreImagesOf, AreWritten, StoreIsCreated, IsOfHives, IsOfStore, IsRefusedFor, SomeIsHeavy, new_store};
+ghost use Rattle.recovery.specs.Created.{AreImagesOf, AreWritten, HivesAreDurable, StoreIsCreated, IsOfHives, IsOfStore, IsRefusedFor, RecoversTrees, SomeIsHeavy, new_store};
+ghost use Rattle.recovery.specs.FileCopies.{AreImagesOfFiles, AreRefusedFor, FilesHoldTrees, StoreIsCreatedFrom};
 ghost use Rattle.recovery.specs.Recovered.{IsRecovered, seen_in};
 
 use commit_journal::JournalImage;
@@ -50,15 +55,47 @@ pub fn create<D: Disk>(alloc: Global, disk: &mut D, id: Uuid, trees: &Trees) -> 
         (D.state_at disk.new) (D.clock disk.old) (D.clock disk.new) }
     ensures faithful { D.faithful disk.new → D.faithful disk.old }
 {
-    commit_journal::laws::leaves::<(u64, Op)>();
     if some_is_heavy(trees) {
         return Err(Refusal::TooLarge);
     }
-    let hives = images_of(alloc, id, trees)?;
-    let journal = JournalImage::of(alloc, id, trees.len() as u8)?;
-    write_hives(disk, &hives)?;
-    journal.write(disk)?;
-    Ok(())
+    let images = images_of(alloc, id, trees)?;
+    write_store(alloc, disk, id, &images)
+}
+
+/// Makes the files of a store under an id, whatever they contained: a journal without a change, and of each of 1 to 16
+/// hives' files, given by their bytes, the files of a hive at number 0. Its bins data, root and minor version are the
+/// file's; its base block is a new one of the store. All of them are synced. All is made in memory before the first
+/// device call, and the journal's file comes last, as [`create`] makes it.
+///
+/// Refused with the refusal of the first file that holds no hive: `HiveDamaged` of the hive that it was to be,
+/// `Unsupported` or `TooLarge`; and with `NoMemory`: nothing has changed then. Refused with `DiskFault` if the device
+/// failed in a call, which was the last one: nothing is promised of the store's files then.
+pub fn create_from<D: Disk>(
+    alloc: Global,
+    disk: &mut D,
+    id: Uuid,
+    files: Vec<Vec<u8>>,
+) -> Result<(), Refusal>
+    requires some { 1 ≤ length files.items }
+    requires few { length files.items ≤ MOST_HIVES }
+    ensures made { OnOk result ((trees : List TreeMap)
+        × FilesHoldTrees (map (λ file. file.items) files.items) trees × (D.faithful disk.new →
+        StoreIsCreatedFrom id (map (λ file. file.items) files.items) trees
+        (D.state_at disk.new (D.clock disk.new))
+        × RecoversTrees id trees (D.state_at disk.new (D.clock disk.new)))) }
+    ensures shows { OnOk result (D.faithful disk.new →
+        LeavesHonest (IsPrimaryOf (length files.items))
+        (D.state_at disk.new (D.clock disk.new))
+        (seen_in (D.state_at disk.new (D.clock disk.new)))) }
+    ensures refused { IfErr result (λ why.
+        ((why ≡ DiskFault) × (D.failures disk.old < D.failures disk.new))
+        ⊎ (AreRefusedFor (map (λ file. file.items) files.items) why × (disk.new ≡ disk.old))) }
+    ensures stays { TouchesOwnFiles (IsOfStore (length files.items)) (D.state_at disk.old)
+        (D.state_at disk.new) (D.clock disk.old) (D.clock disk.new) }
+    ensures faithful { D.faithful disk.new → D.faithful disk.old }
+{
+    let images = images_of_files(alloc, id, files)?;
+    write_store(alloc, disk, id, &images)
 }
 
 // whether a tree is over the weight
@@ -90,6 +127,7 @@ fn tree_at(trees: &Trees, hive: u8) -> &Tree
 fn images_of(alloc: Global, id: Uuid, trees: &Trees) -> Result<Vec<HiveImage>, Refusal>
     requires few { length trees.now ≤ MOST_HIVES }
     requires light { AreWithin trees.now }
+    ensures some { IfOk result (λ images. 1 ≤ length images.items) }
     ensures many { IfOk result (λ images. length images.items ≡ length trees.now) }
     ensures images { IfOk result (λ images. AreImagesOf id trees.now images.items) }
     ensures refused { IfErr result (λ why. why ≡ NoMemory) }
@@ -101,6 +139,59 @@ fn images_of(alloc: Global, id: Uuid, trees: &Trees) -> Result<Vec<HiveImage>, R
         images.push_reserved(image);
     }
     Ok(images)
+}
+
+// the images of hives' files, in their order; the files' bytes are moved
+fn images_of_files(alloc: Global, id: Uuid, files: Vec<Vec<u8>>) -> Result<Vec<HiveImage>, Refusal>
+    requires few { length files.items ≤ MOST_HIVES }
+    ensures many { IfOk result (λ images. length images.items ≡ length files.items) }
+    ensures images { IfOk result (λ images.
+        AreImagesOfFiles id (map (λ file. file.items) files.items) images.items) }
+    ensures refused { IfErr result (AreRefusedFor (map (λ file. file.items) files.items)) }
+{
+    let mut images = Vec::with_capacity(alloc, files.len())?;
+    for file in files {
+        let hive = images.len() as u8;
+        let image = HiveImage::of_file(alloc, id, hive, file)?;
+        images.push_reserved(image);
+    }
+    Ok(images)
+}
+
+// makes the files of a store: those of hives, each of the image with its number, and then a journal without a change;
+// refused with `NoMemory` before the first device call
+fn write_store<D: Disk>(
+    alloc: Global,
+    disk: &mut D,
+    id: Uuid,
+    images: &[HiveImage],
+) -> Result<(), Refusal>
+    requires some { 1 ≤ length images.now }
+    requires few { length images.now ≤ MOST_HIVES }
+    ensures made { OnOk result (D.faithful disk.new →
+        (D.state_at disk.new (D.clock disk.new) journal_file
+        ≡ at_rest (created_bytes (record { id = id; hives = length images.now })))
+        × AreWritten images.now (D.state_at disk.new (D.clock disk.new))) }
+    ensures recovers { OnOk result (D.faithful disk.new → (trees : List TreeMap) →
+        length trees ≡ length images.now →
+        HivesAreDurable id trees (D.state_at disk.new (D.clock disk.new)) →
+        RecoversTrees id trees (D.state_at disk.new (D.clock disk.new))) }
+    ensures shows { OnOk result (D.faithful disk.new → (trees : List TreeMap) →
+        HivesAreDurable id trees (D.state_at disk.new (D.clock disk.new)) →
+        LeavesHonest (IsPrimaryOf (length trees)) (D.state_at disk.new (D.clock disk.new))
+        (seen_in (D.state_at disk.new (D.clock disk.new)))) }
+    ensures refused { IfErr result (λ why.
+        ((why ≡ DiskFault) × (D.failures disk.old < D.failures disk.new))
+        ⊎ ((why ≡ NoMemory) × (disk.new ≡ disk.old))) }
+    ensures stays { TouchesOwnFiles (IsOfStore (length images.now)) (D.state_at disk.old)
+        (D.state_at disk.new) (D.clock disk.old) (D.clock disk.new) }
+    ensures faithful { D.faithful disk.new → D.faithful disk.old }
+{
+    commit_journal::laws::leaves::<(u64, Op)>();
+    let journal = JournalImage::of(alloc, id, images.len() as u8)?;
+    write_hives(disk, images)?;
+    journal.write(disk)?;
+    Ok(())
 }
 
 // makes the files of the hives, each of the image with its number

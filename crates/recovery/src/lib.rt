@@ -1,6 +1,6 @@
 //! Making and opening a store: the number and the trees that its files recover.
 //!
-//! [`create`] makes a store of some trees, at number 0.
+//! [`create`] makes a store of some trees, at number 0, and [`create_from`] one of the hives in some files.
 //!
 //! The journal and the hives are each read by themselves. Together they recover one number and one tree for each hive:
 //! the tree in its files, with the changes of the journal above the hive's own number. [`open`] answers them, and
@@ -23,7 +23,7 @@ mod retained_changes;
 mod store_opening;
 mod store_read;
 
-pub use creation::create;
+pub use creation::{create, create_from};
 pub use found::RecoveredStore;
 pub use opened::{Opened, open};
 pub use retained_changes::RetainedChanges;

@@ -20,7 +20,7 @@ loop-hive-preserved g c =
     let lt : l.hive < length images = omega (arith, c.loop-hive-test.true, c.requires.few) in
     let is : slice_get images l.hive ≡ Some image = slice_get_read images (length images) l.hive image refl lt (c.index-images-from.is ∙ ap (λ n. get_or images n image) c.from.ensures) in
     record {
-      made = λ f. one_more_written l.hive images image (mid (D.clock l.disk)) (new (D.clock c.write.new.disk)) (i.made (w.faithful f)) is w.stays.others (c.in_ok-write.ensures.created f);
+      made = λ f. one_more_written l.hive images image (mid (D.clock l.disk)) (new (D.clock c.write.new.disk)) (i.made (w.faithful f)) is w.stays.others (record { created = c.in_ok-write.ensures.created f; copied = c.in_ok-write.ensures.copied f });
       stays = stays_on (IsOfHives (length images)) first mid new (D.clock c.args.disk.now) (D.clock l.disk) (D.clock c.write.new.disk) i.stays
           (stays_wider (IsFileOfHive l.hive) (IsOfHives (length images)) mid new (D.clock l.disk) (D.clock c.write.new.disk) (λ f of. (l.hive, lt, of)) w.stays);
       failures = c.in_ok-write.ensures.failures ∙ i.failures;
