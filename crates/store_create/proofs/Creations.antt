@@ -1,5 +1,6 @@
 -- What a creation leaves, and what is reported of it.
 use Rattle.std.proofs.Common.{ℕ, List, length, Option, Result, Ok, Err, OnOk, IfOk, IfErr, MatchResult, inl, inr}
+use Rattle.std.proofs.lemmas.Result.{IfOk-weaker}
 use Rattle.refusals.specs.declared.refusal.Refusal.{Refusal}
 use Rattle.script_syntax.specs.declared.status.Status.{Status}
 use Rattle.reg_tree.specs.Maps.{TreeMap}
@@ -17,15 +18,6 @@ pub new_where_made : {T E : Type 0} (result : Result T E) (faithful : Type 0) (i
 new_where_made (Ok x) faithful id trees state made recovers seen = λ f. record { made = made f; recovers = recovers f; seen = seen f }
 new_where_made (Err e) faithful id trees state made recovers seen = tt
 
--- what holds of a result for another reason
-pub if_ok_as : {T E : Type 0} {P Q : T → Type 0} (result : Result T E) → ((x : T) → P x → Q x) → IfOk result P → IfOk result Q
-if_ok_as (Ok x) f h = f x h
-if_ok_as (Err e) f h = tt
-
-pub on_ok_as : {T E : Type 0} {P Q : Type 0} (result : Result T E) → (P → Q) → OnOk result P → OnOk result Q
-on_ok_as (Ok x) f h = f h
-on_ok_as (Err e) f h = tt
-
 -- no store is made for another reason
 pub not_made_as : {T : Type 0} (result : Result T Refusal) (failed same : Type 0) (reason other : Refusal → Type 0) → ((why : Refusal) → reason why → other why) → IfErr result (IsNotMade failed same reason) → IfErr result (IsNotMade failed same other)
 not_made_as (Ok x) failed same reason other f h = tt
@@ -33,8 +25,8 @@ not_made_as (Err why) failed same reason other f (inl fault) = inl fault
 not_made_as (Err why) failed same reason other f (inr refused) = inr (f why refused.0, refused.1)
 
 -- what is reported of a creation of trees
-pub told_of : {E : Type 0} (result : Result Status E) (made : Result (Unit {0}) Refusal) (trees : List TreeMap) (before after : Option (List ℕ)) (stands : List TreeMap → Type 0) (not : Refusal → Type 0)
-    → IfOk result (λ status. MatchResult made (λ _. (any : List TreeMap) → OutcomeIsWritten before after (Ok any) status) (λ why. OutcomeIsWritten before after (Err why) status)) → OnOk made (stands trees) → IfErr made not
+pub told_of : {E : Type 0} (result : Result Status E) (made : Result (Unit {0}) Refusal) (before after : Option (List ℕ)) (stands : List TreeMap → Type 0) (not : Refusal → Type 0)
+    → IfOk result (λ status. MatchResult made (λ _. (any : List TreeMap) → OutcomeIsWritten before after (Ok any) status) (λ why. OutcomeIsWritten before after (Err why) status)) → OnOk made ((trees : List TreeMap) × stands trees) → IfErr made not
     → (outcome : Result (List TreeMap) Refusal) × IfOk result (OutcomeIsWritten before after outcome) × MatchResult outcome stands not
-told_of result (Ok x) trees before after stands not outcome made refused = (Ok trees, if_ok_as result (λ status t. t trees) outcome, made)
-told_of result (Err why) trees before after stands not outcome made refused = (Err why, outcome, refused)
+told_of result (Ok x) before after stands not outcome made refused = (Ok made.0, IfOk-weaker result _ _ (λ status told. told made.0) outcome, made.1)
+told_of result (Err why) before after stands not outcome made refused = (Err why, outcome, refused)

@@ -1,3 +1,4 @@
 pub mod Fresh
 pub mod Takings
+pub mod Fronts
 pub mod Creations

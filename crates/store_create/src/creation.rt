@@ -1,12 +1,12 @@
 //! Making a store of trees, and reporting whether it is made.
-ghost use Rattle.std.specs.Prelude.{◌≡◌, ◌<◌, ◌≤◌, List, length, replicate, IfOk, IfErr, OnOk, MatchResult, Ok, Err, Result};
+ghost use Rattle.std.specs.Prelude.{◌≡◌, ◌<◌, ◌≤◌, List, replicate, IfOk, IfErr, OnOk, MatchResult, Ok, Err, Result};
 ghost use Rattle.refusals.specs.declared.limits.TheConstants.{MOST_HIVES};
 ghost use Rattle.refusals.specs.declared.refusal.Refusal.{Refusal};
 ghost use Rattle.refusals.specs.declared.refusal.Refusal.TheVariants.{NoMemory};
 ghost use Rattle.reg_tree.specs.Fresh.{fresh_tree};
 ghost use Rattle.reg_tree.specs.Maps.{TreeMap};
 ghost use Rattle.hive_files.specs.Frames.{TouchesOwnFiles};
-ghost use Rattle.recovery.specs.Created.{IsOfStore, IsRefusedFor};
+ghost use Rattle.recovery.specs.Created.{IsOfStore};
 ghost use Rattle.store_create.specs.Creations.{IsNewStore, IsNotMade, OutcomeIsWritten};
 
 use disk_model::Disk;
@@ -63,26 +63,7 @@ fn make_fresh<D: Disk>(alloc: Global, disk: &mut D, id: Uuid, hives: usize) -> R
     ensures faithful { D.faithful disk.new → D.faithful disk.old }
 {
     let trees = Trees::new(alloc, hives)?;
-    make_store(alloc, disk, id, &trees)
-}
-
-/// Makes a store of trees. Refused with the refusals of [`recovery::create`].
-pub(crate) fn make_store<D: Disk>(
-    alloc: Global,
-    disk: &mut D,
-    id: Uuid,
-    trees: &Trees,
-) -> Result<(), Refusal>
-    requires few { length trees.now ≤ MOST_HIVES }
-    ensures made { OnOk result (D.faithful disk.new →
-        IsNewStore id trees.now (D.state_at disk.new (D.clock disk.new))) }
-    ensures refused { IfErr result (IsNotMade (D.failures disk.old < D.failures disk.new)
-        (disk.new ≡ disk.old) (IsRefusedFor trees.now)) }
-    ensures stays { TouchesOwnFiles (IsOfStore (length trees.now)) (D.state_at disk.old)
-        (D.state_at disk.new) (D.clock disk.old) (D.clock disk.new) }
-    ensures faithful { D.faithful disk.new → D.faithful disk.old }
-{
-    create(alloc, disk, id, trees)
+    create(alloc, disk, id, &trees)
 }
 
 /// Writes whether a store was made, and answers the status. The line is written out at once. It takes no memory.

@@ -2,19 +2,19 @@
 ghost use Rattle.std.specs.Prelude.{◌≡◌, ◌+◌, ◌<◌, ◌≤◌, ℕ, List, [], ◌∷◌, ◌++◌, Option, IfOk, IfSome, OnOk, OnErr, MatchResult, Result};
 ghost use Rattle.refusals.specs.declared.limits.TheConstants.{MOST_HIVES};
 ghost use Rattle.refusals.specs.declared.refusal.Refusal.{Refusal};
+ghost use Rattle.refusals.specs.declared.refusal.Refusal.TheVariants.{NoMemory};
 ghost use Rattle.reg_tree.specs.Maps.{TreeMap};
 ghost use Rattle.hive_files.specs.Frames.{TouchesOwnFiles};
-ghost use Rattle.hive_file_reader.specs.Hives.{FileHoldsHive};
-ghost use Rattle.hive_file_reader.specs.Readings.{FileRefusedAs};
+ghost use Rattle.hive_file_reader.specs.Hives.{IsEnoughOf};
 ghost use Rattle.recovery.specs.Created.{IsOfStore};
-ghost use Rattle.store_create.specs.Creations.{IsNewStore, IsNotMade, OutcomeIsWritten};
-ghost use Rattle.store_create.specs.Imports.{AreHeldBy, HasTaken, IsRefusedImport};
+ghost use Rattle.store_create.specs.Creations.{IsNotMade, OutcomeIsWritten};
+ghost use Rattle.store_create.specs.Imports.{AreHeldBy, HasTaken, IsImportedStore, IsRefusedImport};
 
-use crate::creation::{make_store, write_outcome};
+use crate::creation::write_outcome;
 use disk_model::Disk;
-use hive_file_reader::{ReadError, read_hive};
+use hive_file_reader::{ReadError, read_file};
+use recovery::create_from;
 use refusals::Refusal;
-use reg_tree::{Tree, Trees};
 use script_syntax::Status;
 use std::alloc::Global;
 use std::io;
@@ -26,17 +26,15 @@ use uuid::Uuid;
 #[derive(Clone, Copy, Debug, PartialEq, Eq)]
 pub struct SourceFailed;
 
-/// Hives that are imported from up to 16 files, in the order of the files. The refusal of a file is kept until the
-/// store would be made: the first one is reported, though any of them may be. From then on no tree is kept, and the
-/// content of later files doesn't count; but they are read.
-///
-/// The trees are in memory, and within a call what [`read_hive`] keeps of one file.
+/// Hives that are imported from up to 16 files, in the order of the files. Of each the first bytes are kept, as many as
+/// decide which hive it holds; they are judged once the store would be made. If memory for them is wanting, no bytes are
+/// kept from then on, and the content of later files doesn't count; but they are read.
 #[derive(Drop)]
 pub struct Import {
     // how many files were taken
     count: u8,
-    // their trees, or the first refusal
-    outcome: Result<Vec<Tree>, Refusal>,
+    // their first bytes, or want of memory
+    outcome: Result<Vec<Vec<u8>>, Refusal>,
 }
 
 impl Model for Import {
@@ -65,8 +63,8 @@ impl Import {
         }
     }
 
-    /// Takes the file that a reader gives, as the hive of the next number. It is read as [`read_hive`] does, and its
-    /// refusal is kept, `NoMemory` too.
+    /// Takes the file that a reader gives, as the hive of the next number. It is read as [`read_file`] does, and no more
+    /// of it. Want of memory is kept for [`make`](Import::make).
     ///
     /// `Err` says that the reader failed: nothing was taken then.
     pub fn take<R: Read>(&mut self, alloc: Global, reader: &mut R) -> Result<(), SourceFailed>
@@ -76,49 +74,47 @@ impl Import {
         ensures count { OnOk result (self.new.count ≡ self.old.count + 1) }
         ensures unreadable { OnErr result (self.new ≡ self.old) }
     {
-        match read_hive(alloc, reader, self.count) {
-            Ok(tree) => self.keep(tree),
+        match read_file(alloc, reader) {
+            Ok(front) => self.keep(front),
             Err(ReadError::Refused(why)) => self.refuse(why),
             Err(ReadError::SourceFailed) => return Err(SourceFailed),
         }
         Ok(())
     }
 
-    // the next file, which has a tree
-    fn keep(&mut self, tree: Tree)
+    // the next file, by its first bytes
+    fn keep(&mut self, front: Vec<u8>)
         requires few { self.old.count < MOST_HIVES }
         ensures taken { (files : List (Option (List ℕ))) (known : Option (List ℕ)) →
-            IfSome known (λ file. FileHoldsHive file tree) → HasTaken files self.old →
+            IfSome known (IsEnoughOf front.items) → HasTaken files self.old →
             HasTaken (files ++ known ∷ []) self.new }
         ensures count { self.new.count ≡ self.old.count + 1 }
     {
         self.count += 1;
-        if let Ok(trees) = &mut self.outcome {
-            if trees.push(tree).is_err() {
+        if let Ok(fronts) = &mut self.outcome {
+            if fronts.push(front).is_err() {
                 self.outcome = Err(Refusal::NoMemory);
             }
         }
     }
 
-    // the next file, which is refused
+    // the next file, for which memory is wanting
     fn refuse(&mut self, why: Refusal)
         requires few { self.old.count < MOST_HIVES }
+        requires memory { why ≡ NoMemory }
         ensures taken { (files : List (Option (List ℕ))) (known : Option (List ℕ)) →
-            IfSome known (λ file. FileRefusedAs self.old.count file why) → HasTaken files self.old →
-            HasTaken (files ++ known ∷ []) self.new }
+            HasTaken files self.old → HasTaken (files ++ known ∷ []) self.new }
         ensures count { self.new.count ≡ self.old.count + 1 }
     {
         self.count += 1;
-        if self.outcome.is_ok() {
-            self.outcome = Err(why);
-        }
+        self.outcome = Err(why);
     }
 
-    /// Makes a store of the trees of all files that were taken, of which there is at least one, under an id. Writes
-    /// whether it is made: `ok`, or the refusal's line. Answers the status. What the store's files contained before is
-    /// lost.
+    /// Makes a store of the hives in all files that were taken, of which there is at least one, under an id. A hive's
+    /// bins data, root and minor version stay as they are in its file. Writes whether the store is made: `ok`, or the
+    /// refusal's line. Answers the status. What the store's files contained before is lost.
     ///
-    /// The text reports the refusal of the first file that was refused: `HiveDamaged` of the hive that it was to be,
+    /// The text reports the refusal of the first file that holds no hive: `HiveDamaged` of the hive that it was to be,
     /// `Unsupported` or `TooLarge`; or `NoMemory`. Nothing has changed on the disk then. It reports `DiskFault` if the
     /// device failed: nothing is promised of the store's files then. `Err` says that a write to the writer failed; the
     /// same holds of the disk then.
@@ -135,17 +131,18 @@ impl Import {
             × IfOk result (OutcomeIsWritten (W.contents writer.old) (W.contents writer.new) outcome)
             × MatchResult outcome
             (λ trees. AreHeldBy files trees × (D.faithful disk.new →
-            IsNewStore id trees (D.state_at disk.new (D.clock disk.new))))
+            IsImportedStore id files trees (D.state_at disk.new (D.clock disk.new))))
             (IsNotMade (D.failures disk.old < D.failures disk.new) (disk.new ≡ disk.old)
             (IsRefusedImport files)) }
         ensures stays { TouchesOwnFiles (IsOfStore self.count) (D.state_at disk.old) (D.state_at disk.new)
             (D.clock disk.old) (D.clock disk.new) }
         ensures faithful { D.faithful disk.new → D.faithful disk.old }
     {
+        hive_file_reader::laws::fronts_decide();
         let Import { count: _, outcome } = self;
         match outcome {
-            Ok(trees) => {
-                let made = make_store(alloc, disk, id, &Trees::from_vec(trees));
+            Ok(fronts) => {
+                let made = create_from(alloc, disk, id, fronts);
                 write_outcome(writer, made)
             }
             Err(why) => write_outcome(writer, Err(why)),

@@ -1,15 +1,15 @@
 //! Making a store: of new hives, or of hives that are imported from files.
 //!
 //! [`make_new`] makes a store of 1 to 16 empty hives. An [`Import`] takes files one by one, each as the hive of the
-//! next number, and makes a store of their trees. Both report in a line: `ok`, or why there is no store. They work over
-//! any disk and writer, and an import over any readers: whoever calls them chooses the store's files and opens those to
-//! be imported.
+//! next number, and makes a store of copies of their hives. Both report in a line: `ok`, or why there is no store. They
+//! work over any disk and writer, and an import over any readers: whoever calls them chooses the store's files and opens
+//! those to be imported.
 //!
 //! What is promised: either a store of trees is reported, or a refusal. A store has the trees of new hives, or exactly
-//! those of the files, in their order. On a disk that has answered as it should, whatever a crash leaves from then on
-//! recovers them, at number 0. A refusal is that of the device, which failed; or nothing has changed on the disk, and
-//! the refusal is that of one of the files, `TooLarge` if a tree is over the weight, or `NoMemory`. If every write
-//! succeeds, the line of that report was written, and the status is its status.
+//! those of the files, in their order. A hive of a file keeps its bins data, root and minor version. On a disk that has
+//! answered as it should, whatever a crash leaves from then on recovers the trees, at number 0. A refusal is that of the
+//! device, which failed; or nothing has changed on the disk, and the refusal is that of the first file that holds no
+//! hive, or `NoMemory`. If every write succeeds, the line of that report was written, and the status is its status.
 #![tactic(auto)]
 
 mod creation;
