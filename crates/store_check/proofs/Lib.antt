@@ -1,2 +1,3 @@
 pub mod Hives
 pub mod Found
+pub mod Repairs

@@ -1,8 +1,8 @@
 //! The lines of a store's hives.
-ghost use Rattle.std.specs.Prelude.{◌<◌, length, OnOk};
+ghost use Rattle.std.specs.Prelude.{◌≡◌, ◌<◌, length, OnOk};
 ghost use Rattle.std.specs.Io.KnownBytes.{Appends};
 ghost use Rattle.recovery.specs.Retained.{numbered_changes};
-ghost use Rattle.store_check.specs.StoreTexts.{hive_line, hive_lines, lacks_text, repair_text, applied_text, state_line};
+ghost use Rattle.store_check.specs.StoreTexts.{hive_line, hive_lines, lacks_text, repair_text, applied_text, pages_to_repair, state_line};
 
 use hive_flush::HiveFile;
 use recovery::RetainedChanges;
@@ -36,7 +36,17 @@ fn write_hive<W: Write>(
 {
     let applied = file.applied();
     let count = changes.count_lacked(hive, applied);
-    write_line(writer, hive, applied, file.dirty_pages(), count)
+    write_line(writer, hive, applied, pages_to_repair(file), count)
+}
+
+// how many pages a repair of a hive's file writes: none if no repair is left
+fn pages_to_repair(file: &HiveFile) -> usize
+    ensures { result ≡ pages_to_repair file.now }
+{
+    if file.is_whole() {
+        return 0;
+    }
+    file.dirty_pages()
 }
 
 // the same, by numbers
