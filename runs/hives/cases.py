@@ -8,7 +8,7 @@ import os
 import struct
 from dataclasses import dataclass
 
-from maker import NONE, SEGMENT, Key, Value, head, hive, mended, u16, u32, u64
+from maker import NEWEST, NONE, SEGMENT, Key, Value, head, hive, mended, of_minor, u16, u32, u64
 
 
 @dataclass
@@ -290,6 +290,61 @@ def big_data():
         yield refused(f"{other} bytes in {segments} segments", patched(file, value + 4, u32(other)), damaged("BadRecord"))
 
 
+def versions():
+    """Hives of each minor version that is read. In 1.3 data of more than four bytes lie in one cell, however many they are."""
+    for size in (0, 1, 4, 5, SEGMENT, SEGMENT + 1, 2 * SEGMENT, 2 * SEGMENT + 1, 1_048_576):
+        data = bytes(at * 11 % 253 for at in range(size))
+        for minor in (3, 4):
+            file, _ = hive(Key("r", 9, [], [Value("v", 3, data)]), minor=minor)
+            yield Case(f"{size} bytes in 1.{minor}", file, [lines("key 0: 9", f"val v 3 {data.hex() or '-'}")])
+    big = "val big 3 " + "00" * (SEGMENT + 1)
+    text = lines("key 0: 1", "key 0:a 4", "val @ 1 616263646566", "val n 4 01000000", "key 0:b 5", "key 0:wide%0020%4e2d 2", big,
+                 "key 0:wide%0020%4e2d\\x 3")
+    for minor in (3, 4, 5):
+        yield Case(f"records of each kind in 1.{minor}", every_kind(SEGMENT + 1, minor), [text])
+    for minor in (0, 1, 2, 6, 7, 256 + 3, NONE):
+        yield refused(f"version 1.{minor}", hive(Key("r"), minor=minor)[0], UNSUPPORTED)
+    for name, number in (("major", 0), ("major", 2), ("format", 0), ("format", 2), ("kind", 1), ("kind", 2)):
+        yield refused(f"1.3 with {name} {number}", hive(Key("r"), minor=3, **{name: number})[0], UNSUPPORTED)
+    yield from one_cells()
+    yield from segments_in_a_cell()
+
+
+def one_cells():
+    """Large data in one cell: one of 16,352 bytes, whose size is stored as a negative number, has room for 16,348."""
+    file, places = hive(Key("r", 9, [], [Value("v", 3, bytes(SEGMENT + 1))]), minor=3)
+    value = value_of(file, places["r"])
+    file = patched(file, number(file, value + 8), bytes.fromhex("20c0ffff"))
+    for size in (SEGMENT + 1, 16_348):
+        text = lines("key 0: 9", "val v 3 " + "00" * size)
+        yield Case(f"a cell of 16,352 bytes that has {size} in 1.3", patched(file, value + 4, u32(size)), [text])
+        for minor in (4, 5):
+            yield refused(f"the same in 1.{minor}", of_minor(patched(file, value + 4, u32(size)), minor), damaged("BadRecord"))
+    yield refused("16,349 bytes in a cell for 16,348", patched(file, value + 4, u32(16_349)), damaged("BadRecord"))
+    yield refused("the data of 1.3 nowhere", patched(file, value + 8, u32(NONE)), damaged("BadOffset"))
+    file, places = hive(Key("r", 0, [], [Value("v", 3, bytes(SEGMENT + 1)), Value("w", 3, bytes(SEGMENT + 1))]), minor=3)
+    first, second = value_of(file, places["r"]), value_of(file, places["r"], 1)
+    yield refused("two large values of 1.3 with one cell", patched(file, second + 8, u32(number(file, first + 8))), damaged("Shared"))
+    file, _ = hive(Key("r", 9, [], [Value("v", 3, bytes(SEGMENT + 1))]))
+    yield Case("big data in 1.4", of_minor(file, 4), [lines("key 0: 9", "val v 3 " + "00" * (SEGMENT + 1))])
+    yield refused("a record of big data in 1.3 is a cell that is too short", of_minor(file, 3), damaged("BadRecord"))
+
+
+def segments_in_a_cell():
+    """A value whose cell begins as a record of big data does, and has room for as many bytes as its segments have. In 1.3 the data
+    are the cell's bytes, and after that those of the segments. These were another value's, which has none now."""
+    parts = bytes(at * 5 % 249 for at in range(SEGMENT + 1))
+    file, places = hive(Key("r", 9, [], [Value("w", 3, parts), Value("v", 3, bytes(SEGMENT))]))
+    other, value = value_of(file, places["r"]), value_of(file, places["r"], 1)
+    record = number(file, other + 8) + 4 + 4_096
+    record = file[record:record + 8]
+    file = patched(patched(file, value + 4, u32(SEGMENT + 1)), number(file, value + 8) + 4, record)
+    file = patched(file, other + 4, u32(1 << 31))
+    for minor, data in ((3, record + bytes(SEGMENT + 1 - 8)), (4, parts), (5, parts)):
+        text = lines("key 0: 9", "val v 3 " + data.hex(), "val w 3 -")
+        yield Case(f"a cell as a record of big data and as data, in 1.{minor}", of_minor(file, minor), [text])
+
+
 def lists():
     tree = Key("r", 0, [Key("a"), Key("b"), Key("c")], many=2)
     file, places = hive(tree)
@@ -376,14 +431,14 @@ def utf16(text):
 
 
 def all_cases():
-    for made in (names_and_order, values, files, sums, tiles, roots, keys, key_nodes, securities, value_records, big_data, lists,
-                 bad_names, limits, examples):
+    for made in (names_and_order, values, files, sums, tiles, roots, keys, key_nodes, securities, value_records, big_data, versions,
+                 lists, bad_names, limits, examples):
         yield from made()
 
 
-def every_kind(size=SEGMENT + 1):
-    """A small hive with records of each kind; one value has so many bytes of data."""
+def every_kind(size=SEGMENT + 1, minor=NEWEST):
+    """A small hive with records of each kind; one value has so many bytes of data. It is of a minor version."""
     tree = Key("ROOT", 1, [Key("wide \u4e2d", 2, [Key("x", 3)], [Value("big", 3, bytes(size))]),
                            Key("a", 4, [], [Value("", 1, b"abcdef"), Value("n", 4, b"\1\0\0\0")], 0, b"descriptor"),
                            Key("b", 5, [], [], 0, b"descriptor", b"class")], many=2)
-    return hive(tree)[0]
+    return hive(tree, minor=minor)[0]

@@ -9,6 +9,8 @@ sys.setrecursionlimit(5_000)    # trees that are too deep are made too
 
 NONE = 0xffffffff
 SEGMENT = 16_344
+# the minor version that is written, and the least one whose data of more than a segment's bytes lie in segments
+NEWEST, SPLITS_FROM = 5, 4
 
 
 def u16(*numbers):
@@ -62,10 +64,11 @@ def free_bin(at, size):
 
 
 class Cells:
-    """The cells of one bin, in the order in which they are put. It lies behind a free bin of some size."""
+    """The cells of one bin, in the order in which they are put. It lies behind a free bin of some size. Large data lie in segments,
+    or in one cell each."""
 
-    def __init__(self, before=0):
-        self.before = before
+    def __init__(self, before=0, splits=True):
+        self.before, self.splits = before, splits
         self.bytes = bytearray(before + 32)
         self.places = {}
 
@@ -99,7 +102,7 @@ def value_of(cells, value):
     size, where = len(value.data), 0
     if size <= 4:
         size, where = size | 1 << 31, struct.unpack("<I", value.data.ljust(4, b"\0"))[0]
-    elif size <= SEGMENT:
+    elif size <= SEGMENT or not cells.splits:
         where = cells.put(value.data)
     else:
         parts = [cells.put(value.data[at:at + SEGMENT] + bytes(4)) for at in range(0, size, SEGMENT)]
@@ -148,7 +151,7 @@ def key_of(cells, key, securities):
 
 def head(root, size, **other):
     """The first 4,096 bytes of a primary file; other fields by their names."""
-    fields = {"signature": b"regf", "primary": 1, "secondary": 1, "written": 0, "major": 1, "minor": 5, "kind": 0, "format": 1,
+    fields = {"signature": b"regf", "primary": 1, "secondary": 1, "written": 0, "major": 1, "minor": NEWEST, "kind": 0, "format": 1,
               "store": bytes(16), "applied": 0}
     fields.update(other)
     text = (fields["signature"] + u32(fields["primary"], fields["secondary"]) + u64(fields["written"])
@@ -174,10 +177,23 @@ def mended(file):
     return file[:508] + u32({0: 1, NONE: NONE - 1}.get(total, total)) + file[512:]
 
 
+def of_minor(file, minor):
+    """The file with another minor version, and the right sum."""
+    return mended(file[:24] + u32(minor) + file[28:])
+
+
+def imported(file, store):
+    """The primary file that an import makes of a hive's file: its bins data below a block of the store."""
+    minor, = struct.unpack_from("<I", file, 24)
+    root, size = struct.unpack_from("<2I", file, 36)
+    return head(root, size, minor=minor, store=store) + file[4_096:4_096 + size]
+
+
 def hive(root, before=0, least=0, **other):
     """The primary file of a tree, and the offsets of its keys' cells by their names. Its bin lies behind a free one of some
-    size, and the bins data have at least some size."""
-    cells = Cells(before)
+    size, and the bins data have at least some size. Fields of the base block are given by their names; its minor version says how
+    large data are stored."""
+    cells = Cells(before, other.get("minor", NEWEST) >= SPLITS_FROM)
     at = key_of(cells, root, {})
     bins = cells.bins(least)
     return head(at, len(bins), **other) + bins, cells.places

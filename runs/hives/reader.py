@@ -1,10 +1,11 @@
 """Reads the tree of a primary file by the rules of docs/FORMATS.md, and by nothing of this project's code. If it is strict, the
-file has to keep what the rules say of written bytes, too. An edited file may have cells with room, and greater upper bounds.
+file has to keep what the rules say of written bytes, too. An edited file may have cells with room, and greater upper bounds. Also reads
+which pages a log marks.
 """
 import struct
 from dataclasses import dataclass, field
 
-from maker import NONE, SEGMENT
+from maker import NONE, SEGMENT, SPLITS_FROM
 
 LATIN_KEY, LATIN_VALUE = 0x20, 1
 MOST_IN_LEAF = 500
@@ -47,7 +48,9 @@ def hash_of(name):
 class Reader:
     def __init__(self, file, strict=False, edited=False):
         self.strict, self.edited, self.named = strict, edited, {}
+        minor, = struct.unpack_from("<I", file, 24)
         root, size = struct.unpack_from("<2I", file, 36)
+        self.splits = minor >= SPLITS_FROM
         self.bins, self.cells = file[4_096:4_096 + size], {}
         at = 0
         while at < size:
@@ -189,7 +192,7 @@ class Reader:
 
     def data(self, at, size):
         """Data in one cell, or in segments."""
-        if size <= SEGMENT:
+        if size <= SEGMENT or not self.splits:
             return self.cell(at, size)
         letters, count, parts = struct.unpack_from("<2sHI", self.cell(at, 8))
         if letters != b"db" or count != (size + SEGMENT - 1) // SEGMENT:
@@ -204,6 +207,21 @@ def bounds(row):
             max((len(name) for name, _, _ in values), default=0), max((len(data) for _, _, data in values), default=0))
 
 
+def marked(log):
+    """The pages that a log marks."""
+    size, = struct.unpack_from("<I", log, 40)
+    return [page for page in range(size // 512) if log[516 + page // 8] >> page % 8 & 1]
+
+
 def read(file, strict=False, edited=False):
     """The tree of a hive."""
     return Reader(file, strict, edited).tree
+
+
+def wrong_tree(file, wanted, edited=True):
+    """What is wrong with a hive that is to have this tree, by the rules of written ones; or None."""
+    try:
+        found = read(file, True, edited)
+    except (WrongHive, KeyError, struct.error) as wrong:
+        return repr(wrong)
+    return None if found == wanted else "another tree"
