@@ -43,6 +43,15 @@ def peak(folder):
     return compiled("peak.c", f"{folder}/peak")
 
 
+def spent_by(peak, runs, words, before=lambda: None):
+    """The least processor seconds of some runs, and the most bytes that one held. What is to be done before each isn't counted."""
+    told = []
+    for _ in range(runs):
+        before()
+        told.append(subprocess.run([peak, *words], stdout=subprocess.PIPE, check=True).stdout.split())
+    return min(int(run[0]) for run in told) / 1_000_000, max(int(run[1]) for run in told)
+
+
 def held(folder):
     """The library, for LD_PRELOAD, that prints how many bytes a program holds and how many it held at most."""
     return compiled("held.c", f"{folder}/held.so", "-shared", "-fPIC")
