@@ -1,6 +1,7 @@
 """What other programs read in a hive's file: hivexml, of libhivex, and reglookup. Each gives the key paths and the values of all
 keys whose names are printable ASCII: hives are compared by these. Of data in segments reglookup is only asked whether they are there:
-it puts segments together by their offsets in the file, and not as their list has them.
+it puts segments together by their offsets in the file, and not as their list has them. Of hives with plain names reged gives the same,
+by the registration file that it exports.
 """
 import base64
 import re
@@ -66,11 +67,32 @@ def reglookup(path):
     return keys, values
 
 
+def reged(path):
+    """The same, of a hive whose names have no quote and no backslash, as a registration file of reged has them."""
+    subprocess.run(["reged", "-x", path, "HKEY_X", "\\", f"{path}.exported"], stdout=subprocess.DEVNULL, check=True)
+    with open(f"{path}.exported", encoding="latin-1", newline="") as file:
+        text = re.sub(r"\\\r\n *", "", file.read())
+    keys, values, root, names = set(), {}, None, ()
+    for line in text.split("\r\n"):
+        if line.startswith("["):
+            path = line[1:-1].rstrip("\\").split("\\")
+            # the root comes first, with its own name or without
+            root = root or len(path)
+            names = tuple(path[root:])
+            keys.add(names)
+        elif "=" in line:
+            name, _, data = line.partition("=")
+            is_binary = data.startswith("hex:")
+            values[names, name.strip('"')] = bytes.fromhex(data[4:].replace(",", "")) if is_binary else None
+    return keys, values
+
+
 def without_segments(values):
     return {at: data if data is None or len(data) <= SEGMENT else None for at, data in values.items()}
 
 
 READERS = [reader for reader in (hivexml, reglookup) if shutil.which(reader.__name__)]
+READERS_OF_PLAIN = READERS + ([reged] if shutil.which("reged") else [])
 
 
 def wrong_reading(path, root):

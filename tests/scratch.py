@@ -10,6 +10,8 @@ from contextlib import contextmanager
 TOP = os.path.dirname(os.path.dirname(os.path.abspath(__file__)))
 SECONDS = 60
 NOBODY = 65_534
+# where files lie in memory, and what stores may take of it
+MEMORY, ROOM = "/dev/shm", 268_435_456
 
 
 class Program:
@@ -55,6 +57,13 @@ def refusal_shim():
     return built.stdout.decode().strip()
 
 
+def noting_library(program):
+    """The path of the library that notes calls on files, for LD_PRELOAD; tests/syncs.c says by which variables."""
+    path = program.at("syncs.so")
+    subprocess.run(["cc", "-O2", "-shared", "-fPIC", "-o", path, os.path.join(TOP, "tests", "syncs.c")], check=True)
+    return path
+
+
 def as_other():
     """What makes a run one of a user who isn't root; nothing where this isn't root either."""
     return {"user": NOBODY} if os.geteuid() == 0 else {}
@@ -85,10 +94,18 @@ def mounted(program, size):
             subprocess.run(["umount", program.at("full")], check=True)
 
 
+def memory():
+    """The folder whose files lie in memory, where there is one with room for stores; or None."""
+    if not os.access(MEMORY, os.W_OK):
+        return None
+    told = os.statvfs(MEMORY)
+    return MEMORY if told.f_bavail * told.f_frsize >= ROOM else None
+
+
 @contextmanager
-def program_at(path, prefix):
-    """The program of this path, copied into a folder that goes with the run."""
-    with tempfile.TemporaryDirectory(prefix=prefix) as home:
+def program_at(path, prefix, where=None):
+    """The program of this path, copied into a folder that goes with the run; in another folder if so asked."""
+    with tempfile.TemporaryDirectory(prefix=prefix, dir=where) as home:
         os.chmod(home, 0o755)
         program = Program(shutil.copy(os.path.realpath(path), os.path.join(home, "regtx")), home)
         os.chmod(program.path, 0o755)
