@@ -1,20 +1,25 @@
 -- What every step keeps: what was there at the opening, and what is durable. Which events accept a change, and that a
 -- refusal for want of memory changes nothing.
-use Rattle.std.proofs.Common.{◌≡◌, ◌≤◌, inl, inr, ℕ, ◌+◌, ◌==◌, length, Bool, true, false, List, [], ◌∷◌, ◌++◌, Option, cond, refl, sym, ◌∙◌, ap, subst, le_refl}
+use Rattle.std.proofs.Common.{◌≡◌, ◌≤◌, inl, inr, ℕ, ◌+◌, ◌==◌, length, Bool, true, false, List, [], ◌∷◌, ◌++◌, Option, cond, refl, sym, ◌∙◌, ap, subst, le_refl, arith}
 use Rattle.refusals.specs.declared.refusal.Refusal.{Refusal}
 use Rattle.refusals.specs.declared.refusal.Refusal.TheVariants.{NoMemory}
 use Rattle.store_model.specs.Transactions.{Transaction}
 use Rattle.store_model.specs.Machine.{Machine, is_open}
-use Rattle.store_model.specs.Steps.{Step, StepFails, after_commit, may_accept, with_session}
+use Rattle.store_model.specs.Steps.{Step, StepFails, after_commit, is_fold, may_accept, with_session}
 use Rattle.store_model.specs.declared.event.Event.{Event}
 use Rattle.store_model.specs.declared.event.Event.TheVariants as event
 use Rattle.store_model.specs.declared.event.Reply.{Reply}
 use Rattle.store_model.specs.declared.event.Reply.TheVariants as reply
-use Rattle.store_model.proofs.Replies.{done_or, read_or, accepted_or, added_or, begun_or, awaits_or, outcome_or, receipt_or, stepped_or}
+use Rattle.store_model.proofs.TreeCounts.{all_long}
+use Rattle.store_model.proofs.Replies.{done_or, read_or, accepted_or, added_or, begun_or, awaits_or, outcome_or, receipt_or, folded_or, stepped_or}
 
 -- the trees, the number and the bounds of the opening are as before, and no durable number falls
 abbrev Stays : Machine → Machine → Type 0
 Stays old new = (new.opened ≡ old.opened) × (new.before ≡ old.before) × (new.bounds ≡ old.bounds) × (old.durable ≤ new.durable)
+
+-- the bounds are as before, there are as many trees, and no durable number falls
+abbrev StaysWide : Machine → Machine → Type 0
+StaysWide old new = (new.bounds ≡ old.bounds) × (length new.opened ≡ length old.opened) × (old.durable ≤ new.durable)
 
 abbrev AcceptsNothing : Machine → Machine → Type 0
 AcceptsNothing old new = new.accepted ≡ old.accepted
@@ -60,23 +65,37 @@ module _ (old new : Machine) where
   fails wanted why (inl refused) = same refused.1
   fails wanted why (inr broke) = by_mid _ refl refl refl refl broke.1.next
 
-  pub openings_stay : (e : Event) (r : Reply) → Step old e r new → (new.opened ≡ old.opened) × (new.before ≡ old.before) × (new.bounds ≡ old.bounds) × (old.durable ≤ new.durable)
-  openings_stay (event.StartSession session) r s = done_or (λ r. Stays old new) _ _ r s (λ d. either_way (is_open old session) _ refl refl refl refl d.1) (λ why f. same f.1)
-  openings_stay (event.EndSession session) r s = done_or (λ r. Stays old new) _ _ r s (λ d. by_mid _ refl refl refl refl d.next) (λ why f. same f.1)
-  openings_stay (event.Read session hive path question) r s = read_or (λ r. Stays old new) _ _ r s (λ v d. same d.next) (λ why f. same f.1)
-  openings_stay (event.Write session moment op) r s = accepted_or (λ r. Stays old new) _ _ _ r s (λ l n d. by_mid _ refl refl refl refl d.next) (λ o. same o.next) (λ why f. same f.1)
-  openings_stay (event.Begin session id) r s = begun_or (λ r. Stays old new) _ _ r s (λ t d. by_mid _ refl refl refl refl d.next) (λ why f. same f.1)
-  openings_stay (event.TxRead session tx hive path question) r s = read_or (λ r. Stays old new) _ _ r s (λ v d. same d.next) (λ why f. same f.1)
-  openings_stay (event.TxWrite session tx moment op) r s = added_or (λ r. Stays old new) _ _ _ r s (λ l d. by_mid _ refl refl refl refl d.1.1) (λ o. same o.2) (λ why f. same f.1)
-  openings_stay (event.CommitAccept session tx moment) r s = awaits_or (λ r. Stays old new) _ _ r s (λ n d. committed moment d.one d.next) (λ why f. same f.1)
-  openings_stay (event.Rollback session tx) r s = done_or (λ r. Stays old new) _ _ r s (λ d. by_mid _ refl refl refl refl d.1) (λ why f. same f.1)
-  openings_stay (event.Close session tx) r s = done_or (λ r. Stays old new) _ _ r s (λ d. by_mid _ refl refl refl refl d.1) (λ why f. same f.1)
-  openings_stay (event.Outcome session tx) r s = outcome_or (λ r. Stays old new) _ _ r s (λ o d. same d.next) (λ why f. same f.1)
-  openings_stay event.FlushAsk r s = awaits_or (λ r. Stays old new) _ _ r s (λ n d. same d.2) (λ why f. same f.1)
-  openings_stay (event.Acked number) r s = receipt_or (λ r. Stays old new) _ _ _ r s (λ n d. same d.2) (λ w. same w.2) (λ why f. same f.1.1)
-  openings_stay event.JournalStep r s = stepped_or (λ r. Stays old new) _ _ r s (λ p d. (ap (λ (m : Machine). m.opened) d.next, ap (λ (m : Machine). m.before) d.next, ap (λ (m : Machine). m.bounds) d.next, d.grows)) (λ why f. fails _ why f)
-  openings_stay (event.FlusherStep hive) r s = stepped_or (λ r. Stays old new) _ _ r s (λ p d. same d.next) (λ why f. fails _ why f)
-  openings_stay event.TrimStep r s = stepped_or (λ r. Stays old new) _ _ r s (λ p d. by_mid _ refl refl refl refl d.next) (λ why f. fails _ why f)
+  all_stays : (e : Event) (r : Reply) → is_fold e ≡ false → Step old e r new → Stays old new
+  all_stays (event.StartSession session) r calm s = done_or (λ r. Stays old new) _ _ r s (λ d. either_way (is_open old session) _ refl refl refl refl d.1) (λ why f. same f.1)
+  all_stays (event.EndSession session) r calm s = done_or (λ r. Stays old new) _ _ r s (λ d. by_mid _ refl refl refl refl d.next) (λ why f. same f.1)
+  all_stays (event.Read session hive path question) r calm s = read_or (λ r. Stays old new) _ _ r s (λ v d. same d.next) (λ why f. same f.1)
+  all_stays (event.Write session moment op) r calm s = accepted_or (λ r. Stays old new) _ _ _ r s (λ l n d. by_mid _ refl refl refl refl d.next) (λ o. same o.next) (λ why f. same f.1)
+  all_stays (event.Begin session id) r calm s = begun_or (λ r. Stays old new) _ _ r s (λ t d. by_mid _ refl refl refl refl d.next) (λ why f. same f.1)
+  all_stays (event.TxRead session tx hive path question) r calm s = read_or (λ r. Stays old new) _ _ r s (λ v d. same d.next) (λ why f. same f.1)
+  all_stays (event.TxWrite session tx moment op) r calm s = added_or (λ r. Stays old new) _ _ _ r s (λ l d. by_mid _ refl refl refl refl d.1.1) (λ o. same o.2) (λ why f. same f.1)
+  all_stays (event.CommitAccept session tx moment) r calm s = awaits_or (λ r. Stays old new) _ _ r s (λ n d. committed moment d.one d.next) (λ why f. same f.1)
+  all_stays (event.Rollback session tx) r calm s = done_or (λ r. Stays old new) _ _ r s (λ d. by_mid _ refl refl refl refl d.1) (λ why f. same f.1)
+  all_stays (event.Close session tx) r calm s = done_or (λ r. Stays old new) _ _ r s (λ d. by_mid _ refl refl refl refl d.1) (λ why f. same f.1)
+  all_stays (event.Outcome session tx) r calm s = outcome_or (λ r. Stays old new) _ _ r s (λ o d. same d.next) (λ why f. same f.1)
+  all_stays event.FlushAsk r calm s = awaits_or (λ r. Stays old new) _ _ r s (λ n d. same d.2) (λ why f. same f.1)
+  all_stays (event.Acked number) r calm s = receipt_or (λ r. Stays old new) _ _ _ r s (λ n d. same d.2) (λ w. same w.2) (λ why f. same f.1.1)
+  all_stays event.Fold r calm s = absurd cc
+  all_stays event.JournalStep r calm s = stepped_or (λ r. Stays old new) _ _ r s (λ p d. (ap (λ (m : Machine). m.opened) d.next, ap (λ (m : Machine). m.before) d.next, ap (λ (m : Machine). m.bounds) d.next, d.grows)) (λ why f. fails _ why f)
+  all_stays (event.FlusherStep hive) r calm s = stepped_or (λ r. Stays old new) _ _ r s (λ p d. same d.next) (λ why f. fails _ why f)
+  all_stays event.TrimStep r calm s = stepped_or (λ r. Stays old new) _ _ r s (λ p d. by_mid _ refl refl refl refl d.next) (λ why f. fails _ why f)
+
+  pub openings_stay : (e : Event) (r : Reply) → is_fold e ≡ false → Step old e r new → (new.opened ≡ old.opened) × (new.before ≡ old.before)
+  openings_stay e r calm s = let stays = all_stays e r calm s in (stays.0, stays.1)
+
+  widely : Stays old new → StaysWide old new
+  widely stays = (stays.2, ap length stays.0, stays.3)
+
+  pub bounds_stay : (e : Event) (r : Reply) → Step old e r new → (new.bounds ≡ old.bounds) × (length new.opened ≡ length old.opened) × (old.durable ≤ new.durable)
+  bounds_stay event.Fold r s =
+      folded_or (λ r. StaysWide old new) _ _ _ r s
+      (λ n d. (ap (λ (m : Machine). m.bounds) d.next, ap (λ (m : Machine). length m.opened) d.next ∙ all_long old.opened old.accepted, omega (arith, ap (λ (m : Machine). m.durable) d.next)))
+      (λ w. widely (same w.2)) (λ why f. widely (same f.1))
+  bounds_stay e r s = widely (all_stays e r refl s)
 
   quiet : new ≡ old → AcceptsNothing old new
   quiet e = ap (λ (m : Machine). m.accepted) e
@@ -92,23 +111,24 @@ module _ (old new : Machine) where
   fails_quietly wanted why (inl refused) = quiet refused.1
   fails_quietly wanted why (inr broke) = ap (λ (m : Machine). m.accepted) broke.1.next
 
-  pub others_accept_nothing : (e : Event) (r : Reply) → may_accept e ≡ false → Step old e r new → new.accepted ≡ old.accepted
-  others_accept_nothing (event.StartSession session) r calm s = done_or (λ r. AcceptsNothing old new) _ _ r s (λ d. with_or_without (is_open old session) _ refl d.1) (λ why f. quiet f.1)
-  others_accept_nothing (event.EndSession session) r calm s = done_or (λ r. AcceptsNothing old new) _ _ r s (λ d. ap (λ (m : Machine). m.accepted) d.next) (λ why f. quiet f.1)
-  others_accept_nothing (event.Read session hive path question) r calm s = read_or (λ r. AcceptsNothing old new) _ _ r s (λ v d. quiet d.next) (λ why f. quiet f.1)
-  others_accept_nothing (event.Write session moment op) r calm s = absurd cc
-  others_accept_nothing (event.Begin session id) r calm s = begun_or (λ r. AcceptsNothing old new) _ _ r s (λ t d. ap (λ (m : Machine). m.accepted) d.next) (λ why f. quiet f.1)
-  others_accept_nothing (event.TxRead session tx hive path question) r calm s = read_or (λ r. AcceptsNothing old new) _ _ r s (λ v d. quiet d.next) (λ why f. quiet f.1)
-  others_accept_nothing (event.TxWrite session tx moment op) r calm s = added_or (λ r. AcceptsNothing old new) _ _ _ r s (λ l d. ap (λ (m : Machine). m.accepted) d.1.1) (λ o. quiet o.2) (λ why f. quiet f.1)
-  others_accept_nothing (event.CommitAccept session tx moment) r calm s = absurd cc
-  others_accept_nothing (event.Rollback session tx) r calm s = done_or (λ r. AcceptsNothing old new) _ _ r s (λ d. ap (λ (m : Machine). m.accepted) d.1) (λ why f. quiet f.1)
-  others_accept_nothing (event.Close session tx) r calm s = done_or (λ r. AcceptsNothing old new) _ _ r s (λ d. ap (λ (m : Machine). m.accepted) d.1) (λ why f. quiet f.1)
-  others_accept_nothing (event.Outcome session tx) r calm s = outcome_or (λ r. AcceptsNothing old new) _ _ r s (λ o d. quiet d.next) (λ why f. quiet f.1)
-  others_accept_nothing event.FlushAsk r calm s = awaits_or (λ r. AcceptsNothing old new) _ _ r s (λ n d. quiet d.2) (λ why f. quiet f.1)
-  others_accept_nothing (event.Acked number) r calm s = receipt_or (λ r. AcceptsNothing old new) _ _ _ r s (λ n d. quiet d.2) (λ w. quiet w.2) (λ why f. quiet f.1.1)
-  others_accept_nothing event.JournalStep r calm s = stepped_or (λ r. AcceptsNothing old new) _ _ r s (λ p d. ap (λ (m : Machine). m.accepted) d.next) (λ why f. fails_quietly _ why f)
-  others_accept_nothing (event.FlusherStep hive) r calm s = stepped_or (λ r. AcceptsNothing old new) _ _ r s (λ p d. quiet d.next) (λ why f. fails_quietly _ why f)
-  others_accept_nothing event.TrimStep r calm s = stepped_or (λ r. AcceptsNothing old new) _ _ r s (λ p d. ap (λ (m : Machine). m.accepted) d.next) (λ why f. fails_quietly _ why f)
+  pub others_accept_nothing : (e : Event) (r : Reply) → may_accept e ≡ false → is_fold e ≡ false → Step old e r new → new.accepted ≡ old.accepted
+  others_accept_nothing (event.StartSession session) r calm stays s = done_or (λ r. AcceptsNothing old new) _ _ r s (λ d. with_or_without (is_open old session) _ refl d.1) (λ why f. quiet f.1)
+  others_accept_nothing (event.EndSession session) r calm stays s = done_or (λ r. AcceptsNothing old new) _ _ r s (λ d. ap (λ (m : Machine). m.accepted) d.next) (λ why f. quiet f.1)
+  others_accept_nothing (event.Read session hive path question) r calm stays s = read_or (λ r. AcceptsNothing old new) _ _ r s (λ v d. quiet d.next) (λ why f. quiet f.1)
+  others_accept_nothing (event.Write session moment op) r calm stays s = absurd cc
+  others_accept_nothing (event.Begin session id) r calm stays s = begun_or (λ r. AcceptsNothing old new) _ _ r s (λ t d. ap (λ (m : Machine). m.accepted) d.next) (λ why f. quiet f.1)
+  others_accept_nothing (event.TxRead session tx hive path question) r calm stays s = read_or (λ r. AcceptsNothing old new) _ _ r s (λ v d. quiet d.next) (λ why f. quiet f.1)
+  others_accept_nothing (event.TxWrite session tx moment op) r calm stays s = added_or (λ r. AcceptsNothing old new) _ _ _ r s (λ l d. ap (λ (m : Machine). m.accepted) d.1.1) (λ o. quiet o.2) (λ why f. quiet f.1)
+  others_accept_nothing (event.CommitAccept session tx moment) r calm stays s = absurd cc
+  others_accept_nothing (event.Rollback session tx) r calm stays s = done_or (λ r. AcceptsNothing old new) _ _ r s (λ d. ap (λ (m : Machine). m.accepted) d.1) (λ why f. quiet f.1)
+  others_accept_nothing (event.Close session tx) r calm stays s = done_or (λ r. AcceptsNothing old new) _ _ r s (λ d. ap (λ (m : Machine). m.accepted) d.1) (λ why f. quiet f.1)
+  others_accept_nothing (event.Outcome session tx) r calm stays s = outcome_or (λ r. AcceptsNothing old new) _ _ r s (λ o d. quiet d.next) (λ why f. quiet f.1)
+  others_accept_nothing event.FlushAsk r calm stays s = awaits_or (λ r. AcceptsNothing old new) _ _ r s (λ n d. quiet d.2) (λ why f. quiet f.1)
+  others_accept_nothing (event.Acked number) r calm stays s = receipt_or (λ r. AcceptsNothing old new) _ _ _ r s (λ n d. quiet d.2) (λ w. quiet w.2) (λ why f. quiet f.1.1)
+  others_accept_nothing event.Fold r calm stays s = absurd cc
+  others_accept_nothing event.JournalStep r calm stays s = stepped_or (λ r. AcceptsNothing old new) _ _ r s (λ p d. ap (λ (m : Machine). m.accepted) d.next) (λ why f. fails_quietly _ why f)
+  others_accept_nothing (event.FlusherStep hive) r calm stays s = stepped_or (λ r. AcceptsNothing old new) _ _ r s (λ p d. quiet d.next) (λ why f. fails_quietly _ why f)
+  others_accept_nothing event.TrimStep r calm stays s = stepped_or (λ r. AcceptsNothing old new) _ _ r s (λ p d. ap (λ (m : Machine). m.accepted) d.next) (λ why f. fails_quietly _ why f)
 
   -- the device's failure is another refusal
   no_fault : (wanted : Option Refusal) → StepFails old wanted NoMemory new → new ≡ old
@@ -129,6 +149,7 @@ module _ (old new : Machine) where
   no_memory_changes_nothing (event.Outcome session tx) s = s.1
   no_memory_changes_nothing event.FlushAsk s = s.1
   no_memory_changes_nothing (event.Acked number) s = s.1.1
+  no_memory_changes_nothing event.Fold s = s.1
   no_memory_changes_nothing event.JournalStep s = no_fault _ s
   no_memory_changes_nothing (event.FlusherStep hive) s = no_fault _ s
   no_memory_changes_nothing event.TrimStep s = no_fault _ s

@@ -23,7 +23,7 @@ use Rattle.store_model.specs.declared.event.Event.{Event}
 use Rattle.store_model.specs.declared.event.Event.TheVariants as event
 use Rattle.store_model.specs.declared.event.Reply.{Reply}
 use Rattle.store_model.specs.declared.event.Reply.TheVariants as reply
-use Rattle.store_model.proofs.Replies.{done_or, read_or, accepted_or, added_or, begun_or, awaits_or, outcome_or, receipt_or, stepped_or}
+use Rattle.store_model.proofs.Replies.{done_or, read_or, accepted_or, added_or, begun_or, awaits_or, outcome_or, receipt_or, folded_or, stepped_or}
 
 -- What faults a store
 
@@ -66,6 +66,7 @@ module _ (old new : Machine) where
   faults (event.Outcome session tx) r s = outcome_or (Faults old new) _ _ r s (λ o d. same (reply.OutcomeIs o) d.next) (λ e f. same (reply.Refused e) f.1)
   faults event.FlushAsk r s = awaits_or (Faults old new) _ _ r s (λ n d. same (reply.Awaits n) d.2) (λ e f. same (reply.Refused e) f.1)
   faults (event.Acked number) r s = receipt_or (Faults old new) _ _ _ r s (λ n d. same (reply.Receipt n) d.2) (λ d. same reply.NotYet d.2) (λ e f. same (reply.Refused e) f.1.1)
+  faults event.Fold r s = folded_or (Faults old new) _ _ _ r s (λ n d. aside (reply.Folded n) _ refl d.next) (λ d. same reply.NotYet d.2) (λ e f. same (reply.Refused e) f.1)
   faults event.JournalStep r s = stepped_or (Faults old new) _ _ r s (λ p d. aside (reply.Stepped p) _ refl d.next) (λ e f. broken _ e f)
   faults (event.FlusherStep hive) r s = stepped_or (Faults old new) _ _ r s (λ p d. same (reply.Stepped p) d.next) (λ e f. broken _ e f)
   faults event.TrimStep r s = stepped_or (Faults old new) _ _ r s (λ p d. aside (reply.Stepped p) _ refl d.next) (λ e f. broken _ e f)
@@ -237,6 +238,7 @@ module _ (old : Machine) where
     non_step (event.Outcome session tx) q s = is_refused _ (right_first old.faulted _ _ faulted (missing _)) s
     non_step event.FlushAsk q s = is_refused _ faulted s
     non_step (event.Acked number) q s = is_refused _ faulted s.1
+    non_step event.Fold q s = refuses _ faulted s
     non_step event.JournalStep q s = absurd cc
     non_step (event.FlusherStep hive) q s = absurd cc
     non_step event.TrimStep q s = absurd cc

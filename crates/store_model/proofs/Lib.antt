@@ -1,5 +1,6 @@
 pub mod Accepting
 pub mod Replies
+pub mod TreeCounts
 pub mod TransactionChanges
 pub mod Handles
 pub mod AtCommit

@@ -16,7 +16,7 @@ use Rattle.reg_tree.specs.Encodings.{element_encoded_len}
 use Rattle.reg_tree.specs.declared.element.Element.{Element}
 use Rattle.reg_tree.specs.declared.op.Op.{Op}
 use Rattle.store_model.specs.Transactions.{Transaction, TxSlots, at, with_op, count_held, inactive_refusal}
-use Rattle.store_model.specs.Machine.{Machine, trees_now, last_number, pending, room_of, room_with, is_open, change, committed, commit_change, first_of, refused_if, refusal_by, fault, closed_refusal, call_refusal, opened_machine, start_refusal, room_refusal, commit_refusal, commit_refusal_if}
+use Rattle.store_model.specs.Machine.{Machine, trees_now, last_number, folded, pending, room_of, room_with, is_open, change, committed, commit_change, first_of, refused_if, refusal_by, fault, closed_refusal, call_refusal, opened_machine, start_refusal, room_refusal, commit_refusal, commit_refusal_if}
 use Rattle.store_model.specs.Steps.{AcceptsWrite, Begins, CommitsTx, Ends, Journals, Trims, EndsTrim, StepFails, Step, with_session}
 use Rattle.store_model.specs.Invariant.{InvariantHolds, IsWithin, IsActiveAt, AreLegalChanges, AreLegalHistory}
 use Rattle.store_model.specs.declared.bounds.StoreBounds.{StoreBounds}
@@ -27,7 +27,7 @@ use Rattle.store_model.specs.declared.event.Event.TheVariants as event
 use Rattle.store_model.specs.declared.event.Reply.{Reply}
 use Rattle.store_model.specs.declared.event.Reply.TheVariants as reply
 use Rattle.store_model.proofs.AtCommit.{WeightAlone, neither, legal_within}
-use Rattle.store_model.proofs.Replies.{done_or, read_or, accepted_or, added_or, begun_or, awaits_or, outcome_or, receipt_or, stepped_or}
+use Rattle.store_model.proofs.Replies.{done_or, read_or, accepted_or, added_or, begun_or, awaits_or, outcome_or, receipt_or, folded_or, stepped_or}
 use Rattle.store_model.proofs.TransactionChanges.{Descends, Way, Fewer, Wrote, Longer, Accepted, Began, way, none_first, not_refused, found_at, active_of, put_descends}
 
 -- Room
@@ -300,6 +300,23 @@ module _ (law : WeightAlone) (old : Machine) (k : InvariantHolds old) where
       how (inl same) = inl same
       how (inr ends) = inr (refl, ends.room)
 
+  -- the history is folded
+  folds : (new : Machine) → last_number old ≤ old.durable → new ≡ folded old → Leaves old new
+  folds new all e = subst (Leaves old) (sym e) (record {
+    within = record {
+      opened = all;
+      known = omega (arith, k.within.known);
+      numbers = omega (arith, k.within.numbers);
+      changes = omega arith;
+      sessions = k.within.sessions;
+      held = k.within.held;
+      room = omega (arith, rest_less (old.durable - last_number old) [], k.within.room);
+    };
+    history = tt;
+    bounds = refl;
+    fits = λ fits. fits;
+  })
+
   module _ (new : Machine) where
     Left : Type 0
     Left = Leaves old new
@@ -323,6 +340,7 @@ module _ (law : WeightAlone) (old : Machine) (k : InvariantHolds old) where
     leaves (event.Outcome session tx) r s = outcome_or (λ r. Leaves old new) _ _ r s (λ o d. stays new d.next) (λ e f. stays new f.1)
     leaves event.FlushAsk r s = awaits_or (λ r. Leaves old new) _ _ r s (λ n d. stays new d.2) (λ e f. stays new f.1)
     leaves (event.Acked number) r s = receipt_or (λ r. Leaves old new) _ _ _ r s (λ n d. stays new d.2) (λ d. stays new d.2) (λ e f. stays new f.1.1)
+    leaves event.Fold r s = folded_or (λ r. Leaves old new) _ _ _ r s (λ n d. folds new d.all_durable d.next) (λ d. stays new d.2) (λ e f. stays new f.1)
     leaves event.JournalStep r s = stepped_or (λ r. Leaves old new) _ _ r s (λ p d. journals new p d) (λ e f. fails new _ e f)
     leaves (event.FlusherStep hive) r s = stepped_or (λ r. Leaves old new) _ _ r s (λ p d. stays new d.next) (λ e f. fails new _ e f)
     leaves event.TrimStep r s = stepped_or (λ r. Leaves old new) _ _ r s (λ p d. trims new p d) (λ e f. fails new _ e f)

@@ -8,7 +8,7 @@ use Rattle.reg_tree.specs.declared.element.Element.{Element}
 use Rattle.reg_tree.specs.declared.op.Op.{Op}
 use Rattle.store_model.specs.Machine.{Machine, trees_now, is_open, change, committed, commit_change, first_of, refused_if, refusal_by, room_of, room_refusal, commit_refusal, commit_refusal_if, fault, call_refusal}
 use Rattle.store_model.specs.Transactions.{Transaction, inactive_refusal}
-use Rattle.store_model.specs.Steps.{Step, AcceptsWrite, CommitsTx, with_session, is_not_step}
+use Rattle.store_model.specs.Steps.{Step, AcceptsWrite, CommitsTx, with_session, is_request}
 use Rattle.store_model.specs.Invariant.{InvariantHolds, IsActiveAt, AreLegalChanges, JournalStateStays, AcceptsOneChange}
 use Rattle.store_model.specs.declared.handle.Tx.{Tx}
 use Rattle.store_model.specs.declared.event.Event.{Event}
@@ -97,7 +97,7 @@ module _ (within : Within) (old new : Machine) (k : InvariantHolds old) where
   abbrev Left : Reply → Type 0
   Left r = NonSteps old new
 
-  pub non_step : (e : Event) (r : Reply) → is_not_step e ≡ true → Step old e r new → JournalStateStays old new ⊎ AcceptsOneChange old new
+  pub non_step : (e : Event) (r : Reply) → is_request e ≡ true → Step old e r new → JournalStateStays old new ⊎ AcceptsOneChange old new
   non_step (event.StartSession session) r q s = done_or Left _ _ r s (λ d. session_opened old new session d.1) (λ e f. same old new f.1)
   non_step (event.EndSession session) r q s = done_or Left _ _ r s (λ d. aside old new _ new.tx_slots old.begun d.next) (λ e f. same old new f.1)
   non_step (event.Read session hive path question) r q s = read_or Left _ _ r s (λ v d. same old new d.next) (λ e f. same old new f.1)
@@ -111,6 +111,7 @@ module _ (within : Within) (old new : Machine) (k : InvariantHolds old) where
   non_step (event.Outcome session tx) r q s = outcome_or Left _ _ r s (λ o d. same old new d.next) (λ e f. same old new f.1)
   non_step event.FlushAsk r q s = awaits_or Left _ _ r s (λ n d. same old new d.2) (λ e f. same old new f.1)
   non_step (event.Acked number) r q s = receipt_or Left _ _ _ r s (λ n d. same old new d.2) (λ d. same old new d.2) (λ e f. same old new f.1.1)
+  non_step event.Fold r q s = absurd cc
   non_step event.JournalStep r q s = absurd cc
   non_step (event.FlusherStep hive) r q s = absurd cc
   non_step event.TrimStep r q s = absurd cc

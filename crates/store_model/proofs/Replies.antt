@@ -1,7 +1,7 @@
 -- What is so of each answer that an event may have is so of its reply.
 use Rattle.std.proofs.Common.{ℕ, Option}
 use Rattle.refusals.specs.declared.refusal.Refusal.{Refusal}
-use Rattle.store_model.specs.Shapes.{DoneOr, ReadOr, AcceptedOr, AddedOr, BegunOr, AwaitsOr, OutcomeOr, ReceiptOr, SteppedOr}
+use Rattle.store_model.specs.Shapes.{DoneOr, ReadOr, AcceptedOr, AddedOr, BegunOr, AwaitsOr, OutcomeOr, ReceiptOr, FoldedOr, SteppedOr}
 use Rattle.store_model.specs.declared.handle.Tx.{Tx}
 use Rattle.store_model.specs.declared.handle.Outcome.{Outcome}
 use Rattle.store_model.specs.declared.event.ReadResult.{ReadResult}
@@ -52,6 +52,12 @@ module _ (X : Reply → Type 0) where
   receipt_or D W R reply.NotYet s f h g = h s
   receipt_or D W R (reply.Refused e) s f h g = g e s
   receipt_or D W R _ s f h g = absurd s
+
+  pub folded_or : (D : ℕ → Type 0) (W : Type 0) (R : Refusal → Type 0) (r : Reply) → FoldedOr D W R r → ((n : ℕ) → D n → X (reply.Folded n)) → (W → X reply.NotYet) → ((e : Refusal) → R e → X (reply.Refused e)) → X r
+  folded_or D W R (reply.Folded n) s f h g = f n s
+  folded_or D W R reply.NotYet s f h g = h s
+  folded_or D W R (reply.Refused e) s f h g = g e s
+  folded_or D W R _ s f h g = absurd s
 
   pub stepped_or : (D : Progress → Type 0) (R : Refusal → Type 0) (r : Reply) → SteppedOr D R r → ((p : Progress) → D p → X (reply.Stepped p)) → ((e : Refusal) → R e → X (reply.Refused e)) → X r
   stepped_or D R (reply.Stepped p) s f g = f p s

@@ -19,7 +19,7 @@ use Rattle.store_model.specs.Machine.{Machine, trees_now, is_open, found_in, cha
 use Rattle.store_model.specs.Acts.{AddsOp, EndsTx, ClosesTx}
 use Rattle.store_model.specs.Steps.{AcceptsWrite, Begins, CommitsTx, Ends, Step, StepFails, after_commit, with_session}
 use Rattle.store_model.specs.Invariant.{IsActiveAt, handle_in}
-use Rattle.store_model.proofs.Replies.{done_or, read_or, accepted_or, added_or, begun_or, awaits_or, outcome_or, receipt_or, stepped_or}
+use Rattle.store_model.proofs.Replies.{done_or, read_or, accepted_or, added_or, begun_or, awaits_or, outcome_or, receipt_or, folded_or, stepped_or}
 use Rattle.store_model.specs.declared.handle.Tx.{Tx}
 use Rattle.store_model.specs.declared.handle.Outcome.{Outcome}
 use Rattle.store_model.specs.declared.handle.Outcome.TheVariants.{Committed, RolledBack}
@@ -259,6 +259,7 @@ way old new (event.Close session tx) r s = done_or (λ r. Way old new (handle_in
 way old new (event.Outcome session tx) r s = outcome_or (λ r. Way old new (handle_in r)) _ _ r s (λ o d. same old new d.next) (λ e f. same old new f.1)
 way old new event.FlushAsk r s = awaits_or (λ r. Way old new (handle_in r)) _ _ r s (λ n d. same old new d.2) (λ e f. same old new f.1)
 way old new (event.Acked number) r s = receipt_or (λ r. Way old new (handle_in r)) _ _ _ r s (λ n d. same old new d.2) (λ d. same old new d.2) (λ e f. same old new f.1.1)
+way old new event.Fold r s = folded_or (λ r. Way old new (handle_in r)) _ _ _ r s (λ n d. no_change old new (ap (λ (m : Machine). m.begun) d.next) (ap trees_now d.next) (ap (λ (m : Machine). m.tx_slots) d.next)) (λ d. same old new d.2) (λ e f. same old new f.1)
 way old new event.JournalStep r s = stepped_or (λ r. Way old new (handle_in r)) _ _ r s (λ p d. no_change old new (ap (λ (m : Machine). m.begun) d.next) (ap trees_now d.next) (ap (λ (m : Machine). m.tx_slots) d.next)) (λ e f. step_fails old new _ e f)
 way old new (event.FlusherStep hive) r s = stepped_or (λ r. Way old new (handle_in r)) _ _ r s (λ p d. same old new d.next) (λ e f. step_fails old new _ e f)
 way old new event.TrimStep r s = stepped_or (λ r. Way old new (handle_in r)) _ _ r s (λ p d. no_change old new (ap (λ (m : Machine). m.begun) d.next) (ap trees_now d.next) (ap (λ (m : Machine). m.tx_slots) d.next)) (λ e f. step_fails old new _ e f)

@@ -28,10 +28,11 @@ use Rattle.store_model.specs.declared.event.Question.TheVariants.{ValueOf, Value
 use Rattle.store_model.specs.declared.event.ReadResult.{ReadResult}
 use Rattle.store_model.specs.declared.event.ReadResult.TheVariants as found
 
--- the trees as the store was opened, the number of the last change before that, and the changes accepted since; the
--- sessions that are open, in the order in which they were opened; the transaction in each slot, and how many were
--- begun; the number up to which changes are durable; the room that the journal has used; how many calls of the device
--- have failed, and whether the store is faulted by one; and how many changes it accepts, and which hives calls may name
+-- the trees as the store was opened or its history was folded last, the number of the last change before that, and the
+-- history, which is the changes accepted since; the sessions that are open, in the order in which they were opened; the
+-- transaction in each slot, and how many were begun; the number up to which changes are durable; the room that the
+-- journal has used; how many calls of the device have failed, and whether the store is faulted by one; and how many
+-- changes the history has at most, and which hives calls may name
 pub record Machine : Type 0 where
   pub opened : List TreeMap
   pub before : ℕ
@@ -52,9 +53,13 @@ room_of element = 17 + element_encoded_len element
 abbrev pub room_with : List Element → ℕ
 room_with elements = 65 + sum_by room_of elements
 
--- the bounds of a store whose calls name this many hives
+-- the bounds of a store that accepts this many changes until its history is folded, and whose calls name this many hives
+abbrev pub bounds_with : ℕ → ℕ → StoreBounds
+bounds_with changes hives = record { changes = changes; hives = hives }
+
+-- the bounds of a store whose calls name this many hives, and whose history is as long as any may be
 abbrev pub bounds_for : ℕ → StoreBounds
-bounds_for hives = record { changes = MOST_HISTORY; hives = hives }
+bounds_for hives = bounds_with MOST_HISTORY hives
 
 -- the bounds of a store whose calls name each of its trees
 abbrev pub bounds_of : List TreeMap → StoreBounds
@@ -89,6 +94,14 @@ trees_now machine = after_elements machine.opened machine.accepted
 -- the number of the last accepted change
 abbrev pub last_number : Machine → ℕ
 last_number machine = machine.before + length machine.accepted
+
+-- the store whose history may have this many changes
+abbrev pub with_history : ℕ → Machine → Machine
+with_history changes machine = record machine { bounds = bounds_with changes machine.bounds.hives }
+
+-- the store with its history folded, as if it had been opened on the trees of now after the last accepted change
+abbrev pub folded : Machine → Machine
+folded machine = record machine { opened = trees_now machine; before = last_number machine; accepted = [] }
 
 -- the changes that are not durable yet
 abbrev pub pending : Machine → List Element
@@ -174,8 +187,8 @@ refusal_by (Err refusal) further = Some refusal
 refusal_by (Ok Opened) further = None
 refusal_by (Ok Legal) further = further
 
--- why there is no room for a change of this many bytes: as many changes were accepted in this opening as the store
--- accepts, or the last number is the greatest; or the journal does not have enough room
+-- why there is no room for a change of this many bytes: the history has as many changes as it may have, or the last
+-- number is the greatest; or the journal does not have enough room
 abbrev pub room_refusal : Machine → ℕ → Option Refusal
 room_refusal machine long =
     first_of (refused_if (nat_le machine.bounds.changes (length machine.accepted) || nat_le GREATEST_NUMBER (last_number machine)) HistoryFull)

@@ -59,6 +59,13 @@ ReceiptOr receipt waits refused reply.NotYet = waits
 ReceiptOr receipt waits refused (reply.Refused refusal) = refused refusal
 ReceiptOr receipt waits refused _ = ⊥
 
+-- only the number at which the history was folded, not yet, or refused
+abbrev pub FoldedOr : (ℕ → Type 0) → Type 0 → (Refusal → Type 0) → Reply → Type 0
+FoldedOr folds waits refused (reply.Folded number) = folds number
+FoldedOr folds waits refused reply.NotYet = waits
+FoldedOr folds waits refused (reply.Refused refusal) = refused refusal
+FoldedOr folds waits refused _ = ⊥
+
 -- only how far a step came, or refused
 abbrev pub SteppedOr : (Progress → Type 0) → (Refusal → Type 0) → Reply → Type 0
 SteppedOr stepped refused (reply.Stepped progress) = stepped progress

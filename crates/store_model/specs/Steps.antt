@@ -10,9 +10,9 @@ use Rattle.reg_tree.specs.declared.op.Op.{Op}
 use Rattle.reg_tree.specs.declared.op.Legality.TheVariants.{Legal, Opened}
 use Rattle.conflicts.specs.Claims.{claim_of}
 use Rattle.store_model.specs.Transactions.{Transaction, SetsSlot, EachSlotBecomes, ended, rolled_back_by, gone_with, missing_refusal, inactive_refusal}
-use Rattle.store_model.specs.Machine.{Machine, trees_now, last_number, pending, room_with, room_of, is_open, found_in, change, commit_change, first_of, fault, closed_refusal, unnamed_refusal, call_refusal, tx_call_refusal, start_refusal, looked_up, read_refusal, write_refusal, begin_refusal, seen, added_refusal_if, commit_refusal_if}
+use Rattle.store_model.specs.Machine.{Machine, trees_now, last_number, folded, pending, room_with, room_of, is_open, found_in, change, commit_change, first_of, fault, closed_refusal, unnamed_refusal, call_refusal, tx_call_refusal, start_refusal, looked_up, read_refusal, write_refusal, begin_refusal, seen, added_refusal_if, commit_refusal_if}
 use Rattle.store_model.specs.Acts.{StartsTx, AddsOp, OpensKey, EndsTx, ClosesTx}
-use Rattle.store_model.specs.Shapes.{DoneOr, ReadOr, AcceptedOr, AddedOr, BegunOr, AwaitsOr, OutcomeOr, ReceiptOr, SteppedOr}
+use Rattle.store_model.specs.Shapes.{DoneOr, ReadOr, AcceptedOr, AddedOr, BegunOr, AwaitsOr, OutcomeOr, ReceiptOr, FoldedOr, SteppedOr}
 use Rattle.store_model.specs.declared.handle.Tx.{Tx}
 use Rattle.store_model.specs.declared.handle.Outcome.{Outcome}
 use Rattle.store_model.specs.declared.handle.Outcome.TheVariants.{Committed, RolledBack}
@@ -95,6 +95,14 @@ pub record OutcomeIs (old : Machine) (session : ℕ) (tx : Tx) (outcome : Outcom
   pub told : outcome ≡ one.outcome
   pub next : new ≡ old
 
+-- each accepted change is durable, and the history is folded: the trees of now are those of the opening, and no change
+-- was accepted since; sessions and transactions stay. The answer is the number of the opening from now on
+pub record Folds (old : Machine) (number : ℕ) (new : Machine) : Type 0 where
+  pub free : fault old ≡ None
+  pub all_durable : last_number old ≤ old.durable
+  pub told : number ≡ last_number old
+  pub next : new ≡ folded old
+
 -- a step has ended a trim: it is done, made nothing durable, and the room is what the changes take that are not durable
 pub record EndsTrim (old : Machine) (progress : Progress) (new : Machine) : Type 0 where
   pub done : progress ≡ Done
@@ -148,9 +156,19 @@ is_step (event.FlusherStep hive) = true
 is_step event.TrimStep = true
 is_step _ = false
 
--- the events that leave what the journal and the device need, but for one change more: those that make no step
-abbrev pub is_not_step : Event → Bool
-is_not_step event = not (is_step event)
+-- whether an event folds the history
+abbrev pub is_fold : Event → Bool
+is_fold event.Fold = true
+is_fold _ = false
+
+-- the events that leave what the journal and the device need, but for one change more: those that neither make a step
+-- nor fold the history
+abbrev pub is_request : Event → Bool
+is_request event.JournalStep = false
+is_request (event.FlusherStep hive) = false
+is_request event.TrimStep = false
+is_request event.Fold = false
+is_request _ = true
 
 -- whether an event may accept a change: a write by itself, or a commit
 abbrev pub may_accept : Event → Bool
@@ -202,6 +220,11 @@ Step old (event.Acked number) reply new =
     ReceiptOr (λ told. (told ≡ number) × (number ≤ old.durable) × (new ≡ old))
     ((old.durable < number) × (fault old ≡ None) × (new ≡ old))
     (λ r. (old.durable < number) × IsRefused old (fault old) r new) reply
+-- the history is folded once each accepted change is durable
+Step old event.Fold reply new =
+    FoldedOr (λ number. Folds old number new)
+    ((old.durable < last_number old) × (fault old ≡ None) × (new ≡ old))
+    (λ r. Refuses old (fault old) r new) reply
 Step old event.JournalStep reply new = SteppedOr (λ progress. Journals old progress new) (λ r. StepFails old (fault old) r new) reply
 Step old (event.FlusherStep hive) reply new =
     SteppedOr (λ progress. Flushes old hive new) (λ r. StepFails old (first_of (fault old) (no_hive old hive)) r new) reply

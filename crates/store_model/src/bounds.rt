@@ -5,10 +5,10 @@ ghost use Rattle.store_model.specs.Machine.{bounds_of};
 use refusals::limits::MOST_HISTORY;
 use reg_tree::Trees;
 
-/// How many changes a store accepts from one opening on, and which hives calls may name.
+/// How many changes a store accepts until its history is folded, and which hives calls may name.
 #[derive(Clone, Copy, Debug, PartialEq, Eq)]
 pub struct StoreBounds {
-    /// How many changes one opening accepts at most.
+    /// How many changes the history has at most: those accepted since the opening or the last fold.
     pub changes: u64,
     /// Calls name the hives whose numbers are below this one. A store may have trees besides.
     pub hives: usize,

@@ -163,6 +163,9 @@ pub enum Event {
         /// The change's number.
         number: u64,
     },
+    /// The history is folded: the trees of now are those of the opening, and no change was accepted since. Sessions and
+    /// transactions stay.
+    Fold,
     /// One step of the journal: accepted changes become durable.
     JournalStep,
     /// One step of the flush of a hive.
@@ -220,6 +223,11 @@ pub enum Reply {
     },
     /// A change isn't durable yet.
     NotYet,
+    /// The history was folded.
+    Folded {
+        /// The number of the last accepted change.
+        number: u64,
+    },
     /// A step was made.
     Stepped {
         /// How far it came.

@@ -2,7 +2,7 @@
 //!
 //! They have no code of their own: each is the contract of a function that does nothing, for crates that keep a store
 //! by the machine.
-ghost use Rattle.std.specs.Prelude.{◌≡◌, ◌≤◌, ◌⊎◌, ℕ, true, false, List, Some, None};
+ghost use Rattle.std.specs.Prelude.{◌≡◌, ◌≤◌, ◌⊎◌, ℕ, [], true, false, length, List, Some, None};
 ghost use Rattle.std.specs.List.Sorted.{IsStrictlySortedBy};
 ghost use Rattle.std.specs.Ordering.{nat_cmp};
 ghost use Rattle.refusals.specs.declared.limits.TheConstants.{GREATEST_NUMBER, MOST_JOURNAL_BYTES};
@@ -12,8 +12,8 @@ ghost use Rattle.reg_tree.specs.declared.element.Element.{Element};
 ghost use Rattle.reg_tree.specs.Judgement.{any_outweighs};
 ghost use Rattle.reg_tree.specs.Sequences.{AreTrees, AreLegal};
 ghost use Rattle.store_model.specs.Transactions.{Transaction, own};
-ghost use Rattle.store_model.specs.Machine.{Machine, committed, opened_machine, trees_now, found_in};
-ghost use Rattle.store_model.specs.Steps.{Step, Run, is_not_step, is_step, may_accept};
+ghost use Rattle.store_model.specs.Machine.{Machine, committed, last_number, opened_machine, trees_now, found_in};
+ghost use Rattle.store_model.specs.Steps.{Step, Run, is_fold, is_request, is_step, may_accept};
 ghost use Rattle.store_model.specs.Invariant.{InvariantHolds, IsActiveAt, AreLegalButForWeight, AreLegalChanges, IsCounted, IsGone, JournalStateStays, AcceptsOneChange, handle_in, numbers_given};
 ghost use Rattle.store_model.specs.declared.bounds.StoreBounds.{StoreBounds};
 ghost use Rattle.store_model.specs.declared.handle.Tx.{Tx};
@@ -64,26 +64,41 @@ pub fn only_steps_fail()
         is_step event ≡ true }
 {}
 
-/// Only a step may change what is durable, free room, or fault a store. Every other event leaves all of that, and
-/// accepts one change at most.
+/// Only a step may change what is durable, free room, or fault a store. Every other event that doesn't fold the history
+/// leaves all of that, and accepts one change at most.
 pub fn only_steps_make_durable()
     ensures { (old new : Machine) (event : Event) (reply : Reply) → InvariantHolds old →
-        is_not_step event ≡ true → Step old event reply new → JournalStateStays old new ⊎ AcceptsOneChange old new }
+        is_request event ≡ true → Step old event reply new → JournalStateStays old new ⊎ AcceptsOneChange old new }
 {
     commits_stay_legal();
 }
 
-/// The trees, the number and the bounds of the opening stay, and what is durable stays durable.
+/// What stays of the opening.
+///
+/// - `opening`: its trees and its number stay, unless the history is folded.
+/// - `bounds`: the bounds stay, there are as many trees, and what is durable stays durable.
 pub fn openings_stay()
-    ensures { (old new : Machine) (event : Event) (reply : Reply) → Step old event reply new →
-        (new.opened ≡ old.opened) × (new.before ≡ old.before) × (new.bounds ≡ old.bounds)
+    ensures opening { (old new : Machine) (event : Event) (reply : Reply) → is_fold event ≡ false →
+        Step old event reply new → (new.opened ≡ old.opened) × (new.before ≡ old.before) }
+    ensures bounds { (old new : Machine) (event : Event) (reply : Reply) → Step old event reply new →
+        (new.bounds ≡ old.bounds) × (length new.opened ≡ length old.opened)
         × (old.durable ≤ new.durable) }
 {}
 
-/// Only a write by itself and a commit accept a change.
+/// A fold leaves the trees of now, the last number and what is durable, and each session and transaction. So every
+/// transaction has its view, its claims and its outcome. The next change has the next number, and the history is empty.
+pub fn folds_keep()
+    ensures { (old new : Machine) (number : ℕ) → Step old event.Fold (reply.Folded number) new →
+        (trees_now new ≡ trees_now old) × (last_number new ≡ last_number old)
+        × (new.durable ≡ old.durable) × (new.sessions ≡ old.sessions)
+        × (new.tx_slots ≡ old.tx_slots) × (new.begun ≡ old.begun)
+        × (number ≡ last_number old) × (new.accepted ≡ []) }
+{}
+
+/// Only a write by itself and a commit accept a change. The history stays at each other event that doesn't fold it.
 pub fn others_accept_nothing()
     ensures { (old new : Machine) (event : Event) (reply : Reply) → may_accept event ≡ false →
-        Step old event reply new → new.accepted ≡ old.accepted }
+        is_fold event ≡ false → Step old event reply new → new.accepted ≡ old.accepted }
 {}
 
 /// A refusal for want of memory changes nothing.
