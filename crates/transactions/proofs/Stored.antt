@@ -6,7 +6,7 @@ use Rattle.std.specs.List.{list_any}
 use Rattle.std.proofs.lemmas.Bool.Decides.{nat_tests}
 use Rattle.std.proofs.lemmas.Bool.{leb-false}
 use Rattle.std.proofs.lemmas.Option.{none-some, slice_get_past, slice_get-get_or}
-use Rattle.std.proofs.lemmas.List.{length-append, length-set}
+use Rattle.std.proofs.lemmas.List.{length-append}
 use Rattle.refusals.specs.declared.refusal.Refusal.{Refusal}
 use Rattle.refusals.specs.declared.refusal.Refusal.TheVariants.{NoMemory, NotFound, TooLarge, NoSuchHandle, HistoryFull, JournalFull, Faulted}
 use Rattle.refusals.specs.declared.limits.TheConstants.{MOST_ELEMENT_BYTES, GREATEST_NUMBER, MOST_JOURNAL_BYTES}
@@ -14,7 +14,7 @@ use Rattle.reg_tree.specs.Maps.{TreeMap}
 use Rattle.reg_tree.specs.Fresh.{fresh_tree}
 use Rattle.reg_tree.specs.Operations.{hive_of}
 use Rattle.reg_tree.specs.Encodings.{op_encoded_len, element_encoded_len, ops_encoded_len}
-use Rattle.reg_tree.specs.Judgement.{legal, applied, applied_one, applied_if, changed, any_outweighs}
+use Rattle.reg_tree.specs.Judgement.{legal, applied, applied_one, any_outweighs}
 use Rattle.reg_tree.specs.TreeLists.{levels_made}
 use Rattle.reg_tree.specs.Sequences.{after_elements}
 use Rattle.reg_tree.specs.declared.element.Element.{Element}
@@ -169,32 +169,6 @@ pub crowded_write : (m : Machine) (session moment : ℕ) (op : Op) (trees : List
 crowded_write m session moment op trees res why long f o n e l c r h =
     on_refusal m (event.Write session moment op) res why h
     (inl (may_write m session moment op (Some why) f o n (ap (λ x. refusal_by x (room_refusal m (element_encoded_len (change moment op)))) (ap (λ t. legal t op) (sym e) ∙ l) ∙ sym (capped m (element_encoded_len (change moment op)) long c) ∙ r)), refl)
-
--- as many hives are there as were
-one_as_long : (trees : List TreeMap) (content : Option TreeMap) (op : Op) (moment : ℕ) → length (applied_if trees content op moment) ≡ length trees
-one_as_long trees None op moment = refl
-one_as_long trees (Some tree) op moment = length-set trees (hive_of op) (changed tree op moment)
-
-all_as_long : (trees : List TreeMap) (ops : List Op) (moment : ℕ) → length (applied trees ops moment) ≡ length trees
-all_as_long trees [] moment = refl
-all_as_long trees (op ∷ ops) moment = all_as_long (applied_one trees op moment) ops moment ∙ one_as_long trees (slice_get trees (hive_of op)) op moment
-
-as_many : (trees : List TreeMap) (elements : List Element) → length (after_elements trees elements) ≡ length trees
-as_many trees [] = refl
-as_many trees (element ∷ elements) = as_many (applied trees element.ops element.moment) elements ∙ all_as_long trees element.ops element.moment
-
-pub flushes : (m : Machine) (hive : ℕ) → fault m ≡ None → hive < length (trees_now m) → Flushes m hive m
-flushes m hive f below = record {
-  free = f;
-  there = ap is_some (slice_get-get_or m.opened hive fresh_tree (let e = as_many m.opened m.accepted in omega (arith, below, e)));
-  next = refl;
-}
-
-pub flushes_none : (m : Machine) (hive : ℕ) → fault m ≡ None → length (trees_now m) ≤ hive → StepFails m (first_of (fault m) (no_hive m hive)) NotFound m
-flushes_none m hive f past =
-    let e = as_many m.opened m.accepted in
-    let gone : slice_get m.opened hive ≡ None = slice_get_past m.opened hive (omega (arith, past, e)) in
-    inl (inl (second (fault m) (no_hive m hive) (Some NotFound) f (ap (λ x. cond (is_some x) None (Some NotFound)) gone)), refl)
 
 -- the accepted changes with one more, and the trees after them
 after_one_more : (trees : List TreeMap) (elements : List Element) (element : Element) → after_elements trees (elements ++ element ∷ []) ≡ applied (after_elements trees elements) element.ops element.moment

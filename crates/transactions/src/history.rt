@@ -1,4 +1,4 @@
-//! The changes that were accepted since a store was opened.
+//! The changes that were accepted since a store was opened, or its history was folded.
 ghost use Rattle.std.specs.Prelude.{◌≡◌, ◌<◌, ◌≤◌, ◌+◌, ◌-◌, ◌++◌, ◌∷◌, [], length, drop, max, OnOk};
 ghost use Rattle.std.specs.List.{AllByRecursion};
 ghost use Rattle.transactions.specs.Histories.{IsShort};
@@ -6,6 +6,7 @@ ghost use Rattle.transactions.specs.Histories.{IsShort};
 use change_codec::EncodedChange;
 use std::alloc::{AllocError, Global};
 use std::marker::Model;
+use std::mem;
 use std::snapshot::Snapshot;
 
 /// The changes that were accepted, in their order. Contracts know all of them. Retained in memory are the last ones,
@@ -110,5 +111,15 @@ impl ChangeHistory {
         let left = self.recent.len() - gone;
         self.recent.rotate_left(gone);
         self.recent.truncate(left);
+    }
+
+    /// Drops all changes, and hands out those that are retained. Takes no memory.
+    pub fn clear(&mut self, alloc: Global) -> Vec<EncodedChange>
+        ensures changes { self.new.changes ≡ [] }
+        ensures retained { self.new.discard_flushed ≡ 0 }
+        ensures recent { result.items ≡ drop self.old.discard_flushed self.old.changes }
+    {
+        self.all = Vec::new(alloc);
+        mem::replace(&mut self.recent, Vec::new(alloc))
     }
 }

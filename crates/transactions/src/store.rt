@@ -1,15 +1,17 @@
-//! A store in memory: what it answers to each event that makes no step, and what the caller reports to it of those that
-//! do.
+//! A store in memory: what it answers to each event that neither makes a step nor folds the history, and what the
+//! caller reports to it of those that do.
 ghost use Rattle.std.specs.Prelude.{◌≡◌, ◌<◌, ◌≤◌, ◌+◌, ◌-◌, ◌==◌, ◌++◌, ◌∷◌, ℕ, [], drop, max, true, false, nat_le, Some, None, IfOk, IfErr, OnOk, OnSome};
 ghost use Rattle.std.specs.List.{AllByRecursion, list_any};
 ghost use Rattle.refusals.specs.declared.refusal.Refusal.TheVariants.{NoMemory, NoSuchHandle};
 ghost use Rattle.store_model.specs.declared.event.Reply.TheVariants as reply;
-ghost use Rattle.store_model.specs.Steps.{Step, is_not_step, may_accept};
+ghost use Rattle.store_model.specs.Steps.{Step, is_request, may_accept};
 ghost use Rattle.store_model.specs.Machine.{bounds_of, opened_machine, last_number, fault, trees_now, is_open, room_refusal, unnamed_refusal, tx_call_refusal};
 ghost use Rattle.store_model.specs.Transactions.{own, inactive_refusal};
 ghost use Rattle.transactions.specs.Histories.{IsShort};
 ghost use Rattle.transactions.specs.Stores.{Answers, needs_device};
 ghost use Rattle.transactions.specs.Prepared.{Predicts, IsPrepared, IsReady, IsReadyCommit, IsReadyNothing, IsReadyWrite, JudgesWrite, PreparesEvent, PreparesWrite, AcceptsJust, change_of_ready, change_to_accept};
+
+mod retention;
 
 use crate::history::ChangeHistory;
 use crate::prepared::{JudgedWrite, Prepared, Ready, ReadyCommit, ReadyWrite};
@@ -33,7 +35,8 @@ use uuid::Uuid;
 /// It keeps the trees of now, and the accepted changes that were not discarded. The trees as they were opened and the
 /// whole list of accepted changes are known to contracts alone. It makes no step. The caller that keeps the journal and
 /// the hives reports these to it: how far changes are durable ([`mark_durable`](Store::mark_durable)), what room is
-/// free again ([`free`](Store::free)), and that the device has failed ([`fail`](Store::fail)). An event that may accept
+/// free again ([`free`](Store::free)), and that the device has failed ([`fail`](Store::fail)). The caller folds the
+/// history too ([`fold`](Store::fold)), and keeps the changes that a hive still lacks. An event that may accept
 /// a change may be made in two parts. [`prepare`](Store::prepare) allocates all that it needs, and
 /// [`finish`](Store::finish) answers it and takes no memory.
 pub struct Store {
@@ -125,9 +128,9 @@ impl Store {
         })
     }
 
-    /// Answers an event that makes no step.
+    /// Answers an event that neither makes a step nor folds the history.
     pub fn event(&mut self, event: Event) -> Reply
-        requires non_step { is_not_step event ≡ true }
+        requires is_request { is_request event ≡ true }
         ensures step { Step self.old.machine event result self.new.machine }
         ensures retained { self.new.retained ≡ self.old.retained }
     {
@@ -257,34 +260,6 @@ impl Store {
         self.faulted
     }
 
-    /// The accepted changes with numbers above this one, none of which was discarded.
-    pub fn above(&self, number: u64) -> &[EncodedChange]
-        requires retained { self.now.retained ≤ number }
-        requires there { number ≤ last_number self.now.machine }
-        ensures changes { result.now
-            ≡ drop (number - self.now.machine.before) self.now.machine.accepted }
-        ensures short { AllByRecursion IsShort result.now }
-    {
-        self.history.after((number - self.before) as usize)
-    }
-
-    /// The number above which changes are retained in memory.
-    pub fn retained(&self) -> u64
-        ensures { result ≡ self.now.retained }
-    {
-        self.table.number() - self.history.retained() as u64
-    }
-
-    /// Discards the changes up to this number: they are no longer retained.
-    pub fn discard_flushed(&mut self, number: u64)
-        requires there { number ≤ last_number self.old.machine }
-        ensures machine { self.new.machine ≡ self.old.machine }
-        ensures retained { self.new.retained ≡ max self.old.retained number }
-    {
-        self.history
-            .discard_flushed(number.saturating_sub(self.before) as usize);
-    }
-
     /// Records that changes are durable up to this number.
     pub fn mark_durable(&mut self, durable: u64)
         requires there { durable ≤ last_number self.old.machine }
@@ -315,7 +290,7 @@ impl Store {
     }
 
     fn answer(&mut self, event: Event) -> Result<Reply, Refusal>
-        requires non_step { is_not_step event ≡ true }
+        requires is_request { is_request event ≡ true }
         requires free { needs_device event ≡ true → fault self.old.machine ≡ None }
         ensures step { Answers self.old.machine event result self.new.machine }
         ensures retained { self.new.retained ≡ self.old.retained }
@@ -358,7 +333,8 @@ impl Store {
             Event::Outcome { session, tx } => self.outcome(session, tx),
             Event::FlushAsk => Ok(self.flush_ask()),
             Event::Acked { number } => self.acked(number),
-            Event::JournalStep | Event::FlusherStep { .. } | Event::TrimStep => unreachable!(),
+            Event::Fold | Event::JournalStep | Event::FlusherStep { .. } | Event::TrimStep =>
+                unreachable!(),
         }
     }
 
