@@ -1,4 +1,4 @@
--- An event that makes no step keeps the invariant.
+-- A request, which neither makes a step nor folds the history, keeps the invariant.
 use Rattle.std.proofs.Common.{◌≡◌, ◌⊎◌, inl, inr, ℕ, ◌+◌, ◌-◌, ◌<◌, ◌≤◌, true, List, [], ◌∷◌, ◌++◌, length, map, take, drop, refl, sym, ◌∙◌, ap, subst, arith, Some, slice_get}
 use Rattle.std.proofs.lemmas.List.{map-append, length-append, drop-append-le}
 use Rattle.refusals.specs.declared.limits.TheConstants.{GREATEST_NUMBER, MOST_JOURNAL_BYTES}
@@ -12,14 +12,15 @@ use Rattle.crash_model.specs.Invariant as law
 use Rattle.crash_model.proofs.HiveByHive.{legal_at}
 use Rattle.crash_model.proofs.KeepSteps.{moved, step_accept}
 use Rattle.store_model.specs.Machine.{Machine, trees_now, last_number, pending}
-use Rattle.store_model.specs.Steps.{Step, is_not_step}
+use Rattle.store_model.specs.Steps.{Step, is_request}
 use Rattle.store_model.specs.Invariant.{InvariantHolds, AreLegalChanges, JournalStateStays, AcceptsOneChange}
 use Rattle.store_model.specs.declared.event.Event.{Event}
 use Rattle.store_model.specs.declared.event.Reply.{Reply}
 use Rattle.change_codec.specs.ModelChanges.{TimedOp, tree_rules, timed, timed_element, timed_elements}
 use Rattle.commit_journal.specs.Store.{room_of}
 use Rattle.engine_invariant.specs.States.{HiveView, tree_of, life_of, state_of, IsBatch, IsConsistent}
-use Rattle.engine_invariant.proofs.Bridge.{all_long, last_is, tree_is, trees_at_last, run_ops, names, all_allowed}
+use Rattle.store_model.proofs.TreeCounts.{all_long}
+use Rattle.engine_invariant.proofs.Bridge.{last_is, tree_is, trees_at_last, run_ops, names, all_allowed}
 use Rattle.engine_invariant.proofs.Room.{one_more_room, first_stay}
 
 -- The machine's laws that are used
@@ -28,7 +29,7 @@ abbrev pub Keeps : Type 0
 Keeps = (old new : Machine) (event : Event) (reply : Reply) → InvariantHolds old → Step old event reply new → InvariantHolds new
 
 abbrev pub Settle : Type 0
-Settle = (old new : Machine) (event : Event) (reply : Reply) → InvariantHolds old → is_not_step event ≡ true → Step old event reply new → JournalStateStays old new ⊎ AcceptsOneChange old new
+Settle = (old new : Machine) (event : Event) (reply : Reply) → InvariantHolds old → is_request event ≡ true → Step old event reply new → JournalStateStays old new ⊎ AcceptsOneChange old new
 
 life_is : (base : ℕ) (opened : List Element) (old new : Machine) → new.opened ≡ old.opened → new.accepted ≡ old.accepted → life_of new base opened ≡ life_of old base opened
 life_is base opened old new a b =
@@ -115,8 +116,8 @@ module _ (base : ℕ) (opened : List Element) (journal : Choice (Content TimedOp
   fits_on old new (inl s) fit some = let was = fit (omega (arith, some, ap (λ (es : List Element). length es) (pending_same old new s))) in omega (arith, was, s.room)
   fits_on old new (inr g) fit some = g.fits
 
-  pub non_step_keeps : Settle → Keeps → (old new : Machine) → IsConsistent old base opened journal hives → (e : Event) (r : Reply) → is_not_step e ≡ true → Step old e r new → IsConsistent new base opened journal hives
-  non_step_keeps settle keeps old new i e r quiet step =
+  pub request_keeps : Settle → Keeps → (old new : Machine) → IsConsistent old base opened journal hives → (e : Event) (r : Reply) → is_request e ≡ true → Step old e r new → IsConsistent new base opened journal hives
+  request_keeps settle keeps old new i e r quiet step =
       let c = settle old new e r i.kept quiet step in
       let known = i.kept.within.known in
       record {

@@ -2,7 +2,7 @@
 use Rattle.std.proofs.Common.{◌≡◌, ℕ, zero, suc, ◌+◌, ◌-◌, ◌<◌, List, [], ◌∷◌, length, map, take, refl, sym, ◌∙◌, ap, subst, arith, Option, Some, None, Ok, true, cond, slice_get, option_map, IsTrue}
 use Rattle.std.specs.Prelude.{slice_set}
 use Rattle.std.proofs.lemmas.Option.{none-some, slice_get_within, slice_get-get_or, get_or_from_slice_get}
-use Rattle.std.proofs.lemmas.List.{take-map, take_all, length-set, length-map}
+use Rattle.std.proofs.lemmas.List.{take-map, take_all, length-map}
 use Rattle.std.proofs.lemmas.Bool.Decides.{nat_tests}
 use Rattle.std.specs.List.{AllByRecursion}
 use Rattle.reg_tree.specs.Maps.{TreeMap}
@@ -23,6 +23,7 @@ use Rattle.crash_model.proofs.HiveByHive.{after_elements_at}
 use Rattle.store_model.specs.Machine.{Machine, trees_now, last_number}
 use Rattle.store_model.specs.Invariant.{AreLegalChanges}
 use Rattle.change_codec.specs.ModelChanges.{TimedOp, tree_rules, is_legal, timed, timed_element, timed_elements}
+use Rattle.store_model.proofs.TreeCounts.{one_long}
 use Rattle.engine_invariant.specs.States.{tree_of, life_of}
 use Rattle.engine_invariant.specs.Prefixes.{trees_after}
 
@@ -53,23 +54,6 @@ ops_are ts moment (op ∷ ops) = ops_are (applied_one ts op moment) moment ops �
 all_are : (ts : List TreeMap) (es : List Element) → after_elements ts es ≡ all.after_elements tree_rules (timed_elements es) ts
 all_are ts [] = refl
 all_are ts (e ∷ es) = all_are (applied ts e.ops e.moment) es ∙ ap (all.after_elements tree_rules (timed_elements es)) (ops_are ts e.moment e.ops)
-
--- As many trees as before
-
-one_long : (ts : List TreeMap) (op : Op) (moment : ℕ) → length (applied_one ts op moment) ≡ length ts
-one_long ts op moment = by_slot (slice_get ts (hive_of op))
-  where
-    by_slot : (o : Option TreeMap) → length (applied_if ts o op moment) ≡ length ts
-    by_slot None = refl
-    by_slot (Some t) = length-set ts (hive_of op) (changed t op moment)
-
-pub ops_long : (ts : List TreeMap) (ops : List Op) (moment : ℕ) → length (applied ts ops moment) ≡ length ts
-ops_long ts [] moment = refl
-ops_long ts (op ∷ ops) moment = ops_long (applied_one ts op moment) ops moment ∙ one_long ts op moment
-
-pub all_long : (ts : List TreeMap) (es : List Element) → length (after_elements ts es) ≡ length ts
-all_long ts [] = refl
-all_long ts (e ∷ es) = all_long (applied ts e.ops e.moment) es ∙ ops_long ts e.ops e.moment
 
 -- The crash model's trees are the project's
 

@@ -17,7 +17,8 @@ use Rattle.change_codec.specs.ModelChanges.{TimedOp, tree_rules, timed_element, 
 use Rattle.commit_journal.specs.Handed.{IsHanded, OnHives, IsShort}
 use Rattle.commit_journal.specs.Store.{room_of}
 use Rattle.engine_invariant.specs.States.{HiveView, state_of, IsConsistent}
-use Rattle.engine_invariant.proofs.Bridge.{number_is, ops_there, ops_long}
+use Rattle.store_model.proofs.TreeCounts.{ops_long}
+use Rattle.engine_invariant.proofs.Bridge.{number_is, ops_there}
 use Rattle.engine_invariant.proofs.Room.{rooms_are}
 
 all_there : (ts : List TreeMap) (es : List Element) (n : ℕ) → length ts ≡ n → AreLegalHistory ts es → AllByRecursion (OnHives n) es

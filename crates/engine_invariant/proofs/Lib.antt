@@ -12,3 +12,4 @@ mod Flushing
 pub mod StoreReads
 mod Running
 mod Receipts
+mod Folding

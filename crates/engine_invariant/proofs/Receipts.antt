@@ -9,7 +9,7 @@ use Rattle.store_model.specs.declared.event.Event.{Event}
 use Rattle.store_model.specs.declared.event.Event.TheVariants as event
 use Rattle.store_model.specs.declared.event.Reply.{Reply}
 use Rattle.store_model.specs.declared.event.Reply.TheVariants as reply
-use Rattle.store_model.proofs.Replies.{stepped_or}
+use Rattle.store_model.proofs.Replies.{folded_or, stepped_or}
 use Rattle.engine_invariant.specs.Runs.{ReceiptIsDurable}
 use Rattle.engine_invariant.proofs.Accepting.{Keeps, Settle}
 
@@ -31,6 +31,7 @@ module _ (settle : Settle) (old new : Machine) (k : InvariantHolds old) where
   Rises r = old.durable ≤ new.durable
 
   rises : (e : Event) (r : Reply) → Step old e r new → old.durable ≤ new.durable
+  rises event.Fold r s = folded_or Rises _ _ _ r s (λ n d. omega (arith, ap (λ (m : Machine). m.durable) d.next)) (λ d. no_change old new d.2) (λ why f. no_change old new f.1)
   rises event.JournalStep r s = stepped_or Rises _ _ r s (λ p d. d.grows) (λ why f. fails old new _ why f)
   rises (event.FlusherStep hive) r s = stepped_or Rises _ _ r s (λ p d. no_change old new d.next) (λ why f. fails old new _ why f)
   rises event.TrimStep r s = stepped_or Rises _ _ r s (λ p d. omega (arith, ap (λ (m : Machine). m.durable) d.next)) (λ why f. fails old new _ why f)
@@ -64,6 +65,7 @@ held_then old new (event.Rollback session tx) n s = absurd s
 held_then old new (event.Close session tx) n s = absurd s
 held_then old new (event.Outcome session tx) n s = absurd s
 held_then old new event.FlushAsk n s = absurd s
+held_then old new event.Fold n s = absurd s
 held_then old new event.JournalStep n s = absurd s
 held_then old new (event.FlusherStep hive) n s = absurd s
 held_then old new event.TrimStep n s = absurd s
@@ -72,6 +74,7 @@ held_then old new event.TrimStep n s = absurd s
 by_reply : (b : ℕ) (r : Reply) → ((n : ℕ) → r ≡ reply.Receipt n → n ≤ b) → ReceiptIsDurable b r
 by_reply b (reply.Receipt n) f = f n refl
 by_reply b reply.Done f = tt
+by_reply b (reply.Folded number) f = tt
 by_reply b (reply.Accepted levels number) f = tt
 by_reply b (reply.Added levels) f = tt
 by_reply b reply.Opened f = tt

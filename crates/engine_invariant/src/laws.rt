@@ -11,13 +11,14 @@ ghost use Rattle.crash_model.specs.StepAnswers.{Says};
 ghost use Rattle.disk_model.specs.declared.progress.Progress.{Progress};
 ghost use Rattle.disk_model.specs.declared.progress.Progress.TheVariants as progress;
 ghost use Rattle.store_model.specs.Machine.{Machine, last_number, opened_machine, pending, trees_now};
-ghost use Rattle.store_model.specs.Steps.{EndsTrim, Step, Run, is_not_step};
+ghost use Rattle.store_model.specs.Steps.{EndsTrim, Step, Run, is_request};
 ghost use Rattle.store_model.specs.Invariant.{InvariantHolds};
 ghost use Rattle.store_model.specs.declared.bounds.StoreBounds.{StoreBounds};
 ghost use Rattle.store_model.specs.declared.event.Event.{Event};
 ghost use Rattle.store_model.specs.declared.event.Event.TheVariants as event;
 ghost use Rattle.disk_model.specs.declared.progress.Progress.TheVariants.{Done};
 ghost use Rattle.store_model.specs.declared.event.Reply.{Reply};
+ghost use Rattle.store_model.specs.declared.event.Reply.TheVariants as reply;
 ghost use Rattle.engine_invariant.specs.States.{HiveView, IsConsistent, life_of};
 ghost use Rattle.refusals.specs.declared.refusal.Refusal.{Refusal};
 ghost use Rattle.refusals.specs.declared.refusal.Refusal.TheVariants.{Faulted};
@@ -50,16 +51,26 @@ pub fn openings_begin()
     store_model::laws::steps_keep_invariant();
 }
 
-/// An event that makes no step keeps the invariant.
+/// An event that neither makes a step nor folds the history keeps the invariant.
 pub fn events_keep()
     ensures { (old new : Machine) (base : ℕ) (opened : List Element)
         (journal : Choice (Content TimedOp)) (hives : List HiveView)
         (event : Event) (reply : Reply) → IsConsistent old base opened journal hives →
-        is_not_step event ≡ true → Step old event reply new →
+        is_request event ≡ true → Step old event reply new →
         IsConsistent new base opened journal hives }
 {
     store_model::laws::steps_keep_invariant();
     store_model::laws::only_steps_make_durable();
+}
+
+/// A fold keeps the invariant, if the changes of the history count among those before it from then on.
+pub fn folds_keep()
+    ensures { (old new : Machine) (number base : ℕ) (opened : List Element)
+        (journal : Choice (Content TimedOp)) (hives : List HiveView) →
+        IsConsistent old base opened journal hives → Step old event.Fold (reply.Folded number) new →
+        IsConsistent new base (opened ++ old.accepted) journal hives }
+{
+    store_model::laws::steps_keep_invariant();
 }
 
 /// What is pending may be handed to the journal of a store with as many hives, if each change is short. The numbers
