@@ -1,5 +1,5 @@
 -- Which changes an opening retains: those that some hive lacks, each with its number.
-use Rattle.std.specs.Prelude.{◌≡◌, ℕ, ◌<◌, Bool, true, false, ◌&&◌, ◌==◌, nat_le, nat_lt, get_or, List, length, vec_capacity}
+use Rattle.std.specs.Prelude.{◌≡◌, ℕ, ◌+◌, ◌≤◌, Bool, true, false, ◌&&◌, ◌==◌, nat_le, nat_lt, get_or, List, length, vec_capacity}
 use Rattle.std.specs.List.{filter, list_any, zip}
 use Rattle.std.specs.List.Sorted.{IsNonDecreasingBy, IsPartitionPoint}
 use Rattle.reg_tree.specs.declared.element.Element.{Element}
@@ -12,9 +12,9 @@ use Rattle.recovery.specs.declared.retained_changes.RetainedChanges.{RetainedCha
 abbrev pub numbered_changes : RetainedChanges → List NumberedChange
 numbered_changes retained = zip retained.numbers.items retained.changes.items
 
--- there is room for one more
-abbrev pub HasRoom : RetainedChanges → Type 0
-HasRoom retained = (length retained.numbers.items < vec_capacity retained.numbers) × (length retained.changes.items < vec_capacity retained.changes)
+-- there is room for this many more
+abbrev pub HasRoom : ℕ → RetainedChanges → Type 0
+HasRoom count retained = (length retained.numbers.items + count ≤ vec_capacity retained.numbers) × (length retained.changes.items + count ≤ vec_capacity retained.changes)
 
 -- the numbers ascend
 abbrev pub AreAscending : List NumberedChange → Type 0

@@ -143,7 +143,7 @@ impl ElementSink for Replay {
             return Ok(());
         }
         let trees = self.trees_with(number, &change)?;
-        self.retained.reserve()?;
+        self.retained.reserve(1)?;
         self.trees = trees;
         self.last_changes.count_one(&change, number);
         self.retained.push_reserved(number, change);

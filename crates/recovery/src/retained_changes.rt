@@ -1,10 +1,11 @@
 //! Changes with their numbers.
-ghost use Rattle.std.specs.Prelude.{◌≡◌, ◌++◌, ◌∷◌, ◌≤◌, [], drop, length, OnOk};
+ghost use Rattle.std.specs.Prelude.{◌≡◌, ◌+◌, ◌++◌, ◌∷◌, ◌≤◌, [], ℕ, drop, length, OnOk};
 
 use change_codec::EncodedChange;
 use std::alloc::{AllocError, Global};
 
-/// Changes with their numbers, in an order. An engine holds those that some hive lacked as the store was opened.
+/// Changes with their numbers, in an order. An engine holds those that some hive lacked as the store was opened, or as
+/// its history was folded.
 #[derive(Drop)]
 pub struct RetainedChanges {
     /// The numbers, in that order.
@@ -15,7 +16,7 @@ pub struct RetainedChanges {
 }
 
 impl RetainedChanges {
-    ghost use Rattle.commit_journal.specs.Numbered.{changes_in};
+    ghost use Rattle.commit_journal.specs.Numbered.{changes_in, numbered};
     ghost use Rattle.recovery.specs.Retained.{AreAscending, HasRoom, IsPlaceAbove, above_number, count_lacked, numbered_changes};
 
     /// No changes.
@@ -28,22 +29,38 @@ impl RetainedChanges {
         }
     }
 
-    /// Makes room for one more.
-    pub fn reserve(&mut self) -> Result<(), AllocError>
-        ensures room { OnOk result (HasRoom self.new) }
+    /// Makes room for this many more.
+    pub fn reserve(&mut self, count: usize) -> Result<(), AllocError>
+        ensures room { OnOk result (HasRoom count self.new) }
         ensures same { numbered_changes self.new ≡ numbered_changes self.old }
     {
-        self.numbers.reserve(1)?;
-        self.changes.reserve(1)
+        self.numbers.reserve(count)?;
+        self.changes.reserve(count)
     }
 
     /// Puts a change with its number behind the others. Takes no memory.
     pub fn push_reserved(&mut self, number: u64, change: EncodedChange)
-        requires { HasRoom self.old }
-        ensures { numbered_changes self.new ≡ numbered_changes self.old ++ (number, change) ∷ [] }
+        requires { HasRoom 1 self.old }
+        ensures changes { numbered_changes self.new ≡ numbered_changes self.old ++ (number, change) ∷ [] }
+        ensures room { (more : ℕ) → HasRoom (more + 1) self.old → HasRoom more self.new }
     {
         self.numbers.push_reserved(number);
         self.changes.push_reserved(change);
+    }
+
+    /// Puts changes with consecutive numbers behind the others; the first one has the number after this. Takes no
+    /// memory.
+    pub fn append_reserved(&mut self, number: u64, changes: Vec<EncodedChange>)
+        requires room { HasRoom (length changes.items) self.old }
+        requires numbers { number + length changes.items ≤ u64.MAX }
+        ensures { numbered_changes self.new
+            ≡ numbered_changes self.old ++ numbered number changes.items }
+    {
+        let mut last = number;
+        for change in changes {
+            last += 1;
+            self.push_reserved(last, change);
+        }
     }
 
     /// The changes with numbers above this, if the numbers ascend.

@@ -40,6 +40,6 @@ returns-clause-taken c =
       numbers = refl;
       trees = c.in_ok-trees.ensures.follow;
       are = λ trees. c.in_ok-trees.ensures.trees;
-      retained = c.push_reserved.ensures ∙ ap (λ (l : List NumberedChange). l ++ change ∷ []) c.reserve.ensures.same ∙ kept_lacked s.numbers.items change (numbered_changes s.retained) lacked;
+      retained = c.push_reserved.ensures.changes ∙ ap (λ (l : List NumberedChange). l ++ change ∷ []) c.reserve.ensures.same ∙ kept_lacked s.numbers.items change (numbered_changes s.retained) lacked;
       names = names_one c.args.number c.args.change s.last_changes.last.items c.count_one-2.new.self.last.items c.count_one-2.ensures.many c.count_one-2.ensures.counts;
     }
