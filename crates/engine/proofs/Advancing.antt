@@ -10,7 +10,7 @@ use Rattle.crash_model.specs.Promises.{Choice, Content, nothing, settled, top, u
 use Rattle.crash_model.specs.Memory.{IsOfMemory}
 use Rattle.reg_tree.specs.Maps.{TreeMap}
 use Rattle.store_model.specs.Machine.{Machine, last_number}
-use Rattle.store_model.specs.Steps.{EndsTrim, is_not_step}
+use Rattle.store_model.specs.Steps.{EndsTrim, is_request}
 use Rattle.store_model.specs.declared.event.Event.{Event}
 use Rattle.store_model.specs.declared.event.Event.TheVariants as event
 use Rattle.store_model.specs.declared.event.Reply.{Reply}
@@ -19,7 +19,8 @@ use Rattle.change_codec.specs.ModelChanges.{TimedOp}
 use Rattle.crash_model.specs.StepAnswers.{Says}
 use Rattle.disk_model.specs.declared.progress.Progress.{Progress}
 use Rattle.disk_model.specs.declared.progress.Progress.TheVariants as progress
-use Rattle.commit_journal.specs.Journals.{changes_of, choice_of, steps_in, steps_left, view_in_phase}
+use Rattle.engine.specs.EarlierChanges.{changes_before}
+use Rattle.commit_journal.specs.Journals.{choice_of, steps_in, steps_left, view_in_phase}
 use Rattle.commit_journal.specs.Journals as journals
 use Rattle.commit_journal.specs.OnDisk as phase
 use Rattle.commit_journal.specs.declared.extent.Extent.{Extent}
@@ -67,12 +68,12 @@ refused_comes_on e come why old new is = record {
   flushes = λ _ _ _ _ made _ _ _. absurd (not_made (reply_to come) why (ap reply_to is) made);
 }
 
-pub non_step_advances : {D : Type 0} (e : Event) (answer : Reply) (old new : Parts D) → is_not_step e ≡ true → StepAdvances e answer old new
+pub non_step_advances : {D : Type 0} (e : Event) (answer : Reply) (old new : Parts D) → is_request e ≡ true → StepAdvances e answer old new
 non_step_advances e answer old new non_step = record {
-  nears_durable = λ is _ _. absurd (true≢false (sym non_step ∙ ap is_not_step is));
-  begins_trim = λ is _ _ _. absurd (true≢false (sym non_step ∙ ap is_not_step is));
-  ends_trim = λ is _ _. absurd (elim (is) [ inl j ↦ true≢false (sym non_step ∙ ap is_not_step j) | inr t ↦ true≢false (sym non_step ∙ ap is_not_step t) ]);
-  flushes = λ i was then is _ _ _ _. absurd (true≢false (sym non_step ∙ ap is_not_step is));
+  nears_durable = λ is _ _. absurd (true≢false (sym non_step ∙ ap is_request is));
+  begins_trim = λ is _ _ _. absurd (true≢false (sym non_step ∙ ap is_request is));
+  ends_trim = λ is _ _. absurd (elim (is) [ inl j ↦ true≢false (sym non_step ∙ ap is_request j) | inr t ↦ true≢false (sym non_step ∙ ap is_request t) ]);
+  flushes = λ i was then is _ _ _ _. absurd (true≢false (sym non_step ∙ ap is_request is));
 }
 
 -- What a journal's phase says
@@ -160,10 +161,10 @@ module _ {D : Type 0} (s : Parts D) (sound : IsSound s) (free : s.store.machine.
 
   ends_trim : Ends (choice_of s.journal) (choice_of new) ⊎ (come ≡ Ok progress.Done → ⊥) → IsNotRefused (reply_to come) → IsTrimming (choice_of s.journal) → HasTrimmed s.store.machine (reply_to come) store.machine (choice_of new)
   ends_trim said made trims =
-      let done = made_done s.store.machine s.base (changes_of s.decoded.value) s.journal new (map view_of s.hives.items) sound.holds.kept works come (ends (trims_at s.journal works trims)) made in
+      let done = made_done s.store.machine s.base (changes_before s.earlier) s.journal new (map view_of s.hives.items) sound.holds.kept works come (ends (trims_at s.journal works trims)) made in
       subst (λ (t : Machine). HasTrimmed s.store.machine (reply_to come) t (choice_of new)) (sym told)
       (elim (said) [
-        | inl ended ↦ trimmed_by s.store.machine s.base (changes_of s.decoded.value) s.journal new (map view_of s.hives.items) sound.holds.kept works frees come done ended trims
+        | inl ended ↦ trimmed_by s.store.machine s.base (changes_before s.earlier) s.journal new (map view_of s.hives.items) sound.holds.kept works frees come done ended trims
         | inr not ↦ absurd (not done)
       ])
 
@@ -171,7 +172,7 @@ module _ {D : Type 0} (s : Parts D) (sound : IsSound s) (free : s.store.machine.
       → s.store.machine.durable ≤ (after_step s.store.machine (choice_of s.journal) (choice_of new) come).durable → StepAdvances event.JournalStep (reply_to come) s (record s { disk = disk; journal = new; store = store; last_changes = last_changes })
   journal_comes_on settles first handed says nearer rises = record {
     nears_durable = λ _ made some. subst (λ (t : Machine). NearsDurable s.store.machine (steps_left s.journal) t (steps_left new)) (sym told)
-        (nears_by s.store.machine s.base (changes_of s.decoded.value) s.journal new (map view_of s.hives.items) sound.holds.kept works settles some first handed come says (nearer some) rises made);
+        (nears_by s.store.machine s.base (changes_before s.earlier) s.journal new (map view_of s.hives.items) sound.holds.kept works settles some first handed come says (nearer some) rises made);
     begins_trim = λ is _ _ _. absurd (not_trim is);
     ends_trim = λ _ made trims. ends_trim (said come says) made trims;
     flushes = λ i was then is _ _ _ _. absurd (not_flush i is);
@@ -189,7 +190,7 @@ module _ {D : Type 0} (s : Parts D) (sound : IsSound s) (free : s.store.machine.
       said (Ok progress.More) other = inr (λ e. cc)
       said (Err why) other = inr (λ e. cc)
 
-  pub trim_comes_on : MayTrim s.store.machine s.base (changes_of s.decoded.value) (choice_of s.journal) (map view_of s.hives.items) → Says TrimSays come (choice_of s.journal) (choice_of new)
+  pub trim_comes_on : MayTrim s.store.machine s.base (changes_before s.earlier) (choice_of s.journal) (map view_of s.hives.items) → Says TrimSays come (choice_of s.journal) (choice_of new)
       → StepAdvances event.TrimStep (reply_to come) s (record s { disk = disk; journal = new; store = store; last_changes = last_changes })
   trim_comes_on may says = record {
     nears_durable = λ is _ _. absurd (not_journal is);
@@ -220,7 +221,7 @@ module _ {D : Type 0} (s : Parts D) (sound : IsSound s) (free : s.store.machine.
       said (Err why) other = inr (λ e. cc)
 
 -- a trim that may not be made isn't under way
-pub idle_comes_on : {D : Type 0} (s : Parts D) → IsTrimmed s.store.machine s.base (changes_of s.decoded.value) (choice_of s.journal) (map view_of s.hives.items) → StepAdvances event.TrimStep (reply_to (Ok progress.Idle)) s s
+pub idle_comes_on : {D : Type 0} (s : Parts D) → IsTrimmed s.store.machine s.base (changes_before s.earlier) (choice_of s.journal) (map view_of s.hives.items) → StepAdvances event.TrimStep (reply_to (Ok progress.Idle)) s s
 idle_comes_on s none = record {
   nears_durable = λ is _ _. absurd (not_journal is);
   begins_trim = λ _ _ not_idle _. absurd (not_idle refl);

@@ -3,7 +3,8 @@ use Rattle.std.proofs.Common.{◌≡◌, ap, ℕ, false, map}
 use Rattle.disk_model.specs.FileState.{FileState}
 use Rattle.store_model.specs.declared.event.Event.{Event}
 use Rattle.store_model.specs.declared.event.Reply.{Reply}
-use Rattle.commit_journal.specs.Journals.{changes_of, choice_of, steps_left}
+use Rattle.engine.specs.EarlierChanges.{changes_before}
+use Rattle.commit_journal.specs.Journals.{choice_of, steps_left}
 use Rattle.commit_journal.specs.declared.journal.Journal.{Journal}
 use Rattle.engine_invariant.specs.Engines.{EngineAnswers}
 use Rattle.engine_invariant.specs.Idle.{IdlesExactly}
@@ -14,7 +15,7 @@ use Rattle.engine.specs.declared.parts.Parts.{Parts}
 use Rattle.engine.proofs.Advancing.{seen_same, steps_seen}
 
 pub answered : {D : Type 0} (states : D → ℕ → ℕ → FileState) (clock failures : D → ℕ) (is_faithful : D → Type 0) (event : Event) (answer : Reply) (old new : Parts D) → PartsStep states clock failures is_faithful event answer old new → StepAdvances event answer old new
-    → (old.store.machine.faulted ≡ false → IdlesExactly event answer old.store.machine old.base (changes_of old.decoded.value) (choice_of old.journal) (map view_of old.hives.items))
+    → (old.store.machine.faulted ≡ false → IdlesExactly event answer old.store.machine old.base (changes_before old.earlier) (choice_of old.journal) (map view_of old.hives.items))
     → EngineAnswers event answer (parts_view clock failures old) (parts_view clock failures new)
 answered {D = D} states clock failures is_faithful event answer old new on comes idle = record {
   step = on.step;

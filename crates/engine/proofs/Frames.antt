@@ -1,9 +1,10 @@
 -- An engine's parts answer an event.
-use Rattle.std.proofs.Common.{◌≡◌, ◌⊎◌, inl, inr, ℕ, ◌+◌, ◌<◌, refl, sym, ◌∙◌, ap, subst, arith, Result, Ok, Err, slice_get}
+use Rattle.std.proofs.Common.{◌≡◌, ◌⊎◌, inl, inr, ℕ, ◌+◌, ◌<◌, refl, sym, ◌∙◌, ap, subst, arith, List, Result, Ok, Err, slice_get}
 use Rattle.refusals.specs.declared.refusal.Refusal.{Refusal}
 use Rattle.std.proofs.lemmas.Bool.{true≢false}
 use Rattle.std.specs.Prelude.{IfErr, true}
 use Rattle.refusals.specs.declared.refusal.Refusal.TheVariants.{DiskFault, Faulted, NoMemory}
+use Rattle.reg_tree.specs.declared.element.Element.{Element}
 use Rattle.disk_model.specs.FileState.{FileState}
 use Rattle.disk_model.specs.Call.{OneCall, HasFailed}
 use Rattle.store_model.specs.Machine.{Machine}
@@ -17,11 +18,12 @@ use Rattle.store_model.specs.declared.event.Reply.TheVariants.{Refused}
 use Rattle.crash_model.specs.StepAnswers.{Says}
 use Rattle.disk_model.specs.declared.progress.Progress.{Progress}
 use Rattle.disk_model.specs.declared.progress.Progress.TheVariants as progress
-use Rattle.commit_journal.specs.Journals.{changes_of, store_of}
+use Rattle.engine.specs.EarlierChanges.{changes_before}
+use Rattle.commit_journal.specs.Journals.{store_of}
 use Rattle.commit_journal.specs.declared.journal.Journal.{Journal}
 use Rattle.engine_invariant.specs.Answers.{reply_to}
 use Rattle.engine_invariant.specs.Prefixes.{AnyFile, AreOnDisk}
-use Rattle.engine_invariant.specs.Engines.{NeedsNoDevice}
+use Rattle.engine_invariant.specs.Engines.{NeedsNoDevice, opened_after}
 use Rattle.engine.specs.Parts.{IsSound}
 use Rattle.engine.specs.Events.{PartsStep}
 use Rattle.engine.specs.declared.parts.Parts.{Parts}
@@ -30,6 +32,11 @@ use Rattle.engine.proofs.Idling.{told_idle}
 -- a call on some files is one on any
 pub any_call : (own : ℕ → Type 0) (old new : ℕ → ℕ → FileState) (before after : ℕ) → OneCall own old new before after → OneCall AnyFile old new before after
 any_call own old new before after call = record { later = call.later; one = call.one; past = call.past; others = λ f none. absurd (none tt) }
+
+-- no step folds the history
+pub step_opens : (come : Result Progress Refusal) (opened accepted : List Element) → opened_after (reply_to come) opened accepted ≡ opened
+step_opens (Ok come) opened accepted = refl
+step_opens (Err why) opened accepted = refl
 
 -- a step that is answered DiskFault has failed
 pub has_failed : (come : Result Progress Refusal) (old new : ℕ) → HasFailed come old new → reply_to come ≡ Refused DiskFault → old < new
@@ -99,8 +106,8 @@ flush_still (Err w) old new refused no_change why is other =
 
 module _ {D : Type 0} (states : D → ℕ → ℕ → FileState) (clock failures : D → ℕ) (is_faithful : D → Type 0) (event : Event) (answer : Reply) where
   -- nothing has changed
-  pub stays : (parts : Parts D) → IsSound parts → Step parts.store.machine event answer parts.store.machine → (answer ≡ Refused DiskFault → ⊥) → PartsStep states clock failures is_faithful event answer parts parts
-  stays parts sound step fine = record {
+  pub stays : (parts : Parts D) → IsSound parts → Step parts.store.machine event answer parts.store.machine → (answer ≡ Refused DiskFault → ⊥) → ((opened accepted : List Element) → opened_after answer opened accepted ≡ opened) → PartsStep states clock failures is_faithful event answer parts parts
+  stays parts sound step fine kept = record {
     step = step;
     sound = sound;
     on_disk = λ f on. on;
@@ -110,7 +117,7 @@ module _ {D : Type 0} (states : D → ℕ → ℕ → FileState) (clock failures
     failed = λ e. absurd (fine e);
     works = λ other. refl;
     faithful = λ f. f;
-    life = (refl, refl);
+    life = (refl, sym (kept (changes_before parts.earlier) parts.store.machine.accepted));
     journal_stays = λ nj nt. refl;
     hives_stay = λ i no. refl;
   }
@@ -133,7 +140,7 @@ module _ {D : Type 0} (states : D → ℕ → ℕ → FileState) (clock failures
         failed = λ e. subst (λ (d : D). failures d < failures new.disk) disk (on.failed e);
         works = λ other. on.works other ∙ ap failures disk;
         faithful = λ f. subst is_faithful disk (on.faithful f);
-        life = (on.life.0 ∙ ap (λ (p : Parts D). p.base) rest, on.life.1 ∙ ap (λ (p : Parts D). (changes_of p.decoded.value)) rest);
+        life = (on.life.0 ∙ ap (λ (p : Parts D). p.base) rest, on.life.1 ∙ ap (λ (p : Parts D). opened_after answer (changes_before p.earlier) p.store.machine.accepted) rest);
         journal_stays = λ nj nt. on.journal_stays nj nt ∙ journal;
         hives_stay = λ i no. on.hives_stay i no ∙ others i no;
       }
@@ -141,4 +148,4 @@ module _ {D : Type 0} (states : D → ℕ → ℕ → FileState) (clock failures
 -- a step that was refused for lack of memory
 pub hungry : {D : Type 0} (states : D → ℕ → ℕ → FileState) (clock failures : D → ℕ) (is_faithful : D → Type 0) (hive : ℕ) (parts : Parts D) (why : Refusal) → IsSound parts → why ≡ NoMemory → PartsStep states clock failures is_faithful (FlusherStep hive) (reply_to (Err why)) parts parts
 hungry states clock failures is_faithful hive parts why sound is =
-    subst (λ w. PartsStep states clock failures is_faithful (FlusherStep hive) (reply_to (Err w)) parts parts) (sym is) (stays states clock failures is_faithful (FlusherStep hive) (Refused NoMemory) parts sound (inl (inr refl, refl)) (λ e. cc))
+    subst (λ w. PartsStep states clock failures is_faithful (FlusherStep hive) (reply_to (Err w)) parts parts) (sym is) (stays states clock failures is_faithful (FlusherStep hive) (Refused NoMemory) parts sound (inl (inr refl, refl)) (λ e. cc) (λ opened accepted. refl))

@@ -7,7 +7,7 @@ use Rattle.reg_tree.specs.declared.element.Element.{Element}
 use Rattle.crash_model.specs.Promises.{Choice, Content, nothing, top, JournalSays, TrimSays}
 use Rattle.crash_model.proofs.ClausesSuffice.{last_naming}
 use Rattle.store_model.specs.Machine.{Machine}
-use Rattle.store_model.specs.Steps.{is_not_step}
+use Rattle.store_model.specs.Steps.{is_request}
 use Rattle.store_model.specs.Invariant.{InvariantHolds}
 use Rattle.store_model.specs.declared.event.Event.{Event}
 use Rattle.store_model.specs.declared.event.Event.TheVariants as event
@@ -45,7 +45,7 @@ told_idle (Err why) = (λ e. absurd cc, λ e. absurd cc)
 pub replied_idle : {X : Type 0} (come : Result Progress Refusal) (answer : Reply) → answer ≡ reply_to come → (come ≡ Ok progress.Idle) ↔ X → (answer ≡ Stepped progress.Idle) ↔ X
 replied_idle come answer is exact = (λ e. exact.0 ((told_idle come).0 (sym is ∙ e)), λ x. is ∙ (told_idle come).1 (exact.1 x))
 
-pub non_step_idles : (e : Event) (answer : Reply) (m : Machine) (base : ℕ) (opened : List Element) (journal : Choice (Content TimedOp)) (hives : List HiveView) → is_not_step e ≡ true → IdlesExactly e answer m base opened journal hives
+pub non_step_idles : (e : Event) (answer : Reply) (m : Machine) (base : ℕ) (opened : List Element) (journal : Choice (Content TimedOp)) (hives : List HiveView) → is_request e ≡ true → IdlesExactly e answer m base opened journal hives
 non_step_idles (event.StartSession session) answer m base opened journal hives q = tt
 non_step_idles (event.EndSession session) answer m base opened journal hives q = tt
 non_step_idles (event.Read session hive path question) answer m base opened journal hives q = tt
@@ -59,6 +59,7 @@ non_step_idles (event.Close session tx) answer m base opened journal hives q = t
 non_step_idles (event.Outcome session tx) answer m base opened journal hives q = tt
 non_step_idles event.FlushAsk answer m base opened journal hives q = tt
 non_step_idles (event.Acked number) answer m base opened journal hives q = tt
+non_step_idles event.Fold answer m base opened journal hives q = absurd cc
 non_step_idles event.JournalStep answer m base opened journal hives q = absurd cc
 non_step_idles (event.FlusherStep hive) answer m base opened journal hives q = absurd cc
 non_step_idles event.TrimStep answer m base opened journal hives q = absurd cc

@@ -23,7 +23,8 @@ use Rattle.disk_model.specs.declared.progress.Progress.TheVariants as progress
 use Rattle.commit_journal.specs.Store.{room_of}
 use Rattle.commit_journal.specs.Handed.{IsHanded, IsShort}
 use Rattle.commit_journal.specs.OnDisk.{is_on}
-use Rattle.commit_journal.specs.Journals.{changes_of, choice_of, store_of, encodings_of, journal_view}
+use Rattle.engine.specs.EarlierChanges.{changes_before}
+use Rattle.commit_journal.specs.Journals.{choice_of, store_of, encodings_of, journal_view}
 use Rattle.commit_journal.specs.Journals as journals
 use Rattle.commit_journal.specs.declared.journal.Journal.{Journal}
 use Rattle.hive_flush.specs.HiveStates.{file_choice}
@@ -48,7 +49,7 @@ use Rattle.engine.proofs.Idling.{has_all}
 use Rattle.engine_invariant.specs.Engines.{NeedsNoDevice}
 use Rattle.engine_invariant.specs.Idle.{HasAll}
 use Rattle.std.proofs.lemmas.Option.{slice_get_within, slice_get-get_or}
-use Rattle.engine.proofs.Frames.{any_call, has_failed, works_else}
+use Rattle.engine.proofs.Frames.{any_call, has_failed, step_opens, works_else}
 
 -- The laws that are used
 
@@ -117,7 +118,7 @@ settled_within m t base opened old new hives result kept is = omega (arith, kept
 module _ {D : Type 0} (states : D → ℕ → ℕ → FileState) (clock failures : D → ℕ) (is_faithful : D → Type 0) (e : Event) (steps : (e ≡ event.JournalStep) ⊎ (e ≡ event.TrimStep)) where
   pub journal_goes_on : (s : Parts D) (new : Journal) (disk : D) (store : StoreView) (last_changes : LastChangePerHive) (come : Result Progress Refusal) (used : ℕ) → IsSound s → s.store.machine.faulted ≡ false
       → Step s.store.machine e (reply_to come) (after_step s.store.machine (choice_of s.journal) (choice_of new) come)
-      × IsConsistent (after_step s.store.machine (choice_of s.journal) (choice_of new) come) s.base (changes_of s.decoded.value) (choice_of new) (map view_of s.hives.items)
+      × IsConsistent (after_step s.store.machine (choice_of s.journal) (choice_of new) come) s.base (changes_before s.earlier) (choice_of new) (map view_of s.hives.items)
       → used ≡ 65 + room_of (choice_of s.journal).now.elements → store.machine ≡ after_mark_durable s.store.machine (choice_of new).now used come → store.retained ≡ s.store.retained → Rises
       → HasCounted s.last_changes.last.items s.store.machine.durable (take (store.machine.durable - s.store.machine.durable) (pending s.store.machine)) last_changes.last.items
       → store_of new ≡ store_of s.journal → (journals.IsBroken new → journals.IsBroken s.journal ⊎ (come ≡ Err DiskFault))
@@ -129,13 +130,13 @@ module _ {D : Type 0} (states : D → ℕ → ℕ → FileState) (clock failures
       record {
         step = subst (λ (m : Machine). Step s.store.machine e (reply_to come) m) (sym is) goes.0;
         sound = record {
-          holds = journal_sound s.store store s.base (changes_of s.decoded.value) s.journal new s.hives.items come sound.holds free goes.1 same broken is;
-          last_changes = naming_settles s.store.machine store.machine s.base (changes_of s.decoded.value) s.last_changes.last.items last_changes.last.items sound.holds.kept.begun sound.holds.kept.kept.within.opened sound.holds.kept.kept.within.known
+          holds = journal_sound s.store store s.base (changes_before s.earlier) s.journal new s.hives.items come sound.holds free goes.1 same broken is;
+          last_changes = naming_settles s.store.machine store.machine s.base (changes_before s.earlier) s.last_changes.last.items last_changes.last.items sound.holds.kept.begun sound.holds.kept.kept.within.opened sound.holds.kept.kept.within.known
               (subst (λ (m : Machine). s.store.machine.durable ≤ m.durable) (sym is) (rises s.store.machine (after_step s.store.machine (choice_of s.journal) (choice_of new) come) e (reply_to come) sound.holds.kept.kept goes.0))
-              (settled_within s.store.machine store.machine s.base (changes_of s.decoded.value) (choice_of s.journal) (choice_of new) (map view_of s.hives.items) come goes.1 is)
+              (settled_within s.store.machine store.machine s.base (changes_before s.earlier) (choice_of s.journal) (choice_of new) (map view_of s.hives.items) come goes.1 is)
               (ap (λ (m : Machine). m.accepted) is ∙ step_accepted s.store.machine (choice_of s.journal) (choice_of new) come) sound.last_changes counted.last;
           named = counted.many ∙ sound.named;
-          retained = hand_steps s.store store s.base (changes_of s.decoded.value) (numbered_changes s.opened) s.hives.items
+          retained = hand_steps s.store store s.base (changes_before s.earlier) (numbered_changes s.opened) s.hives.items
               (ap (λ (m : Machine). m.before) is ∙ step_before s.store.machine (choice_of s.journal) (choice_of new) come)
               (ap (λ (m : Machine). m.accepted) is ∙ step_accepted s.store.machine (choice_of s.journal) (choice_of new) come)
               (subst (λ (m : Machine). s.store.machine.durable ≤ m.durable) (sym is) (rises s.store.machine (after_step s.store.machine (choice_of s.journal) (choice_of new) come) e (reply_to come) sound.holds.kept.kept goes.0)) hand sound.retained;
@@ -147,7 +148,7 @@ module _ {D : Type 0} (states : D → ℕ → ℕ → FileState) (clock failures
         failed = has_failed come (failures s.disk) (failures disk) fails;
         works = works_else come (failures s.disk) (failures disk) fails;
         faithful = faithful;
-        life = (refl, refl);
+        life = (refl, sym (step_opens come (changes_before s.earlier) s.store.machine.accepted));
         journal_stays = λ nj nt. absurd (elim (steps) [ inl j ↦ nj j | inr t ↦ nt t ]);
         hives_stay = λ i no. refl;
       }

@@ -1,6 +1,8 @@
 mod Sound
 mod Namings
 mod RetainedChanges
+mod Folding
+mod Limits
 mod Idling
 mod Around
 mod Frames

@@ -1,5 +1,6 @@
 -- Lives continue from one another.
 use Rattle.std.proofs.Common.{◌≡◌, inl, inr, ℕ, ◌-◌, ◌≤◌, Bool, true, false, List, [], ◌∷◌, length, take, refl, sym, ◌∙◌, ap, subst, arith}
+use Rattle.refusals.specs.declared.limits.TheConstants.{MOST_HISTORY}
 use Rattle.reg_tree.specs.Maps.{TreeMap}
 use Rattle.reg_tree.specs.Sequences.{after_elements}
 use Rattle.reg_tree.specs.declared.element.Element.{Element}
@@ -10,14 +11,14 @@ use Rattle.disk_model.proofs.Leaves.{left_at_rest}
 use Rattle.disk_model.proofs.Sectors.{honest_at_rest}
 use Rattle.disk_model.specs.ReadOnly.{IsSyncedOrSame}
 use Rattle.commit_journal.specs.Store.{Store, IsStore}
-use Rattle.store_model.specs.Machine.{Machine, bounds_of, last_number, opened_machine}
+use Rattle.store_model.specs.Machine.{Machine, bounds_of, last_number, opened_machine, with_history}
 use Rattle.store_model.specs.Steps.{Run}
 use Rattle.store_model.specs.declared.event.Event.{Event}
 use Rattle.store_model.specs.declared.event.Reply.{Reply}
 use Rattle.engine_invariant.specs.Prefixes.{IsPrimaryOf, IsSafeAt, Recover, trees_after}
 use Rattle.engine_invariant.specs.Engines.{EngineView}
 use Rattle.engine_invariant.specs.Runs.{AnswersInTurn, IsBoundary, RunsSafely}
-use Rattle.engine_invariant.proofs.Bridge.{all_long}
+use Rattle.store_model.proofs.TreeCounts.{all_long}
 use Rattle.recovery.specs.Recovered.{IsRecovered, seen_in}
 use Rattle.engine.specs.Lives.{Life, Life.NeverOpened, Life.Opened, IsSafe, IsLife, IsNext, AreLives, OpensFrom, EachLifeContinues, FirstOpensAt, ReadsSafely, end_of, faulted_in}
 use Rattle.engine.proofs.OpenedStays.{run_stays}
@@ -119,7 +120,7 @@ module _ (one : OneRecovered) (store : Store) (is : IsStore store) where
       (λ files left. safe files (subst (λ n. LeavesHonest (IsPrimaryOf n) state files) (sym many) (before store.hives state end seen kept files (next_left store.hives (NeverOpened end) next on files (subst (λ n. LeavesHonest (IsPrimaryOf n) next files) many left)))))
       (next_seen store.hives (NeverOpened end) next (λ e. seen_after store.hives state end seen kept) on) rest
   go_on m state (Opened number trees last end ∷ lives) many safe seen ((found, come, left, reads), (next, on, rest)) =
-      let long : length last.opened ≡ store.hives = run_stays (record (opened_machine (bounds_of trees) trees number [] 0) { room = come.room; faulted = come.broken }) last come.events come.replies come.run ∙ found.many in (
+      let long : length last.opened ≡ store.hives = run_stays (with_history come.limit (record (opened_machine (bounds_of trees) trees number [] 0) { room = come.room; faulted = come.broken })) last come.events come.replies come.run ∙ found.many in (
         opens_from m state number trees many safe seen found,
         go_on last next lives long (λ files there. left files (left_of (length last.opened) (Opened number trees last end) next long on files there))
             (next_seen store.hives (Opened number trees last end) next (λ e. subst (λ n. ReadsSafely n end) long (reads e)) on) rest,
@@ -134,7 +135,7 @@ pub repaired : (store : Store) (state end : ℕ → FileState) (number room : �
     → (failed ≡ false → ReadsSafely store.hives end) → IsLife store state (Opened number trees (record (opened_machine (bounds_of trees) trees number [] 0) { room = room; faulted = failed }) end)
 repaired store state end number room failed trees found stays reads = (
   found,
-  record { room = room; broken = failed; events = []; replies = []; run = refl },
+  record { room = room; limit = MOST_HISTORY; broken = failed; events = []; replies = []; run = refl },
   λ files left.
       let there = stays files (subst (λ n. LeavesHonest (IsPrimaryOf n) end files) found.many left) in
       (number, omega arith, omega arith, subst (λ (l : List Element). Recover store (length trees) files number (after_elements trees l)) (sym (none_taken number)) (subst (λ k. Recover store k files number trees) (sym there.many) there.recovers)),
@@ -165,10 +166,10 @@ EachMoment = (store : Store) (states : ℕ → ℕ → FileState) (old new : Eng
 abbrev pub AreRuns : Type 0
 AreRuns = (old new : EngineView) (events : List Event) (replies : List Reply) → AnswersInTurn old events replies new → Run old.machine events replies new.machine × (length replies ≡ length events)
 
-pub ran : EachMoment → AreRuns → (store : Store) (state : ℕ → FileState) (number room : ℕ) (trees : List TreeMap) (states : ℕ → ℕ → FileState) (moment : ℕ) (events : List Event) (replies : List Reply) (old new : EngineView) → IsRecovered (seen_in state) store number trees
-    → old.machine ≡ record (opened_machine (bounds_of trees) trees number [] 0) { room = room } → RunsSafely (IsSafeAt store states) old events replies new → old.clock ≤ moment → moment ≤ new.clock
+pub ran : EachMoment → AreRuns → (store : Store) (state : ℕ → FileState) (number room limit : ℕ) (trees : List TreeMap) (states : ℕ → ℕ → FileState) (moment : ℕ) (events : List Event) (replies : List Reply) (old new : EngineView) → IsRecovered (seen_in state) store number trees
+    → old.machine ≡ with_history limit (record (opened_machine (bounds_of trees) trees number [] 0) { room = room }) → RunsSafely (IsSafeAt store states) old events replies new → old.clock ≤ moment → moment ≤ new.clock
     → IsBoundary (λ at machine. (machine.faulted ≡ false → ReadsSafely (length machine.opened) (states at)) → IsLife store state (Opened number trees machine (states at))) old events replies new moment
-ran each runs store state number room trees states moment events replies old new found begins run low high =
+ran each runs store state number room limit trees states moment events replies old new found begins run low high =
     let b = each store states old new events replies run moment low high in
     record {
       answered = b.answered;
@@ -181,6 +182,7 @@ ran each runs store state number room trees states moment events replies old new
         found,
         record {
           room = room;
+          limit = limit;
           broken = false;
           events = take b.answered events;
           replies = take b.answered replies;

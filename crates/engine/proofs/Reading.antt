@@ -1,6 +1,5 @@
 -- What a read gives of the files, as long as the device hasn't failed, or if no flush is under way.
-use Rattle.std.proofs.Common.{◌≡◌, ◌⊎◌, inl, inr, ℕ, true, false, List, length, take, refl, sym, ◌∙◌, ap, subst, None, Some, slice_get}
-use Rattle.std.proofs.lemmas.Bool.{true≢false}
+use Rattle.std.proofs.Common.{◌≡◌, ◌⊎◌, inl, inr, ℕ, List, length, take, sym, ap, None, Some, slice_get}
 use Rattle.std.proofs.lemmas.Option.{none-some}
 use Rattle.reg_tree.specs.Maps.{TreeMap}
 use Rattle.disk_model.specs.FileState.{FileState, IsSound, at_rest}

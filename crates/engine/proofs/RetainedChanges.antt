@@ -2,7 +2,8 @@
 use Rattle.std.proofs.Common.{◌≡◌, ◌⊎◌, inl, inr, ℕ, ◌+◌, ◌-◌, ◌≤◌, max, List, [], ◌++◌, length, get_or, take, drop, refl, sym, ◌∙◌, ap, subst, arith, Some, Result, Ok, Err, slice_get}
 use Rattle.std.specs.Prelude.{slice_set, OnOk, OnErr}
 use Rattle.std.specs.List.{filter}
-use Rattle.std.proofs.lemmas.Option.{slice_get_within, slice_get-get_or}
+use Rattle.std.proofs.lemmas.List.{get_or_past, length-map}
+use Rattle.std.proofs.lemmas.Option.{slice_get_cases, slice_get_within, slice_get-get_or}
 use Rattle.reg_tree.specs.declared.element.Element.{Element}
 use Rattle.crash_model.specs.Changes as law
 use Rattle.crash_model.specs.Changes.{ops_on}
@@ -33,16 +34,24 @@ use Rattle.engine.specs.RetainedChanges.{RetainsWhatHivesLack, HaveUpTo}
 use Rattle.engine.specs.LastChangePerHive.{AreLastNaming}
 use Rattle.engine.proofs.Namings.{known_stays}
 
+-- no hive's own number is above one that no hive's number is above
+own_below : (hives : List HiveFile) (most i : ℕ) → ((hive : HiveFile) → slice_get hives i ≡ Some hive → (file_choice hive).now.1 ≤ most) → get_or (own_numbers hives) i 0 ≤ most
+own_below hives most i below = elim ((slice_get_cases hives i).1) [
+  | inl there ↦ omega (arith, own_number hives i there.0 there.2, below there.0 there.2)
+  | inr past ↦ omega (arith, get_or_past (own_numbers hives) i 0 (omega (arith, past.0, length-map hives (λ (hive : HiveFile). (file_choice hive).now.1))))
+]
+
 -- an opening: the changes that it kept are retained
 pub hand_opens : (store : StoreView) (base : ℕ) (decoded : List Element) (kept : List NumberedChange) (hives : List HiveFile) → store.machine.before ≡ base + length decoded → store.machine.durable ≡ store.machine.before → store.retained ≡ store.machine.before
-    → opening.RetainsWhatHivesLack base decoded kept hives → ((i : ℕ) (hive : HiveFile) → slice_get hives i ≡ Some hive → (file_choice hive).now.1 ≡ (memory_of hive).1) → RetainsWhatHivesLack store base decoded kept hives
+    → opening.RetainsWhatHivesLack base decoded kept hives → ((i : ℕ) (hive : HiveFile) → slice_get hives i ≡ Some hive → ((file_choice hive).now.1 ≡ (memory_of hive).1) × ((file_choice hive).now.1 ≤ store.machine.before)) → RetainsWhatHivesLack store base decoded kept hives
 hand_opens store base decoded kept hives begun durable hand found rest = record {
   gone = base;
   own = own_numbers hives;
   high = omega (arith, begun, durable);
   opened_are = found ∙ sym (above_all (is_lacked (own_numbers hives)) base base decoded (omega arith));
   accepted_are = omega (arith, hand, begun);
-  since = λ i hive is. omega (arith, own_number hives i hive is, rest i hive is);
+  early = λ i. own_below hives store.machine.before i (λ hive is. (rest i hive is).1);
+  since = λ i hive is. omega (arith, own_number hives i hive is, (rest i hive is).0);
   lacked = λ i hive is. ap (ops_on i) (seg_none (known_elements (life_of store.machine base decoded)) ((memory_of hive).1 - base) (base - base) (omega arith));
 }
 
@@ -55,6 +64,7 @@ hand_stays s t base decoded opened hives before up hand same a = record {
   high = omega (arith, a.high, up);
   opened_are = a.opened_are;
   accepted_are = omega (arith, a.accepted_are, hand, before);
+  early = λ i. omega (arith, a.early i, before);
   since = a.since;
   lacked = λ i hive is. ap (λ (es : List (law.Element TimedOp)). ops_on i (drop ((memory_of hive).1 - base) es)) (same a.gone a.high) ∙ a.lacked i hive is;
 }
@@ -85,6 +95,7 @@ hand_takes s base decoded opened hives k old new is more a = record {
   high = a.high;
   opened_are = a.opened_are;
   accepted_are = a.accepted_are;
+  early = a.early;
   since = each_hive hives k old new is (λ i hive. get_or a.own i 0 ≤ (memory_of hive).1) (omega (arith, a.since k old is, risen more)) (λ j h ne at. a.since j h at);
   lacked = each_hive hives k old new is (λ i hive. ops_in (life_of s.machine base decoded) i (memory_of hive).1 a.gone ≡ []) (kept more) (λ j h ne at. a.lacked j h at);
 }
@@ -111,6 +122,7 @@ hand_lets_go s t base decoded old new hives numbers number same hand is le many 
   high = omega (arith, a.high, le, ap (λ (m : Machine). m.durable) same);
   opened_are = is ascending ∙ ap (above_number number) a.opened_are ∙ above_above number a.gone (filter (is_lacked a.own) (numbered base decoded));
   accepted_are = omega (arith, hand, a.accepted_are, ap (λ (m : Machine). m.before) same);
+  early = λ i. omega (arith, a.early i, ap (λ (m : Machine). m.before) same);
   since = a.since;
   lacked = λ i hive there. subst (λ (m : Machine). ops_in (life_of m base decoded) i (memory_of hive).1 (max a.gone number) ≡ []) (sym same) (none i hive there (le_or_le a.gone number));
 }

@@ -10,9 +10,10 @@ use Rattle.store_model.specs.declared.event.Reply.{Reply}
 use Rattle.disk_model.specs.declared.progress.Progress.TheVariants.{Idle, More}
 use Rattle.store_model.specs.declared.event.Reply.TheVariants.{Refused, Stepped}
 use Rattle.crash_model.specs.Promises.{BeginsTrim}
-use Rattle.commit_journal.specs.Journals.{changes_of, choice_of, steps_left, store_of}
+use Rattle.engine.specs.EarlierChanges.{changes_before}
+use Rattle.commit_journal.specs.Journals.{choice_of, steps_left, store_of}
 use Rattle.hive_flush.specs.declared.hive.HiveFile.{HiveFile}
-use Rattle.engine_invariant.specs.Engines.{EngineView, NeedsNoDevice}
+use Rattle.engine_invariant.specs.Engines.{EngineView, NeedsNoDevice, opened_after}
 use Rattle.engine_invariant.specs.Prefixes.{AnyFile, AreOnDisk, view_of}
 use Rattle.engine_invariant.specs.Progress.{FlushesOn, flush_of, HasPending, HasTrimmed, IsNotRefused, IsTrimming, NearsDurable}
 use Rattle.engine.specs.Parts.{IsSound}
@@ -23,7 +24,7 @@ abbrev pub parts_view : {D : Type 0} → (D → ℕ) → (D → ℕ) → Parts D
 parts_view clock failures parts = record {
   machine = parts.store.machine;
   base = parts.base;
-  opened = changes_of parts.decoded.value;
+  opened = changes_before parts.earlier;
   journal = choice_of parts.journal;
   hives = map view_of parts.hives.items;
   left = steps_left parts.journal;
@@ -34,8 +35,8 @@ parts_view clock failures parts = record {
 
 -- Over a disk of these states, this clock and these failures, the parts answer an event. It is a step of the machine,
 -- with at most one device call. If the parts were sound, and on the disk as they say, and the disk is faithful, they
--- stay so. The files are of the same store. The device has failed if the answer says so, and at no other answer. What
--- the journal decoded to at the opening stays. The journal changes only in a step of it or of a trim, and a hive only
+-- stay so. The files are of the same store. The device has failed if the answer says so, and at no other answer. The
+-- changes before the history stay, and a fold puts the history behind them. The journal changes only in a step of it or of a trim, and a hive only
 -- in a step of its flush. The disk stays if the answer needs no device.
 pub record PartsStep {D : Type 0} (states : D → ℕ → ℕ → FileState) (clock failures : D → ℕ) (is_faithful : D → Type 0)
     (event : Event) (answer : Reply) (old new : Parts D) : Type 0 where
@@ -49,7 +50,7 @@ pub record PartsStep {D : Type 0} (states : D → ℕ → ℕ → FileState) (cl
   pub failed : answer ≡ Refused DiskFault → failures old.disk < failures new.disk
   pub works : ¬ (answer ≡ Refused DiskFault) → failures new.disk ≡ failures old.disk
   pub faithful : is_faithful new.disk → is_faithful old.disk
-  pub life : (new.base ≡ old.base) × (changes_of new.decoded.value ≡ changes_of old.decoded.value)
+  pub life : (new.base ≡ old.base) × (changes_before new.earlier ≡ opened_after answer (changes_before old.earlier) old.store.machine.accepted)
   pub journal_stays : ¬ (event ≡ events.JournalStep) → ¬ (event ≡ events.TrimStep) → new.journal ≡ old.journal
   pub hives_stay : (i : ℕ) → ¬ (event ≡ events.FlusherStep i) → slice_get new.hives.items i ≡ slice_get old.hives.items i
 

@@ -4,7 +4,7 @@ use Rattle.reg_tree.specs.Maps.{TreeMap}
 use Rattle.disk_model.specs.FileState.{FileState, at_rest}
 use Rattle.disk_model.specs.Crash.{LeavesHonest}
 use Rattle.disk_model.specs.ReadOnly.{IsSyncedOrSame}
-use Rattle.store_model.specs.Machine.{Machine, bounds_of, last_number, opened_machine}
+use Rattle.store_model.specs.Machine.{Machine, bounds_of, last_number, opened_machine, with_history}
 use Rattle.store_model.specs.Steps.{Run}
 use Rattle.store_model.specs.declared.event.Event.{Event}
 use Rattle.store_model.specs.declared.event.Reply.{Reply}
@@ -27,14 +27,15 @@ abbrev pub faulted_in : Life → Bool
 faulted_in (NeverOpened end) = false
 faulted_in (Opened number trees last end) = last.faulted
 
--- A machine that was opened at a number and trees, with some room, and faulted if the device failed in a repair, has
--- reached this one by events.
+-- A machine that was opened at a number and trees, with some room and some limit of its history, and faulted if the
+-- device failed in a repair, has reached this one by events.
 pub record ReachedFromOpening (number : ℕ) (trees : List TreeMap) (last : Machine) : Type 0 where
   pub room : ℕ
+  pub limit : ℕ
   pub broken : Bool
   pub events : List Event
   pub replies : List Reply
-  pub run : Run (record (opened_machine (bounds_of trees) trees number [] 0) { room = room; faulted = broken }) events replies last
+  pub run : Run (with_history limit (record (opened_machine (bounds_of trees) trees number [] 0) { room = room; faulted = broken })) events replies last
 
 -- whatever a crash leaves of these files, with honest first sectors of the store's primary files, is a prefix of a
 -- machine's changes

@@ -10,7 +10,8 @@ use Rattle.commit_journal.specs.Store.{room_of}
 use Rattle.engine_invariant.specs.Answers.{refused_by}
 use Rattle.store_model.specs.Machine.{Machine}
 use Rattle.transactions.specs.Stores.{StoreView}
-use Rattle.commit_journal.specs.Journals.{changes_of, choice_of, store_of}
+use Rattle.engine.specs.EarlierChanges.{changes_before}
+use Rattle.commit_journal.specs.Journals.{choice_of, store_of}
 use Rattle.commit_journal.specs.Journals as journals
 use Rattle.commit_journal.specs.declared.journal.Journal.{Journal}
 use Rattle.hive_flush.specs.HiveStates.{HiveIsRepaired, IsBroken}
@@ -35,10 +36,10 @@ pub record AreSound (store : StoreView) (base : ℕ) (opened : List Element) (jo
 -- An engine's parts are sound. For each hive it is known which durable change names it last. Each change that is
 -- pending or that a hive lacks is retained.
 pub record IsSound {D : Type 0} (parts : Parts D) : Type 0 where
-  pub holds : AreSound parts.store parts.base (changes_of parts.decoded.value) parts.journal parts.hives.items
-  pub last_changes : AreLastNaming parts.store.machine parts.base (changes_of parts.decoded.value) parts.last_changes.last.items
+  pub holds : AreSound parts.store parts.base (changes_before parts.earlier) parts.journal parts.hives.items
+  pub last_changes : AreLastNaming parts.store.machine parts.base (changes_before parts.earlier) parts.last_changes.last.items
   pub named : length parts.last_changes.last.items ≡ length parts.hives.items
-  pub retained : RetainsWhatHivesLack parts.store parts.base (changes_of parts.decoded.value) (numbered_changes parts.opened) parts.hives.items
+  pub retained : RetainsWhatHivesLack parts.store parts.base (changes_before parts.earlier) (numbered_changes parts.opened) parts.hives.items
 
 -- The machine after a step of the journal or of a trim, after which the journal decodes to `now`, and before which it
 -- had used `used` bytes of room. Once the step is done, what the journal has is durable, and the room that it no longer

@@ -1,11 +1,13 @@
 //! The engine as its callers see it: its type keeps the invariant, so no call asks for it.
 ghost use Rattle.std.specs.Prelude.{◌≡◌, ◌⊎◌, ◌↔◌, ◌+◌, ◌<◌, ◌≤◌, ◌^◌, [], ℕ, false, true, IfErr, IfNone, IfOk, IfSome, OnErr, OnOk, None, Some, is_some, length, map, replicate, slice_get};
 ghost use Rattle.refusals.specs.declared.refusal.Refusal.TheVariants.{NoMemory};
+ghost use Rattle.refusals.specs.declared.limits.TheConstants.{MOST_HISTORY};
 ghost use Rattle.disk_model.specs.Call.{OneCall};
 ghost use Rattle.disk_model.specs.Crash.{LeavesHonest};
 ghost use Rattle.store_model.specs.Invariant.{IsWithin};
-ghost use Rattle.store_model.specs.Machine.{bounds_of, last_number, opened_machine, trees_now};
+ghost use Rattle.store_model.specs.Machine.{bounds_of, last_number, opened_machine, trees_now, with_history};
 ghost use Rattle.commit_journal.specs.Store.{room_of};
+ghost use Rattle.engine.specs.EarlierChanges.{changes_before};
 ghost use Rattle.commit_journal.specs.Journals.{changes_of, choice_of};
 ghost use Rattle.commit_journal.specs.Journals as journals;
 ghost use Rattle.recovery.specs.Shown.{StoreIsRepaired, store_of};
@@ -24,6 +26,7 @@ ghost use Rattle.engine.specs.Work.{AreFlushed, IsNextAround, IsReadable};
 ghost use Rattle.transactions.specs.Prepared.{Predicts, AcceptsJust, change_and_trees};
 ghost use Rattle.std.specs.Option.{option_map};
 
+use crate::earlier_changes::EarlierChanges;
 use crate::parts::Parts;
 use disk_model::Disk;
 use recovery::{Opened, RecoveredStore};
@@ -31,7 +34,6 @@ use refusals::Refusal;
 use reg_tree::Trees;
 use std::alloc::{AllocError, Global};
 use std::marker::Model;
-use std::snapshot::Snapshot;
 use store_model::{Event, Reply};
 use transactions::{Next, Prepared, Store};
 
@@ -61,6 +63,7 @@ impl<D: Disk> Model for Engine<D> {
     ghost use Rattle.std.specs.Prelude.{map, IfSome};
     ghost use Rattle.std.specs.Option.{option_map};
     ghost use Rattle.transactions.specs.Prepared.{IsPrepared};
+    ghost use Rattle.engine.specs.EarlierChanges.{changes_before};
     ghost use Rattle.commit_journal.specs.Journals.{changes_of, choice_of, steps_left, store_of};
     ghost use Rattle.engine_invariant.specs.Prefixes.{AnyFile, AreOnDisk, view_of};
     ghost use Rattle.engine_invariant.specs.Progress.{flush_of};
@@ -76,7 +79,7 @@ impl<D: Disk> Model for Engine<D> {
       disk = inside.parts.disk;
       store = store_of inside.parts.journal;
       base = inside.parts.base;
-      opened = changes_of inside.parts.decoded.value;
+      opened = changes_before inside.parts.earlier;
       journal = choice_of inside.parts.journal;
       hives = map view_of inside.parts.hives.items;
       left = steps_left inside.parts.journal;
@@ -94,7 +97,7 @@ impl<D: Disk> Model for Engine<D> {
 }
 
 impl<D: Disk> Engine<D> {
-    /// An engine that continues from an opened store, of which no repair is left.
+    /// An engine that continues from an opened store, of which no repair is left. Its history may have 1,048,576 changes.
     ///
     /// Refused with `NoMemory` alone; the opened store is handed back then.
     pub fn new(alloc: Global, opened: Opened<D>) -> Result<Engine<D>, (Refusal, Opened<D>)>
@@ -117,14 +120,14 @@ impl<D: Disk> Engine<D> {
         let Ok(store) = begun(alloc, &found) else {
             return Err((Refusal::NoMemory, Opened::from_parts(disk, found)));
         };
-        let decoded = Snapshot::of(&found.journal);
+        let earlier = EarlierChanges::of(&found.journal);
         let parts = Parts {
             alloc,
             disk,
             journal: found.journal,
             hives: found.hives,
             store,
-            decoded,
+            earlier,
             base: found.base,
             opened: found.opened,
             last_changes: found.last_changes,
@@ -133,6 +136,63 @@ impl<D: Disk> Engine<D> {
             parts,
             prepared: None,
         })
+    }
+
+    /// The same if the history may have only this many changes, 1 to 1,048,576: a further one is refused with
+    /// `HistoryFull` until the history is folded.
+    pub fn with_history(
+        alloc: Global,
+        opened: Opened<D>,
+        limit: u64,
+    ) -> Result<Engine<D>, (Refusal, Opened<D>)>
+        requires whole { StoreIsRepaired opened }
+        requires some { 1 ≤ limit }
+        requires most { limit ≤ MOST_HISTORY }
+        ensures machine { IfOk result (λ engine. engine.machine ≡ with_history limit
+            (record (opened_machine (bounds_of opened.found.trees) opened.found.trees
+            opened.found.number [] 0)
+            { room = 65 + room_of (choice_of opened.found.journal).now.elements })) }
+        ensures disk { IfOk result (λ engine. engine.disk ≡ opened.disk) }
+        ensures store { IfOk result (λ engine. engine.store ≡ store_of opened) }
+        ensures prepared { IfOk result (λ engine. engine.prepared ≡ None) }
+        ensures continues { IfOk result (λ engine. (engine.base ≡ opened.found.base)
+            × (engine.opened ≡ changes_of opened.found.journal)
+            × (engine.journal ≡ choice_of opened.found.journal)
+            × (engine.hives ≡ map view_of opened.found.hives.items)) }
+        ensures refused { IfErr result (λ back. (back.0 ≡ NoMemory) × (back.1 ≡ opened)) }
+    {
+        let mut engine = Engine::new(alloc, opened)?;
+        engine.limit_history(limit);
+        Ok(engine)
+    }
+
+    /// Sets how many changes the history may have: 1 to 1,048,576, and not fewer than it has. What was prepared is
+    /// dropped.
+    pub fn limit_history(&mut self, limit: u64)
+        requires some { 1 ≤ limit }
+        requires most { limit ≤ MOST_HISTORY }
+        requires there { length self.old.machine.accepted ≤ limit }
+        ensures { self.new ≡ record self.old {
+          machine = with_history limit self.old.machine;
+          prepared = None;
+        } }
+    {
+        self.prepared = None;
+        self.parts.store.limit_history(limit);
+    }
+
+    /// How many changes the history may have.
+    pub fn history_limit(&self) -> u64
+        ensures { result ≡ self.now.machine.bounds.changes }
+    {
+        self.parts.store.history_limit()
+    }
+
+    /// How many changes the history has: those accepted since the opening or the last fold.
+    pub fn history_len(&self) -> u64
+        ensures { result ≡ length self.now.machine.accepted }
+    {
+        self.parts.store.history_len()
     }
 
     /// One event: a step of the machine, with at most one device call.

@@ -4,7 +4,7 @@ ghost use Rattle.refusals.specs.declared.refusal.Refusal.TheVariants.{NoMemory};
 ghost use Rattle.disk_model.specs.FileState.{FileState};
 ghost use Rattle.hive_flush.specs.HiveStates.{file_choice, memory_of};
 ghost use Rattle.hive_flush.specs.declared.hive.HiveFile.{HiveFile};
-ghost use Rattle.commit_journal.specs.Journals.{changes_of};
+ghost use Rattle.engine.specs.EarlierChanges.{changes_before};
 ghost use Rattle.engine_invariant.specs.Answers.{reply_to};
 ghost use Rattle.engine_invariant.specs.Idle.{HasAll, HiveIsFlushed};
 ghost use Rattle.engine_invariant.specs.Prefixes.{AreOnDisk, view_of};
@@ -29,7 +29,7 @@ impl<D: Disk> Parts<D> {
             (Event.FlusherStep hive) (reply_to result) self.old self.new }
         ensures advances { StepAdvances (Event.FlusherStep hive) (reply_to result) self.old self.new }
         ensures idle { self.old.store.machine.faulted ≡ false → (result ≡ Ok Progress.Idle) ↔
-            HiveIsFlushed self.old.store.machine self.old.base (changes_of self.old.decoded.value)
+            HiveIsFlushed self.old.store.machine self.old.base (changes_before self.old.earlier)
             (map view_of self.old.hives.items) hive }
     {
         self.check_not_faulted()?;
@@ -55,7 +55,7 @@ impl<D: Disk> Parts<D> {
         ensures advances { StepAdvances (Event.FlusherStep place) (reply_to result) self.old self.new }
         ensures idle { (hive : HiveFile) → slice_get self.old.hives.items place ≡ Some hive →
             (result ≡ Ok Progress.Idle) ↔ HasAll self.old.store.machine self.old.base
-            (changes_of self.old.decoded.value) place (view_of hive) }
+            (changes_before self.old.earlier) place (view_of hive) }
     {
         if self.hives[place].applied() >= self.last_changes.last[place] {
             return Ok(Progress::Idle);

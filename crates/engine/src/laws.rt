@@ -4,7 +4,7 @@ ghost use Rattle.reg_tree.specs.Maps.{TreeMap};
 ghost use Rattle.disk_model.specs.FileState.{FileState};
 ghost use Rattle.disk_model.specs.Crash.{LeavesHonest};
 ghost use Rattle.commit_journal.specs.Store.{Store, IsStore};
-ghost use Rattle.store_model.specs.Machine.{Machine, bounds_of, opened_machine};
+ghost use Rattle.store_model.specs.Machine.{Machine, bounds_of, opened_machine, with_history};
 ghost use Rattle.store_model.specs.declared.event.Event.{Event};
 ghost use Rattle.store_model.specs.declared.event.Reply.{Reply};
 ghost use Rattle.engine_invariant.specs.Engines.{EngineView};
@@ -19,7 +19,6 @@ ghost use Rattle.engine.specs.Lives.{AreLives, EachLifeContinues, FirstOpensAt, 
 ///
 /// The lives begin with a machine. Whatever a crash leaves is a prefix of its changes, and what a read gives is too,
 /// such as of a created store.
-/// made.
 pub fn lives_go_on()
     ensures { (store : Store) (machine : Machine) (state : ℕ → FileState) (lives : List Life) →
         IsStore store → length machine.opened ≡ store.hives → IsSafe store machine state →
@@ -44,7 +43,7 @@ pub fn made_stores_open_as_made()
 ///
 /// - `repairs`: a life that has opened and is being repaired, as `Opened::repair_step` and
 ///   `Opened::keeps_what_was_found` promise.
-/// - `runs`: a life whose engine runs. `Engine::run` promises at each moment what a crash leaves, and
+/// - `runs`: a life whose engine runs, whatever the limit of its history. `Engine::run` promises at each moment what a crash leaves, and
 ///   [`Engine::reads_a_prefix`](crate::Engine::reads_a_prefix) what a read gives then.
 ///
 /// For a life that hasn't opened, `open` itself promises it.
@@ -58,10 +57,12 @@ pub fn calls_are_lives()
           room = room;
           faulted = failed;
         }) end) }
-    ensures runs { (store : Store) (state : ℕ → FileState) (number room : ℕ) (trees : List TreeMap)
+    ensures runs { (store : Store) (state : ℕ → FileState) (number room limit : ℕ)
+        (trees : List TreeMap)
         (states : ℕ → ℕ → FileState) (moment : ℕ) (events : List Event) (replies : List Reply)
         (old new : EngineView) → IsRecovered (seen_in state) store number trees →
-        old.machine ≡ record (opened_machine (bounds_of trees) trees number [] 0) { room = room } →
+        old.machine ≡ with_history limit
+        (record (opened_machine (bounds_of trees) trees number [] 0) { room = room }) →
         RunsSafely (IsSafeAt store states) old events replies new →
         old.clock ≤ moment → moment ≤ new.clock → IsBoundary
         (λ at machine. (machine.faulted ≡ false → ReadsSafely (length machine.opened) (states at)) →

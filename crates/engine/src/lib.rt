@@ -5,8 +5,10 @@
 //! change. The contracts of the two say so of each moment, for every disk.
 #![tactic(auto)]
 
+mod earlier_changes;
 mod engine;
 mod flushes;
+mod folds;
 pub mod laws;
 mod parts;
 mod run;

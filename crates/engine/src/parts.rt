@@ -1,11 +1,11 @@
 //! The parts of an engine.
 ghost use Rattle.std.specs.Prelude.{◌≡◌};
 
+use crate::earlier_changes::EarlierChanges;
 use commit_journal::{Journal, LastChangePerHive};
 use hive_flush::HiveFile;
 use recovery::RetainedChanges;
 use std::alloc::Global;
-use std::snapshot::Snapshot;
 use transactions::Store;
 
 /// The parts of an engine.
@@ -21,9 +21,8 @@ pub(crate) struct Parts<D> {
     pub hives: Vec<HiveFile>,
     /// What answers each event that makes no step.
     pub store: Store,
-    /// The journal as it was opened, with the changes that it decoded to, numbered from `base` + 1 on. Contracts alone
-    /// know it.
-    pub decoded: Snapshot<Journal>,
+    /// The changes before the store's history, numbered from `base` + 1 on. Contracts alone know them.
+    pub earlier: EarlierChanges,
     /// The number before the first of these changes.
     pub base: u64,
     /// Those of these changes that are retained.

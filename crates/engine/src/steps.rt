@@ -3,10 +3,11 @@ ghost use Rattle.std.specs.Prelude.{◌≡◌, ◌↔◌, ◌-◌, ◌<◌, ◌�
 ghost use Rattle.refusals.specs.declared.refusal.Refusal.TheVariants.{Faulted, NoMemory};
 ghost use Rattle.crash_model.specs.Promises.{top};
 ghost use Rattle.store_model.specs.Machine.{last_number, pending};
-ghost use Rattle.store_model.specs.Steps.{Step, is_not_step, may_accept};
+ghost use Rattle.store_model.specs.Steps.{Step, is_request, may_accept};
 ghost use Rattle.store_model.specs.declared.event.Reply.TheVariants as reply;
 ghost use Rattle.transactions.specs.Prepared.{Predicts, IsPrepared, AcceptsJust, change_to_accept};
-ghost use Rattle.commit_journal.specs.Journals.{changes_of, choice_of};
+ghost use Rattle.engine.specs.EarlierChanges.{changes_before};
+ghost use Rattle.commit_journal.specs.Journals.{choice_of};
 ghost use Rattle.hive_flush.specs.HiveStates.{file_choice};
 ghost use Rattle.disk_model.specs.declared.progress.Progress.TheVariants as Progress;
 ghost use Rattle.hive_flush.specs.declared.hive.HiveFile.{HiveFile};
@@ -33,26 +34,27 @@ impl<D: Disk> Parts<D> {
             event result self.old self.new }
         ensures advances { StepAdvances event result self.old self.new }
         ensures idle { self.old.store.machine.faulted ≡ false → IdlesExactly event result
-            self.old.store.machine self.old.base (changes_of self.old.decoded.value)
+            self.old.store.machine self.old.base (changes_before self.old.earlier)
             (choice_of self.old.journal) (map view_of self.old.hives.items) }
     {
         match event {
             Event::JournalStep => reply_of_step(self.journal_step()),
             Event::FlusherStep { hive } => reply_of_step(self.flusher_step(hive)),
             Event::TrimStep => reply_of_step(self.trim_step()),
-            non_step => self.store_event(non_step),
+            Event::Fold => self.fold(),
+            request => self.store_event(request),
         }
     }
 
-    // an event that makes no step
+    // an event that neither makes a step nor folds the history
     fn store_event(&mut self, event: Event) -> Reply
-        requires non_step { is_not_step event ≡ true }
+        requires is_request { is_request event ≡ true }
         requires sound { IsSound self.old }
         ensures continues { PartsStep D.state_at D.clock D.failures D.faithful
             event result self.old self.new }
         ensures advances { StepAdvances event result self.old self.new }
         ensures idle { IdlesExactly event result
-            self.old.store.machine self.old.base (changes_of self.old.decoded.value)
+            self.old.store.machine self.old.base (changes_before self.old.earlier)
             (choice_of self.old.journal) (map view_of self.old.hives.items) }
     {
         engine_invariant::laws::events_keep();
@@ -133,7 +135,7 @@ impl<D: Disk> Parts<D> {
             Event.TrimStep (reply_to result) self.old self.new }
         ensures advances { StepAdvances Event.TrimStep (reply_to result) self.old self.new }
         ensures idle { self.old.store.machine.faulted ≡ false → (result ≡ Ok Progress.Idle) ↔
-            IsTrimmed self.old.store.machine self.old.base (changes_of self.old.decoded.value)
+            IsTrimmed self.old.store.machine self.old.base (changes_before self.old.earlier)
             (choice_of self.old.journal) (map view_of self.old.hives.items) }
     {
         self.check_not_faulted()?;
@@ -154,10 +156,10 @@ impl<D: Disk> Parts<D> {
         requires sound { IsSound self.now }
         requires works { self.now.store.machine.faulted ≡ false }
         ensures yes { result ≡ true → MayTrim self.now.store.machine self.now.base
-            (changes_of self.now.decoded.value) (choice_of self.now.journal)
+            (changes_before self.now.earlier) (choice_of self.now.journal)
             (map view_of self.now.hives.items) }
         ensures no { result ≡ false → IsTrimmed self.now.store.machine self.now.base
-            (changes_of self.now.decoded.value) (choice_of self.now.journal)
+            (changes_before self.now.earlier) (choice_of self.now.journal)
             (map view_of self.now.hives.items) }
     {
         if self.journal.is_trimming() {

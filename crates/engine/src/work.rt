@@ -1,6 +1,6 @@
 //! What an engine has to do: which of its steps aren't idle. No question takes memory.
 ghost use Rattle.std.specs.Prelude.{◌≡◌, ◌↔◌, ℕ, ◌<◌, ◌≤◌, false, true, length, map, IfNone, IfSome};
-ghost use Rattle.commit_journal.specs.Journals.{changes_of};
+ghost use Rattle.engine.specs.EarlierChanges.{changes_before};
 ghost use Rattle.engine_invariant.specs.Idle.{HiveIsFlushed};
 ghost use Rattle.engine_invariant.specs.Prefixes.{view_of};
 ghost use Rattle.engine_invariant.specs.Progress.{HasPending};
@@ -21,9 +21,9 @@ impl<D> Parts<D> {
     pub fn hive_with_work(&self, after: u8) -> Option<u8>
         requires sound { IsSound self.now }
         ensures some { IfSome result (λ hive. IsNextAround self.now.store.machine self.now.base
-            (changes_of self.now.decoded.value) (map view_of self.now.hives.items) after hive) }
+            (changes_before self.now.earlier) (map view_of self.now.hives.items) after hive) }
         ensures none { IfNone result (AreFlushed self.now.store.machine self.now.base
-            (changes_of self.now.decoded.value) (map view_of self.now.hives.items)
+            (changes_before self.now.earlier) (map view_of self.now.hives.items)
             0 (length (map view_of self.now.hives.items))) }
     {
         let count = self.journal.hives();
@@ -40,11 +40,11 @@ impl<D> Parts<D> {
         requires there { to ≤ length self.now.hives.items }
         ensures some { IfSome result (λ hive. (from ≤ hive) × (hive < to)
             × ¬ (HiveIsFlushed self.now.store.machine self.now.base
-            (changes_of self.now.decoded.value) (map view_of self.now.hives.items) hive)
-            × AreFlushed self.now.store.machine self.now.base (changes_of self.now.decoded.value)
+            (changes_before self.now.earlier) (map view_of self.now.hives.items) hive)
+            × AreFlushed self.now.store.machine self.now.base (changes_before self.now.earlier)
             (map view_of self.now.hives.items) from hive) }
         ensures none { IfNone result (AreFlushed self.now.store.machine self.now.base
-            (changes_of self.now.decoded.value) (map view_of self.now.hives.items) from to) }
+            (changes_before self.now.earlier) (map view_of self.now.hives.items) from to) }
     {
         for hive in from..to {
             if self.has_work(usize::from(hive)) {
@@ -59,7 +59,7 @@ impl<D> Parts<D> {
         requires sound { IsSound self.now }
         requires there { place < length self.now.hives.items }
         ensures { (result ≡ false) ↔ HiveIsFlushed self.now.store.machine self.now.base
-            (changes_of self.now.decoded.value) (map view_of self.now.hives.items) place }
+            (changes_before self.now.earlier) (map view_of self.now.hives.items) place }
     {
         if !self.hives[place].is_at_rest() {
             return true;

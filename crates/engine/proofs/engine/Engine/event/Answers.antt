@@ -1,6 +1,7 @@
 use Rattle.std.proofs.Common.{◌≡◌, refl, subst, arith}
 use Rattle.commit_journal.specs.Store.{Store}
-use Rattle.commit_journal.specs.Journals.{changes_of, store_of}
+use Rattle.engine.specs.EarlierChanges.{changes_before}
+use Rattle.commit_journal.specs.Journals.{store_of}
 use Rattle.engine_invariant.specs.Engines.{EngineAnswers, NeedsNoDevice}
 use Rattle.engine_invariant.specs.Prefixes.{IsSafeAt}
 use Rattle.store_model.specs.Steps.{Step}
@@ -14,7 +15,7 @@ returns-clause-before g c =
     let p = c.self.inside.parts in
     subst (λ (s : Shown _). g.D.Disk.faithful c.event.new.self.disk → IsSafeAt s.store (g.D.Disk.state_at c.event.new.self.disk) (g.D.Disk.clock s.disk) s.machine) c.self.view_is
     (λ f. c.crashes_leave_prefixes.ensures.past (store_of p.journal) (g.D.Disk.state_at p.disk) (g.D.Disk.state_at c.event.new.self.disk) (g.D.Disk.clock p.disk) c.event.ensures.continues.call.past (g.D.Disk.clock p.disk) p.store.machine (omega arith)
-    (c.crashes_leave_prefixes.ensures.safe (store_of p.journal) p.store.machine p.base (changes_of p.decoded.value) p.journal p.hives.items (g.D.Disk.state_at p.disk) (g.D.Disk.clock p.disk) c.self.invariant.sound.holds.kept refl c.self.invariant.sound.holds.placed (c.self.invariant.on_disk (c.event.ensures.continues.faithful f))))
+    (c.crashes_leave_prefixes.ensures.safe (store_of p.journal) p.store.machine p.base (changes_before p.earlier) p.journal p.hives.items (g.D.Disk.state_at p.disk) (g.D.Disk.clock p.disk) c.self.invariant.sound.holds.kept refl c.self.invariant.sound.holds.placed (c.self.invariant.on_disk (c.event.ensures.continues.faithful f))))
 
 pub returns-clause-after : goal.returns-clause-after
 returns-clause-after g c =
@@ -22,7 +23,7 @@ returns-clause-after g c =
     let n = c.event.new.self in
     subst (λ (s : Shown _). g.D.Disk.faithful n.disk → IsSafeAt s.store (g.D.Disk.state_at n.disk) (g.D.Disk.clock n.disk) n.store.machine) c.self.view_is
     (λ f. subst (λ (s : Store). IsSafeAt s (g.D.Disk.state_at n.disk) (g.D.Disk.clock n.disk) n.store.machine) c.event.ensures.continues.store
-    (c.crashes_leave_prefixes.ensures.safe (store_of n.journal) n.store.machine n.base (changes_of n.decoded.value) n.journal n.hives.items (g.D.Disk.state_at n.disk) (g.D.Disk.clock n.disk) c.event.ensures.continues.sound.holds.kept refl c.event.ensures.continues.sound.holds.placed
+    (c.crashes_leave_prefixes.ensures.safe (store_of n.journal) n.store.machine n.base (changes_before n.earlier) n.journal n.hives.items (g.D.Disk.state_at n.disk) (g.D.Disk.clock n.disk) c.event.ensures.continues.sound.holds.kept refl c.event.ensures.continues.sound.holds.placed
     (c.event.ensures.continues.on_disk f (c.self.invariant.on_disk (c.event.ensures.continues.faithful f)))))
 
 pub returns-clause-answers : goal.returns-clause-answers

@@ -1,10 +1,15 @@
-use Rattle.std.proofs.Common.{◌≡◌, ◌∙◌, ℕ, sym, ap, subst, map, arith, List}
+use Rattle.std.proofs.Common.{◌≡◌, ◌∙◌, ℕ, sym, ap, subst, map, arith, List, ◌≤◌, Option, Some, slice_get}
 use Rattle.reg_tree.specs.Maps.{TreeMap}
 use Rattle.crash_model.specs.Promises.{Choice}
 use Rattle.reg_tree.specs.declared.element.Element.{Element}
+use Rattle.engine.specs.EarlierChanges.{changes_before}
+use Rattle.hive_flush.specs.HiveStates.{file_choice}
+use Rattle.hive_flush.specs.declared.hive.HiveFile.{HiveFile}
+use Rattle.std.proofs.lemmas.Option.{slice_get_within}
 use Rattle.commit_journal.specs.Journals.{changes_of, choice_of}
 use Rattle.store_model.specs.Machine.{Machine, bounds_of}
-use Rattle.engine_invariant.specs.States.{IsConsistent}
+use Rattle.engine_invariant.specs.Openings.{held_if}
+use Rattle.engine_invariant.specs.States.{HiveView, IsConsistent}
 use Rattle.engine_invariant.specs.Prefixes.{view_of}
 use Rattle.engine_invariant.proofs.HiveLists.{view_at}
 use Rattle.recovery.specs.Invariant.{AreWhole}
@@ -24,8 +29,12 @@ invariant_of-result g c =
     let told = c.in-Ok.ensures.machine in
     let all = changes_of f.journal in
     let kept = subst (λ (m : Machine). IsConsistent m f.base all (choice_of f.journal) (map view_of f.hives.items)) (sym told) (c.openings_begin.ensures (bounds_of f.trees) f.trees f.number 0 f.base all (choice_of f.journal) (map view_of f.hives.items) e.kept.recovers) in
-    let decoded : changes_of c.of-decoded.result.value ≡ all = ap changes_of c.of-decoded.ensures in
+    let decoded : changes_before c.of-earlier.result ≡ all = c.of-earlier.ensures in
     let store = c.in-Ok.store in
+    let below : (i : ℕ) (hive : HiveFile) → slice_get f.hives.items i ≡ Some hive → (file_choice hive).now.1 ≤ store.machine.before = (λ i hive is.
+    let at = view_at f.hives.items i hive is in
+    let low = e.kept.recovers.recovers.not_above i (let lt = slice_get_within (map view_of f.hives.items) i (view_of hive) at in omega (arith, lt, e.kept.recovers.all)) in
+    omega (arith, low, ap (λ (o : Option HiveView). (held_if o).1) at, ap (λ (m : Machine). m.before) told)) in
     let durable : store.machine.durable ≡ store.machine.before = ap (λ (m : Machine). m.durable) told ∙ sym (ap (λ (m : Machine). m.before) told) in
     record {
       sound = record {
@@ -41,7 +50,7 @@ invariant_of-result g c =
         named = e.kept.named;
         retained = subst (λ (l : List Element). RetainsWhatHivesLack store f.base l (numbered_changes f.opened) f.hives.items) (sym decoded) (hand_opens store f.base all (numbered_changes f.opened) f.hives.items kept.begun durable
             (omega (arith, c.in-Ok.ensures.retained, ap (λ (m : Machine). m.before) told)) e.kept.opened
-            (λ i hive is. ap (λ (k : Choice (TreeMap × ℕ)). k.now.1) (e.kept.recovers.each i (view_of hive) (view_at f.hives.items i hive is))));
+            (λ i hive is. (ap (λ (k : Choice (TreeMap × ℕ)). k.now.1) (e.kept.recovers.each i (view_of hive) (view_at f.hives.items i hive is)), below i hive is)));
       };
       on_disk = e.on_disk;
       prepared = tt;

@@ -4,7 +4,7 @@ use Rattle.store_model.specs.declared.event.Event.TheVariants as event
 use Rattle.disk_model.specs.declared.progress.Progress.TheVariants as progress
 use Rattle.engine_invariant.specs.Answers.{reply_to}
 use Rattle.engine_invariant.proofs.HiveLists.{at_slot}
-use Rattle.commit_journal.specs.Journals.{changes_of}
+use Rattle.engine.specs.EarlierChanges.{changes_before}
 use Rattle.engine.proofs.Advancing.{flush_comes_on, from_rest, refused_comes_on}
 use Rattle.engine.proofs.Sound.{at_place}
 use Rattle.engine.proofs.Frames.{behind, hungry}
@@ -26,7 +26,7 @@ pub returns-then-applied-index-clause-idle : goal.returns-then-applied-index-cla
 returns-then-applied-index-clause-idle g c = λ hive is.
     let s = c.args.self.now in
     let h = c.requires.sound in (
-      λ e. rests_on s.store.machine s.base (changes_of s.decoded.value) s.last_changes.last.items h.last_changes s.hives.items c.args.place c.index-2.result.now c.applied.result c.index.result.now hive (at_place s.hives.items c.args.place c.index.result.now c.requires.there c.index.ensures) is
+      λ e. rests_on s.store.machine s.base (changes_before s.earlier) s.last_changes.last.items h.last_changes s.hives.items c.args.place c.index-2.result.now c.applied.result c.index.result.now hive (at_place s.hives.items c.args.place c.index.result.now c.requires.there c.index.ensures) is
           (at_place s.last_changes.last.items c.args.place c.index-2.result.now (omega (arith, c.requires.there, h.named)) c.index-2.ensures) c.applied.ensures c.if-applied-index.true,
       λ has. refl,
     )
@@ -37,7 +37,7 @@ returns-in_err-absorb-clause-idle g c = λ hive is.
     let h = c.requires.sound in
     let told = err_from_is_err_and c.from_residual.result c.from_residual.ensures.1 in (
       λ e. absurd (not_ok _ _ told.1 e),
-      λ has. goes_from s.store.machine s.base (changes_of s.decoded.value) s.last_changes.last.items h.last_changes s.hives.items c.args.place c.index-2.result.now c.applied.result c.index.result.now hive (at_place s.hives.items c.args.place c.index.result.now c.requires.there c.index.ensures) is
+      λ has. goes_from s.store.machine s.base (changes_before s.earlier) s.last_changes.last.items h.last_changes s.hives.items c.args.place c.index-2.result.now c.applied.result c.index.result.now hive (at_place s.hives.items c.args.place c.index.result.now c.requires.there c.index.ensures) is
           (at_place s.last_changes.last.items c.args.place c.index-2.result.now (omega (arith, c.requires.there, h.named)) c.index-2.ensures) c.applied.ensures c.if-applied-index.false has,
     )
 
@@ -46,7 +46,7 @@ returns-clause-idle g c = λ hive is.
     let s = c.args.self.now in
     let h = c.requires.sound in (
       λ e. absurd (c.flush.ensures.not_idle e),
-      λ has. goes_from s.store.machine s.base (changes_of s.decoded.value) s.last_changes.last.items h.last_changes s.hives.items c.args.place c.index-2.result.now c.applied.result c.index.result.now hive (at_place s.hives.items c.args.place c.index.result.now c.requires.there c.index.ensures) is
+      λ has. goes_from s.store.machine s.base (changes_before s.earlier) s.last_changes.last.items h.last_changes s.hives.items c.args.place c.index-2.result.now c.applied.result c.index.result.now hive (at_place s.hives.items c.args.place c.index.result.now c.requires.there c.index.ensures) is
           (at_place s.last_changes.last.items c.args.place c.index-2.result.now (omega (arith, c.requires.there, h.named)) c.index-2.ensures) c.applied.ensures c.if-applied-index.false has,
     )
 

@@ -8,11 +8,11 @@ use Rattle.crash_model.specs.Promises.{HiveSays}
 use Rattle.hive_flush.specs.HiveStates.{FilesMatchHive, file_choice, memory_of, hive_number}
 use Rattle.disk_model.specs.FileState.{FileState}
 use Rattle.disk_model.specs.StoreFiles.{IsFileOfHive, primary_file, log_file}
-use Rattle.commit_journal.specs.Journals.{changes_of}
+use Rattle.engine.specs.EarlierChanges.{changes_before}
 use Rattle.recovery.specs.Retained.{numbered_changes}
 use Rattle.engine.specs.Events.{PartsStep}
 use Rattle.engine.proofs.Sound.{at_place, flush_sound}
-use Rattle.engine.proofs.Frames.{any_call, has_failed, works_else, quiet_by, flush_still}
+use Rattle.engine.proofs.Frames.{any_call, has_failed, step_opens, works_else, quiet_by, flush_still}
 use Rattle.engine_invariant.proofs.HiveLists.{get_other, hive_writes, view_at}
 use Rattle.engine_invariant.specs.Prefixes.{view_of}
 use Rattle.engine.specs.declared.parts.Parts.{Parts}
@@ -29,18 +29,18 @@ returns-clause-continues g c =
     let call = c.step-come.ensures in
     let is = at_place s.hives.items c.args.place c.index_mut.result.now c.requires.there c.index_mut.ensures.value in
     let its : hive_number c.index_mut.result.now ≡ c.args.place = c.requires.sound.holds.placed.place c.args.place c.index_mut.result.now is in
-    let goes = flush_goes s.store s.base (changes_of s.decoded.value) s.journal s.hives.items c.requires.sound.holds c.requires.works c.args.place c.index_mut.result.now is c.hive_steps_keep.ensures.step c.step-come.new.self c.step-come.result
+    let goes = flush_goes s.store s.base (changes_before s.earlier) s.journal s.hives.items c.requires.sound.holds c.requires.works c.args.place c.index_mut.result.now is c.hive_steps_keep.ensures.step c.step-come.new.self c.step-come.result
     call.memory call.faulted call.says in
     let old : ℕ → FileState = g.D.Disk.state_at s.disk (g.D.Disk.clock s.disk) in
     let new : ℕ → FileState = g.D.Disk.state_at c.step-come.new.disk (g.D.Disk.clock c.step-come.new.disk) in
     subst (λ p. PartsStep g.D.Disk.state_at g.D.Disk.clock g.D.Disk.failures g.D.Disk.faithful (event.FlusherStep c.args.place) (reply_to c.step-come.result) s p) (sym c.note_fault.ensures.rest) (record {
       step = subst (λ (m : Machine). Step s.store.machine (event.FlusherStep c.args.place) (reply_to c.step-come.result) m) (sym c.note_fault.ensures.machine) goes.0;
       sound = record {
-        holds = flush_sound s.store c.note_fault.new.self.store s.base (changes_of s.decoded.value) s.journal s.hives.items c.args.place c.index_mut.result.now c.step-come.new.self c.step-come.result c.requires.sound.holds c.requires.works is goes.1
+        holds = flush_sound s.store c.note_fault.new.self.store s.base (changes_before s.earlier) s.journal s.hives.items c.args.place c.index_mut.result.now c.step-come.new.self c.step-come.result c.requires.sound.holds c.requires.works is goes.1
             call.place call.store call.whole call.broken.0 c.note_fault.ensures.machine;
-        last_changes = naming_flushes s.store.machine c.note_fault.new.self.store.machine s.base (changes_of s.decoded.value) s.last_changes.last.items c.step-come.result c.note_fault.ensures.machine c.requires.sound.last_changes;
+        last_changes = naming_flushes s.store.machine c.note_fault.new.self.store.machine s.base (changes_before s.earlier) s.last_changes.last.items c.step-come.result c.note_fault.ensures.machine c.requires.sound.last_changes;
         named = c.requires.sound.named ∙ sym (length-set s.hives.items c.args.place c.step-come.new.self);
-        retained = hand_flushes s.store c.note_fault.new.self.store s.base (changes_of s.decoded.value) (numbered_changes s.opened) s.hives.items c.args.place c.index_mut.result.now c.step-come.new.self c.step-come.result is call.memory c.note_fault.ensures.machine c.note_fault.ensures.retained c.requires.sound.retained;
+        retained = hand_flushes s.store c.note_fault.new.self.store s.base (changes_before s.earlier) (numbered_changes s.opened) s.hives.items c.args.place c.index_mut.result.now c.step-come.new.self c.step-come.result is call.memory c.note_fault.ensures.machine c.note_fault.ensures.retained c.requires.sound.retained;
       };
       on_disk = λ f on. hive_writes s.journal s.hives.items c.args.place c.index_mut.result.now c.step-come.new.self old new is on
           (λ file none. call.call.others file (λ own. none (subst (λ n. IsFileOfHive n file) its own)))
@@ -51,7 +51,7 @@ returns-clause-continues g c =
       failed = has_failed c.step-come.result _ _ call.failures;
       works = works_else c.step-come.result _ _ call.failures;
       faithful = call.faithful;
-      life = (refl, refl);
+      life = (refl, sym (step_opens c.step-come.result (changes_before s.earlier) s.store.machine.accepted));
       journal_stays = λ nj nt. refl;
       hives_stay = λ i no. get_other s.hives.items c.args.place i c.step-come.new.self (λ e. no (ap event.FlusherStep (sym e)));
     })

@@ -9,7 +9,7 @@ use Rattle.store_model.specs.declared.event.Event.TheVariants as event
 use Rattle.refusals.specs.declared.refusal.Refusal.TheVariants.{NotFound}
 use Rattle.hive_flush.specs.HiveStates.{file_choice, memory_of}
 use Rattle.hive_flush.specs.declared.hive.HiveFile.{HiveFile}
-use Rattle.commit_journal.specs.Journals.{changes_of}
+use Rattle.engine.specs.EarlierChanges.{changes_before}
 use Rattle.engine.specs.Events.{StepAdvances}
 use Rattle.engine.proofs.Advancing.{flush_comes_on, from_busy, refused_comes_on}
 use Rattle.engine.proofs.Sound.{at_place, same_hive}
@@ -20,14 +20,14 @@ pub returns-then-is_at_rest-clause-idle : goal.returns-then-is_at_rest-clause-id
 returns-then-is_at_rest-clause-idle g c = λ free.
     let s = c.args.self.now in
     let there = at_place s.hives.items c.from-place.result c.index.result.now (omega (arith, c.if-place-len.false, c.len.ensures)) c.index.ensures in
-    subst (λ n. (c.begin_flush.result ≡ Ok progress.Idle) ↔ HiveIsFlushed s.store.machine s.base (changes_of s.decoded.value) (map view_of s.hives.items) n) c.from-place.ensures
-    (flush_idles s.store.machine s.base (changes_of s.decoded.value) s.last_changes.last.items c.requires.sound.last_changes s.hives.items c.from-place.result c.index.result.now there (c.if-is_at_rest.ensures.rest refl) (c.begin_flush.ensures.idle c.index.result.now there))
+    subst (λ n. (c.begin_flush.result ≡ Ok progress.Idle) ↔ HiveIsFlushed s.store.machine s.base (changes_before s.earlier) (map view_of s.hives.items) n) c.from-place.ensures
+    (flush_idles s.store.machine s.base (changes_before s.earlier) s.last_changes.last.items c.requires.sound.last_changes s.hives.items c.from-place.result c.index.result.now there (c.if-is_at_rest.ensures.rest refl) (c.begin_flush.ensures.idle c.index.result.now there))
 
 pub returns-clause-idle : goal.returns-clause-idle
 returns-clause-idle g c = λ free.
     let s = c.args.self.now in
     let there = subst (λ n. slice_get s.hives.items n ≡ Some c.index.result.now) c.from-place.ensures (at_place s.hives.items c.from-place.result c.index.result.now (omega (arith, c.if-place-len.false, c.len.ensures)) c.index.ensures) in
-    flush_goes_on s.store.machine s.base (changes_of s.decoded.value) s.hives.items c.args.hive c.index.result.now there
+    flush_goes_on s.store.machine s.base (changes_before s.earlier) s.hives.items c.args.hive c.index.result.now there
     (λ rests. true≢false (sym (c.is_at_rest.ensures.not_idle (c.requires.sound.holds.whole c.args.hive c.index.result.now there) rests) ∙ c.if-is_at_rest.false)) c.flush.ensures.not_idle
 
 pub returns-in_err-check_not_faulted-clause-advances : goal.returns-in_err-check_not_faulted-clause-advances

@@ -10,7 +10,8 @@ use Rattle.engine.proofs.Advancing.{journal_comes_on, nearer_where, refused_come
 use Rattle.engine.proofs.Frames.{quiet_by, refused_still}
 use Rattle.engine.proofs.Sound.{settled_is}
 use Rattle.engine.proofs.Journaling.{may_hand, batch_goes, journal_goes_on, rises_by}
-use Rattle.commit_journal.specs.Journals.{changes_of, choice_of}
+use Rattle.engine.specs.EarlierChanges.{changes_before}
+use Rattle.commit_journal.specs.Journals.{choice_of}
 use Rattle.engine.proofs.Idling.{journal_idles}
 use Rattle.engine.proofs.parts.Parts.journal_step.Goals as goal
 
@@ -18,7 +19,7 @@ pub step-come-requires : goal.step-come-requires
 step-come-requires g c =
     let s = c.args.self.now in
     record {
-      handed = λ idle. may_hand s.store s.base (changes_of s.decoded.value) s.journal s.hives.items c.requires.sound.holds c.durable-durable.result c.above-pending.result.now c.durable-durable.ensures.durable c.above-pending.ensures.changes
+      handed = λ idle. may_hand s.store s.base (changes_before s.earlier) s.journal s.hives.items c.requires.sound.holds c.durable-durable.result c.above-pending.result.now c.durable-durable.ensures.durable c.above-pending.ensures.changes
           c.pending_may_be_handed.ensures c.above-pending.ensures.short;
     }
 
@@ -26,7 +27,7 @@ pub returns-clause-continues : goal.returns-clause-continues
 returns-clause-continues g c =
     let s = c.args.self.now in
     let call = c.step-come.ensures in
-    let goes = batch_goes s.store s.base (changes_of s.decoded.value) s.journal s.hives.items c.requires.sound.holds c.durable-durable.result c.above-pending.result.now c.durable-durable.ensures.durable c.above-pending.ensures.changes
+    let goes = batch_goes s.store s.base (changes_before s.earlier) s.journal s.hives.items c.requires.sound.holds c.durable-durable.result c.above-pending.result.now c.durable-durable.ensures.durable c.above-pending.ensures.changes
     c.journal_steps_keep.ensures.batch c.step-come.new.self c.step-come.result c.in_ok-check_not_faulted.ensures.works call.faulted call.says in
     subst (λ p. PartsStep g.D.Disk.state_at g.D.Disk.clock g.D.Disk.failures g.D.Disk.faithful event.JournalStep (reply_to c.step-come.result) s p) (sym c.mark_durable.ensures.rest)
     (journal_goes_on g.D.Disk.state_at g.D.Disk.clock g.D.Disk.failures g.D.Disk.faithful event.JournalStep (inl refl) s c.step-come.new.self c.step-come.new.disk c.mark_durable.new.self.store c.mark_durable.new.self.last_changes c.step-come.result c.used-used.result
@@ -50,7 +51,7 @@ returns-clause-advances g c =
     let m = s.store.machine in
     let call = c.step-come.ensures in
     let free = c.in_ok-check_not_faulted.ensures.works in
-    let goes = batch_goes s.store s.base (changes_of s.decoded.value) s.journal s.hives.items c.requires.sound.holds c.durable-durable.result c.above-pending.result.now c.durable-durable.ensures.durable c.above-pending.ensures.changes
+    let goes = batch_goes s.store s.base (changes_before s.earlier) s.journal s.hives.items c.requires.sound.holds c.durable-durable.result c.above-pending.result.now c.durable-durable.ensures.durable c.above-pending.ensures.changes
     c.journal_steps_keep.ensures.batch c.step-come.new.self c.step-come.result free call.faulted call.says in
     let is = c.mark_durable.ensures.machine ∙ settled_is m (choice_of s.journal) (choice_of c.step-come.new.self) c.used-used.result c.step-come.result c.used-used.ensures in
     subst (λ p. StepAdvances event.JournalStep (reply_to c.step-come.result) s p) (sym c.mark_durable.ensures.rest)

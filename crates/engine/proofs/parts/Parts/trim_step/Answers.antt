@@ -9,7 +9,8 @@ use Rattle.engine.proofs.Advancing.{idle_comes_on, refused_comes_on, trim_comes_
 use Rattle.engine.proofs.Frames.{quiet_by, refused_still, trim_still}
 use Rattle.engine.proofs.Sound.{settled_is}
 use Rattle.engine.proofs.Journaling.{trim_goes, journal_goes_on, rises_by}
-use Rattle.commit_journal.specs.Journals.{changes_of, choice_of}
+use Rattle.engine.specs.EarlierChanges.{changes_before}
+use Rattle.commit_journal.specs.Journals.{choice_of}
 use Rattle.engine_invariant.specs.Prefixes.{view_of}
 use Rattle.engine.proofs.Idling.{trim_idles}
 use Rattle.engine.proofs.parts.Parts.trim_step.Goals as goal
@@ -18,7 +19,7 @@ pub returns-clause-continues : goal.returns-clause-continues
 returns-clause-continues g c =
     let s = c.args.self.now in
     let call = c.trim_step-come.ensures in
-    let goes = trim_goes s.store s.base (changes_of s.decoded.value) s.journal s.hives.items c.requires.sound.holds c.journal_steps_keep.ensures.trim c.trim_step-come.new.self c.trim_step-come.result c.in_ok-check_not_faulted.ensures.works
+    let goes = trim_goes s.store s.base (changes_before s.earlier) s.journal s.hives.items c.requires.sound.holds c.journal_steps_keep.ensures.trim c.trim_step-come.new.self c.trim_step-come.result c.in_ok-check_not_faulted.ensures.works
     (c.may_trim.ensures.yes c.if-not-may_trim.false) call.faulted call.says in
     subst (λ p. PartsStep g.D.Disk.state_at g.D.Disk.clock g.D.Disk.failures g.D.Disk.faithful event.TrimStep (reply_to c.trim_step-come.result) s p) (sym c.mark_durable.ensures.rest)
     (journal_goes_on g.D.Disk.state_at g.D.Disk.clock g.D.Disk.failures g.D.Disk.faithful event.TrimStep (inr refl) s c.trim_step-come.new.self c.trim_step-come.new.disk c.mark_durable.new.self.store c.mark_durable.new.self.last_changes c.trim_step-come.result c.used-used.result
@@ -30,7 +31,7 @@ returns-clause-continues g c =
 pub returns-clause-idle : goal.returns-clause-idle
 returns-clause-idle g c = λ free.
     let s = c.args.self.now in
-    trim_idles s.store.machine s.base (changes_of s.decoded.value) (choice_of s.journal) (choice_of c.trim_step-come.new.self) (map view_of s.hives.items) c.trim_step-come.result (c.may_trim.ensures.yes c.if-not-may_trim.false) c.trim_step-come.ensures.says
+    trim_idles s.store.machine s.base (changes_before s.earlier) (choice_of s.journal) (choice_of c.trim_step-come.new.self) (map view_of s.hives.items) c.trim_step-come.result (c.may_trim.ensures.yes c.if-not-may_trim.false) c.trim_step-come.ensures.says
 
 pub returns-in_err-check_not_faulted-clause-advances : goal.returns-in_err-check_not_faulted-clause-advances
 returns-in_err-check_not_faulted-clause-advances g c =
