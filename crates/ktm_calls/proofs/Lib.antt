@@ -4,3 +4,4 @@ pub mod Shapes
 pub mod Working
 pub mod Coming
 pub mod Alone
+pub mod OpenSessions

@@ -24,6 +24,7 @@ kind_of (event.Close session tx) = kind.Close session tx
 kind_of (event.Outcome session tx) = kind.Outcome session tx
 kind_of event.FlushAsk = kind.FlushAsk
 kind_of (event.Acked number) = kind.Acked number
+kind_of event.Fold = kind.Fold
 kind_of event.JournalStep = kind.JournalStep
 kind_of (event.FlusherStep hive) = kind.FlusherStep hive
 kind_of event.TrimStep = kind.TrimStep

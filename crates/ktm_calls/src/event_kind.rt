@@ -88,6 +88,8 @@ pub enum EventKind {
         /// Its number.
         number: u64,
     },
+    /// The history is folded.
+    Fold,
     /// One step of the journal.
     JournalStep,
     /// One step of the flush of a hive.
@@ -119,6 +121,7 @@ impl EventKind {
             Event::Begin { session, .. } => EventKind::Begin { session: *session },
             Event::FlushAsk => EventKind::FlushAsk,
             Event::Acked { number } => EventKind::Acked { number: *number },
+            Event::Fold => EventKind::Fold,
             Event::JournalStep => EventKind::JournalStep,
             Event::FlusherStep { hive } => EventKind::FlusherStep { hive: *hive },
             Event::TrimStep => EventKind::TrimStep,

@@ -6,6 +6,7 @@
 mod calls;
 mod event_kind;
 mod key;
+pub mod laws;
 mod locked;
 mod receipt;
 mod registry;

@@ -1,16 +1,17 @@
 //! What is under the lock, and the work of one hold.
-ghost use Rattle.std.specs.Prelude.{◌≡◌, ◌⊎◌, ◌+◌, ◌<◌, ◌≤◌, ◌++◌, ◌∷◌, [], length, true, false, IfErr, IfOk, IfSome, OnErr, OnOk};
+ghost use Rattle.std.specs.Prelude.{◌≡◌, ◌⊎◌, ◌+◌, ◌<◌, ◌≤◌, ◌^◌, ◌++◌, ◌∷◌, [], length, true, false, IfErr, IfOk, IfSome, OnErr, OnOk};
 ghost use Rattle.reg_tree.specs.Sequences.{after_elements};
 ghost use mathlib.Core.List.{IsPrefix};
 ghost use Rattle.published_trees.specs.declared.rule.TheConstants.{MOST_READERS};
 ghost use Rattle.refusals.specs.declared.refusal.Refusal.TheVariants.{NoMemory, NoSeat};
 ghost use Rattle.store_model.specs.Machine.{last_number};
-ghost use Rattle.store_model.specs.Steps.{Step, may_accept};
+ghost use Rattle.store_model.specs.Steps.{Step, is_fold, may_accept};
 ghost use Rattle.store_model.specs.declared.event.Event.TheVariants as event;
 ghost use Rattle.store_model.specs.declared.event.Reply.TheVariants as reply;
 ghost use Rattle.ktm_calls.specs.Denials.{OpensOrNot, refusal_in};
 ghost use Rattle.ktm_calls.specs.Kinds.{kind_of};
 ghost use Rattle.ktm_calls.specs.Moments.{IsOf, Tells, with_next};
+ghost use Rattle.ktm_calls.specs.OpenSessions.{AreBelow, OpensBelow};
 
 use crate::event_kind::{EventKind, may_accept};
 use crate::session::Session;
@@ -85,6 +86,8 @@ impl Told {
 ///
 /// Whenever the lock is free the list is the engine's history, and what is published is the trees at its opening with
 /// that list applied.
+///
+/// No fold happens under the lock: the trees and the number of the opening are those that the registry was made with.
 pub struct Locked<E: StoreEngine, O: Origin> {
     alloc: Global,
     engine: E,
@@ -96,12 +99,15 @@ pub struct Locked<E: StoreEngine, O: Origin> {
     led: bool,
     // the hive whose flush ended last
     last_flushed: u8,
+    // the number of each open session is below it
+    session_bound: u64,
 }
 
 impl<E: StoreEngine, O: Origin> Model for Locked<E, O> {
-    ghost use Rattle.std.specs.Prelude.{◌≡◌};
+    ghost use Rattle.std.specs.Prelude.{◌≡◌, ◌≤◌, ◌^◌};
     ghost use Rattle.ktm_calls.specs.Held.{Held, held_code};
     ghost use Rattle.ktm_calls.specs.Moments.{IsOf};
+    ghost use Rattle.ktm_calls.specs.OpenSessions.{AreBelow};
 
     ghost Value = { Held E };
 
@@ -112,15 +118,18 @@ impl<E: StoreEngine, O: Origin> Model for Locked<E, O> {
     ghost invariant = { λ l. record {
       owner : IsOf O.trees O.number (E.machine l.engine);
       list : l.publication ≡ (E.machine l.engine).accepted;
+      sessions : AreBelow l.session_bound (E.machine l.engine);
+      bound : l.session_bound ≤ 2 ^ 32;
     } };
 }
 
 impl<E: StoreEngine, O: Origin> Locked<E, O> {
-    /// One event, which is what one hold of the lock does. A change that it accepts is in the list, and its trees are
-    /// published.
+    /// One event, but no fold, which is what one hold of the lock does. A change that it accepts is in the list, and its
+    /// trees are published.
     ///
     /// Refused with `NoMemory` alone; nothing has changed then.
     pub fn hold<R: Wait>(&mut self, rt: &R, event: Event) -> Result<Told, Refusal>
+        requires no_fold { is_fold event ≡ false }
         ensures kind { IfOk result (λ t. t.kind ≡ kind_of event) }
         ensures step { IfOk result (λ t.
             Step (E.machine self.old.engine) event t.reply (E.machine self.new.engine)) }
@@ -145,6 +154,7 @@ impl<E: StoreEngine, O: Origin> Locked<E, O> {
     // an event that accepts nothing
     fn make(&mut self, event: Event) -> Result<Told, Refusal>
         requires calm { may_accept event ≡ false }
+        requires no_fold { is_fold event ≡ false }
         ensures kind { IfOk result (λ t. t.kind ≡ kind_of event) }
         ensures step { IfOk result (λ t.
             Step (E.machine self.old.engine) event t.reply (E.machine self.new.engine)) }
@@ -163,6 +173,7 @@ impl<E: StoreEngine, O: Origin> Locked<E, O> {
         openings_stay();
         no_memory_changes_nothing();
         let kind = EventKind::of(&event);
+        self.session_bound = bound_with(self.session_bound, &event);
         let reply = self.engine.event(event);
         if let Reply::Refused {
             refusal: Refusal::NoMemory,
@@ -177,6 +188,7 @@ impl<E: StoreEngine, O: Origin> Locked<E, O> {
     // event
     fn accept<R: Wait>(&mut self, rt: &R, event: Event) -> Result<Told, Refusal>
         requires accepts { may_accept event ≡ true }
+        requires no_fold { is_fold event ≡ false }
         ensures kind { IfOk result (λ t. t.kind ≡ kind_of event) }
         ensures step { IfOk result (λ t.
             Step (E.machine self.old.engine) event t.reply (E.machine self.new.engine)) }
@@ -224,6 +236,7 @@ impl<E: StoreEngine, O: Origin> Locked<E, O> {
         mine: &mut SeenChanges,
         event: Event,
     ) -> Result<Told, Refusal>
+        requires no_fold { is_fold event ≡ false }
         requires book { mine.old.book ≡ O.book }
         ensures book { mine.new.book ≡ O.book }
         ensures seen { IsPrefix mine.old.list mine.new.list }
@@ -249,6 +262,19 @@ impl<E: StoreEngine, O: Origin> Locked<E, O> {
         ensures { self.new ≡ record self.old { stopped = true } }
     {
         self.stopped = true;
+    }
+}
+
+// what the number of each open session is below once an event was carried out, if it was below `bound`
+fn bound_with(bound: u64, event: &Event) -> u64
+    requires most { bound ≤ 2 ^ 32 }
+    ensures above { bound ≤ result }
+    ensures opens { OpensBelow result event.now }
+    ensures most { result ≤ 2 ^ 32 }
+{
+    match event {
+        Event::StartSession { session } => bound.max(u64::from(*session) + 1),
+        _ => bound,
     }
 }
 
@@ -361,6 +387,7 @@ impl<E: StoreEngine, O: Origin> Locked<E, O> {
                 stopped: false,
                 led: false,
                 last_flushed: u8::MAX,
+                session_bound: 0,
             }),
             Err(why) => Err((why, engine)),
         }
@@ -410,6 +437,7 @@ impl<E: StoreEngine, O: Origin> Locked<E, O> {
 
     // one event, of nobody who has seen anything
     fn tell<R: Wait>(&mut self, rt: &R, event: Event) -> Result<Told, Refusal>
+        requires no_fold { is_fold event ≡ false }
         ensures told { IfOk result (λ t. Tells O.trees O.number []
             (E.machine self.new.engine).accepted event t) }
     {
@@ -426,20 +454,22 @@ impl<E: StoreEngine, O: Origin> Locked<E, O> {
         let _ = &self.alloc; // for the prover
     }
 
-    /// The engine, without the lock.
+    /// The engine, without the lock. Each session that is open in it is ended, whoever has it.
     pub(crate) fn close<R: Wait>(self, rt: &R) -> E
-        ensures engine { result ≡ self.engine }
         ensures owner { IsOf O.trees O.number (E.machine result) }
+        ensures sessions { (E.machine result).sessions ≡ [] }
     {
         let Locked {
             alloc: _,
-            engine,
+            mut engine,
             publication,
             readers: _,
             stopped: _,
             led: _,
             last_flushed: _,
+            session_bound,
         } = self;
+        end_sessions::<E, O>(&mut engine, session_bound);
         publication.close(rt);
         engine
     }
@@ -493,6 +523,22 @@ impl<E: StoreEngine, O: Origin> Locked<E, O> {
         ensures { result ≡ self.now.stopped }
     {
         self.stopped
+    }
+}
+
+// ends each session of an engine, whose numbers are below `bound`
+fn end_sessions<E: StoreEngine, O: Origin>(engine: &mut E, bound: u64)
+    requires owner { IsOf O.trees O.number (E.machine engine.old) }
+    requires below { AreBelow bound (E.machine engine.old) }
+    requires most { bound ≤ 2 ^ 32 }
+    ensures owner { IsOf O.trees O.number (E.machine engine.new) }
+    ensures sessions { (E.machine engine.new).sessions ≡ [] }
+{
+    openings_stay();
+    for number in 0..bound {
+        let _ = engine.event(Event::EndSession {
+            session: number as u32,
+        });
     }
 }
 

@@ -1,9 +1,10 @@
 //! The registry: one lock, and what threads do with it. Each guard is let go by `MutexGuard::unlock`, on each path.
-ghost use Rattle.std.specs.Prelude.{◌≡◌, ◌⊎◌, ◌≤◌, ◌+◌, filter, nat_lt, [], List, true, length, IfOk, IfErr};
+ghost use Rattle.std.specs.Prelude.{◌≡◌, ◌⊎◌, ◌≤◌, ◌+◌, filter, nat_lt, [], List, false, true, length, IfOk, IfErr};
 ghost use Rattle.reg_tree.specs.declared.element.Element.{Element};
 ghost use mathlib.Core.List.{IsPrefix};
 ghost use Rattle.published_trees.specs.declared.rule.TheConstants.{MOST_READERS};
 ghost use Rattle.refusals.specs.declared.refusal.Refusal.TheVariants.{NoMemory, NoSeat};
+ghost use Rattle.store_model.specs.Steps.{is_fold};
 ghost use Rattle.store_model.specs.declared.event.Event.TheVariants as event;
 ghost use Rattle.store_model.specs.declared.event.Reply.TheVariants as reply;
 ghost use Rattle.ktm_calls.specs.Waiting.{SteppedOrFailed, is_step_kind};
@@ -107,6 +108,9 @@ pub struct Ended<E: StoreEngine, O: Origin> {
 }
 
 /// What threads share.
+///
+/// No fold happens inside a registry: what its promises say is of the trees and the number that it was made with. To
+/// fold the history, end the registry, put `Event::Fold` to the engine, and make the next registry over it.
 pub struct Registry<E: StoreEngine, O: Origin> {
     lock: Mutex<Locked<E, O>>,
     // wakes those that wait for a change
@@ -178,8 +182,11 @@ impl<E: StoreEngine, O: Origin> Registry<E, O> {
         }
     }
 
-    /// Ends all sessions and the registry, and hands the engine back. Of the receipts those come back whose change is
-    /// not durable in it.
+    /// Ends the registry and each session, also those that were not handed in, and hands the engine back. Of the
+    /// receipts those come back whose change is not durable in it.
+    ///
+    /// If all that was accepted is durable, `Event::Fold` folds the history then, and [`Registry::new`] may take the
+    /// engine again, as [`crate::laws`] says.
     pub fn end<R: Wait>(
         self,
         rt: &R,
@@ -187,6 +194,7 @@ impl<E: StoreEngine, O: Origin> Registry<E, O> {
         receipts: Vec<Receipt<O>>,
     ) -> Ended<E, O>
         ensures owner { IsOf O.trees O.number (E.machine result.engine) }
+        ensures sessions { (E.machine result.engine).sessions ≡ [] }
         ensures durable { result.durable ≡ (E.machine result.engine).durable }
         ensures strangers { result.strangers.items
             ≡ filter (λ r. nat_lt result.durable r.number) receipts.items }
@@ -198,11 +206,8 @@ impl<E: StoreEngine, O: Origin> Registry<E, O> {
             waiting: _,
             last_batch: _,
         } = self;
-        let mut locked = lock.into_inner();
-        for session in sessions {
-            let _ = (&mut locked).end_session(rt, session.number(), None);
-        }
-        let engine = locked.close(rt);
+        drop(sessions);
+        let engine = lock.into_inner().close(rt);
         let durable = engine.durable();
         let strangers = above(receipts, durable);
         Ended {
@@ -219,6 +224,7 @@ impl<E: StoreEngine, O: Origin> Registry<E, O> {
         session: &mut Session<O>,
         event: Event,
     ) -> Result<Told, Denied>
+        requires no_fold { is_fold event ≡ false }
         ensures seen { IsPrefix session.old.list session.new.list }
         ensures number { session.new.number ≡ session.old.number }
         ensures told { IfOk result (λ t.
@@ -284,6 +290,7 @@ impl<E: StoreEngine, O: Origin> Registry<E, O> {
         policy: MemoryPolicy,
     ) -> Result<(Receipt<O>, Told), Denied>
         requires awaited { IsAwaited event }
+        requires no_fold { is_fold event ≡ false }
         ensures seen { IsPrefix session.old.list session.new.list }
         ensures number { session.new.number ≡ session.old.number }
         ensures told { IfOk result (λ r. TellsDurably O.trees O.number

@@ -1,5 +1,5 @@
-use Rattle.std.proofs.Common.{◌∙◌, ap, sym}
-use Rattle.store_model.specs.declared.bounds.StoreBounds.{StoreBounds}
+use Rattle.std.proofs.Common.{◌∙◌, sym}
+use Rattle.ktm_calls.proofs.OpenSessions.{below_more, still_below, still_of}
 use Rattle.ktm_calls.proofs.locked.Locked.make.Goals as goal
 
 pub invariant_of-self-2 : goal.invariant_of-self-2
@@ -7,13 +7,11 @@ invariant_of-self-2 g c =
     let old = g.E.StoreEngine.machine c.self.inside.engine in
     let new = g.E.StoreEngine.machine c.event-reply.new.self in
     let step = c.event-reply.ensures.step in
-    let stay = c.openings_stay.ensures old new c.args.event c.event-reply.result step in
-    let was = c.self.invariant.owner in
+    let stay = c.openings_stay.ensures.opening old new c.args.event c.event-reply.result c.requires.no_fold step in
+    let bounds = c.openings_stay.ensures.bounds old new c.args.event c.event-reply.result step in
     record {
-      owner = record {
-        opened = stay.0 ∙ was.opened;
-        before = stay.1 ∙ was.before;
-        hives = ap (λ (b : StoreBounds). b.hives) stay.2 ∙ was.hives;
-      };
-      list = c.self.invariant.list ∙ sym (c.others_accept_nothing.ensures old new c.args.event c.event-reply.result c.requires.calm step);
+      owner = still_of g.O.Origin.trees g.O.Origin.number old new c.self.invariant.owner stay bounds.0;
+      sessions = still_below c.bound_with-self-inside.result old new (below_more c.self.inside.session_bound c.bound_with-self-inside.result old c.bound_with-self-inside.ensures.above c.self.invariant.sessions) c.args.event c.event-reply.result c.bound_with-self-inside.ensures.opens step;
+      bound = c.bound_with-self-inside.ensures.most;
+      list = c.self.invariant.list ∙ sym (c.others_accept_nothing.ensures old new c.args.event c.event-reply.result c.requires.calm c.requires.no_fold step);
     }
