@@ -6,14 +6,14 @@ use Rattle.std.specs.Str.{bytes_eq}
 use Rattle.std.proofs.lemmas.Option.{none-some, cond_some}
 use Rattle.std.proofs.lemmas.Bool.Decides.{nat_tests}
 use Rattle.std.proofs.lemmas.Slice.Eq.{bytes_eq-Decides}
-use Rattle.refusals.specs.declared.limits.TheConstants.{MOST_HIVES}
+use Rattle.refusals.specs.declared.limits.TheConstants.{MOST_HIVES, MOST_HISTORY}
 use Rattle.script_syntax.specs.Words.{words, number_of, label_of, uuid_of}
-use Rattle.script_syntax.specs.Lines.{one_of, two_of, request_with, request_of_words, hives_of, hives_line, at_line, alone, begin_line, inside_line, label_in, hive_in, call_of, call_in, tear_of, tear_in, device_line, step_line, transaction_line, line_with, line_of_words, line_of}
+use Rattle.script_syntax.specs.Lines.{one_of, two_of, request_with, request_of_words, hives_of, hives_line, history_of, history_line, at_line, alone, begin_line, inside_line, label_in, hive_in, call_of, call_in, tear_of, tear_in, device_line, step_line, transaction_line, line_with, line_of_words, line_of}
 use Rattle.script_syntax.specs.Grammar.{VerbAndNumber, VerbAndLabel, RequestWords, LabLineWords, LineWords, BytesParseTo, tear_word}
 use Rattle.script_syntax.specs.declared.line.Request.{Request}
 use Rattle.script_syntax.specs.declared.line.Request.TheVariants.{Create, Delete, Set, Unset, Get, Keys, Values, Info}
 use Rattle.script_syntax.specs.declared.line.Line.{Line}
-use Rattle.script_syntax.specs.declared.line.Line.TheVariants.{Hives, At, Session, End, Plain, Begin, Inside, Commit, Rollback, Close, Outcome, Flush, Lab}
+use Rattle.script_syntax.specs.declared.line.Line.TheVariants.{Hives, History, At, Session, End, Plain, Begin, Inside, Commit, Rollback, Close, Outcome, Flush, Fold, Lab}
 use Rattle.script_syntax.specs.declared.lab_line.LabLine.{LabLine}
 use Rattle.script_syntax.specs.declared.lab_line.LabLine.TheVariants.{Accept, JournalStep, FlusherStep, TrimStep, FlushWhole, StopAt, FailAt, Crash}
 use Rattle.script_syntax.specs.declared.lab_line.CrashTear.{CrashTear}
@@ -67,6 +67,9 @@ read_words : (said : List (List ℕ)) (line : Line) → LineWords line said → 
 read_words said (Hives count) ((number, e, d), least, most) =
     let some : nat_le 1 count ≡ true = grind (arith, nat_tests, least) in
     ap line_of_words e ∙ ap (option_and_then hives_of) (read_number MOST_HIVES number count d most) ∙ ap (λ test. cond test (Some (Hives count)) None) some
+read_words said (History limit) ((number, e, d), least, most) =
+    let some : nat_le 1 limit ≡ true = grind (arith, nat_tests, least) in
+    ap line_of_words e ∙ ap (option_and_then history_of) (read_number MOST_HISTORY number limit d most) ∙ ap (λ test. cond test (Some (History limit)) None) some
 read_words said (At moment) ((number, e, d), most) =
     let within : moment ≤ 2 ^ 64 - 1 = omega (arith, most) in
     ap line_of_words e ∙ ap (option_map (λ n. At n)) (read_number (2 ^ 64 - 1) number moment d within)
@@ -87,6 +90,7 @@ read_words said (Rollback label) (word, e, l) = ap line_of_words e ∙ ap (optio
 read_words said (Close label) (word, e, l) = ap line_of_words e ∙ ap (option_map (λ a. Close a)) (read_label word label l)
 read_words said (Outcome label) (word, e, l) = ap line_of_words e ∙ ap (option_map (λ a. Outcome a)) (read_label word label l)
 read_words said Flush e = ap line_of_words e
+read_words said Fold e = ap line_of_words e
 read_words said (Lab line) s = read_lab said line s
 
 -- a line by the grammar is parsed
@@ -107,6 +111,15 @@ of_hives args line e =
     let number = of_number (codes "hives") MOST_HIVES args word.0 count.0 word.1 count.1 in
     let least : 1 ≤ count.0 = grind (arith, nat_tests, made.0) in
     subst (λ l. LineWords l (codes "hives" ∷ args)) made.1 (number.0, least, number.1)
+
+of_history : (args : List (List ℕ)) (line : Line) → option_and_then history_line (one_of args) ≡ Some line → LineWords line (codes "history" ∷ args)
+of_history args line e =
+    let word = then_some history_line (one_of args) line e in
+    let limit = then_some history_of (number_of MOST_HISTORY word.0) line word.2 in
+    let made = cond_some (nat_le 1 limit.0) (History limit.0) line limit.2 in
+    let number = of_number (codes "history") MOST_HISTORY args word.0 limit.0 word.1 limit.1 in
+    let least : 1 ≤ limit.0 = grind (arith, nat_tests, made.0) in
+    subst (λ l. LineWords l (codes "history" ∷ args)) made.1 (number.0, least, number.1)
 
 of_at : (args : List (List ℕ)) (line : Line) → option_and_then at_line (one_of args) ≡ Some line → LineWords line (codes "at" ∷ args)
 of_at args line e =
@@ -231,11 +244,13 @@ parsed_transaction verb args line e =
 parsed_with : (verb : List ℕ) (args : List (List ℕ)) (line : Line) → line_with verb args ≡ Some line → LineWords line (verb ∷ args)
 parsed_with verb args line e =
     first_word LineWords verb (codes "hives") args line _ _ (of_hives args line)
+    (first_word LineWords verb (codes "history") args line _ _ (of_history args line)
     (first_word LineWords verb (codes "at") args line _ _ (of_at args line)
     (first_word LineWords verb (codes "session") args line _ _ (of_session (codes "session") (λ number. Session number) (λ number said h. h) args line)
     (first_word LineWords verb (codes "end") args line _ _ (of_session (codes "end") (λ number. End number) (λ number said h. h) args line)
     (first_word LineWords verb (codes "flush") args line _ _ (of_alone (codes "flush") Flush refl args line)
-    (parsed_transaction verb args line))))) e
+    (first_word LineWords verb (codes "fold") args line _ _ (of_alone (codes "fold") Fold refl args line)
+    (parsed_transaction verb args line))))))) e
 
 parsed_words : (said : List (List ℕ)) (line : Line) → line_of_words said ≡ Some line → LineWords line said
 parsed_words [] line e = absurd (none-some line e)

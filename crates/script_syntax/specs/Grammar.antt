@@ -5,14 +5,14 @@ use Rattle.std.specs.Char.{is_ascii_digit, is_ascii_alphanumeric}
 use Rattle.std.specs.Str.Parse.{digits_value}
 use Rattle.std.specs.Int.{from_be_bytes, w16}
 use Rattle.hex.specs.Hex.{decode_of, decode_sized}
-use Rattle.refusals.specs.declared.limits.TheConstants.{MOST_HIVES}
+use Rattle.refusals.specs.declared.limits.TheConstants.{MOST_HIVES, MOST_HISTORY}
 use Rattle.script_syntax.specs.Words.{words, uuid_of}
 use Rattle.script_syntax.specs.declared.label.TheConstants.{LONGEST_LABEL}
 use Rattle.script_syntax.specs.declared.line.KeyRef.{KeyRef}
 use Rattle.script_syntax.specs.declared.line.Request.{Request}
 use Rattle.script_syntax.specs.declared.line.Request.TheVariants.{Create, Delete, Set, Unset, Get, Keys, Values, Info}
 use Rattle.script_syntax.specs.declared.line.Line.{Line}
-use Rattle.script_syntax.specs.declared.line.Line.TheVariants.{Hives, At, Session, End, Plain, Begin, Inside, Commit, Rollback, Close, Outcome, Flush, Lab}
+use Rattle.script_syntax.specs.declared.line.Line.TheVariants.{Hives, History, At, Session, End, Plain, Begin, Inside, Commit, Rollback, Close, Outcome, Flush, Fold, Lab}
 use Rattle.script_syntax.specs.declared.lab_line.LabLine.{LabLine}
 use Rattle.script_syntax.specs.declared.lab_line.LabLine.TheVariants.{Accept, JournalStep, FlusherStep, TrimStep, FlushWhole, StopAt, FailAt, Crash}
 use Rattle.script_syntax.specs.declared.lab_line.CrashTear.{CrashTear}
@@ -115,6 +115,7 @@ LabLineWords (Crash tear) said = said ≡ codes "crash" ∷ tear_word tear ∷ [
 -- the words of a line, likewise; a request is alone, or after `tx` and a label
 abbrev pub LineWords : Line → List (List ℕ) → Type 0
 LineWords (Hives count) said = VerbAndNumber (codes "hives") count said × (1 ≤ count) × (count ≤ MOST_HIVES)
+LineWords (History limit) said = VerbAndNumber (codes "history") limit said × (1 ≤ limit) × (limit ≤ MOST_HISTORY)
 LineWords (At moment) said = VerbAndNumber (codes "at") moment said × (moment < 2 ^ 64)
 LineWords (Session number) said = VerbAndNumber (codes "session") number said × (number < 2 ^ 32)
 LineWords (End number) said = VerbAndNumber (codes "end") number said × (number < 2 ^ 32)
@@ -128,6 +129,7 @@ LineWords (Rollback label) said = VerbAndLabel (codes "rollback") label said
 LineWords (Close label) said = VerbAndLabel (codes "close") label said
 LineWords (Outcome label) said = VerbAndLabel (codes "outcome") label said
 LineWords Flush said = said ≡ codes "flush" ∷ []
+LineWords Fold said = said ≡ codes "fold" ∷ []
 LineWords (Lab line) said = LabLineWords line said
 
 -- bytes are a line if their parts between blanks are

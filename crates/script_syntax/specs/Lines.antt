@@ -7,11 +7,11 @@ use Rattle.script_syntax.specs.declared.line.KeyRef.{KeyRef}
 use Rattle.script_syntax.specs.declared.line.Request.{Request}
 use Rattle.script_syntax.specs.declared.line.Request.TheVariants.{Create, Delete, Set, Unset, Get, Keys, Values, Info}
 use Rattle.script_syntax.specs.declared.line.Line.{Line}
-use Rattle.script_syntax.specs.declared.line.Line.TheVariants.{Hives, At, Session, End, Plain, Begin, Inside, Commit, Rollback, Close, Outcome, Flush, Lab}
+use Rattle.script_syntax.specs.declared.line.Line.TheVariants.{Hives, History, At, Session, End, Plain, Begin, Inside, Commit, Rollback, Close, Outcome, Flush, Fold, Lab}
 use Rattle.script_syntax.specs.declared.lab_line.LabLine.TheVariants.{Accept, JournalStep, FlusherStep, TrimStep, FlushWhole, StopAt, FailAt, Crash}
 use Rattle.script_syntax.specs.declared.lab_line.CrashTear.{CrashTear}
 use Rattle.script_syntax.specs.declared.lab_line.CrashTear.TheVariants.{Old, New, Torn}
-use Rattle.refusals.specs.declared.limits.TheConstants.{MOST_HIVES}
+use Rattle.refusals.specs.declared.limits.TheConstants.{MOST_HIVES, MOST_HISTORY}
 
 -- the words after the first, if they are one, two or four
 abbrev pub one_of : List (List ℕ) → Option (List ℕ)
@@ -63,6 +63,13 @@ hives_of count = if nat_le 1 count then Some (Hives count) else None
 
 abbrev pub hives_line : List ℕ → Option Line
 hives_line count = option_and_then hives_of (number_of MOST_HIVES count)
+
+-- a history has room for at least one change
+abbrev pub history_of : ℕ → Option Line
+history_of limit = if nat_le 1 limit then Some (History limit) else None
+
+abbrev pub history_line : List ℕ → Option Line
+history_line limit = option_and_then history_of (number_of MOST_HISTORY limit)
 
 abbrev pub at_line : List ℕ → Option Line
 at_line moment = option_map (λ number. At number) (number_of (2 ^ 64 - 1) moment)
@@ -145,10 +152,12 @@ transaction_line verb args =
 abbrev pub line_with : List ℕ → List (List ℕ) → Option Line
 line_with verb args =
     if bytes_eq verb (codes "hives") then option_and_then hives_line (one_of args)
+    else if bytes_eq verb (codes "history") then option_and_then history_line (one_of args)
     else if bytes_eq verb (codes "at") then option_and_then at_line (one_of args)
     else if bytes_eq verb (codes "session") then option_and_then session_line (one_of args)
     else if bytes_eq verb (codes "end") then option_and_then end_line (one_of args)
     else if bytes_eq verb (codes "flush") then alone Flush args
+    else if bytes_eq verb (codes "fold") then alone Fold args
     else transaction_line verb args
 
 abbrev pub line_of_words : List (List ℕ) → Option Line

@@ -7,7 +7,7 @@ use Rattle.std.specs.Str.{bytes_eq}
 use Rattle.hex.specs.Hex.{encode_lower}
 use Rattle.refusals.specs.Refusals.{refusal_text}
 use Rattle.script_syntax.specs.declared.reply.ReplyLine.{ReplyLine}
-use Rattle.script_syntax.specs.declared.reply.ReplyLine.TheVariants.{Done, Created, CreatedInside, Opened, Accepted, Value, Keys, Values, Info, Committed, Flushed, StepIdle, StepMore, StepDone, StillActive, HasCommitted, RolledBack, Refused}
+use Rattle.script_syntax.specs.declared.reply.ReplyLine.TheVariants.{Done, Created, CreatedInside, Opened, Accepted, Value, Keys, Values, Info, Committed, Flushed, Folded, NotYet, StepIdle, StepMore, StepDone, StillActive, HasCommitted, RolledBack, Refused}
 
 -- a unit from 0x21 to 0x7e except `%` is written as itself; any other is `%` and four hex digits
 abbrev pub unit_text : ℕ → List ℕ
@@ -37,6 +37,8 @@ reply_text (Values names) = codes "values " ++ decimal (length names) ++ names_t
 reply_text (Info subkeys values time) = codes "info " ++ decimal subkeys ++ codes " " ++ decimal values ++ codes " " ++ decimal time
 reply_text (Committed number) = codes "committed " ++ decimal number
 reply_text (Flushed number) = codes "flushed " ++ decimal number
+reply_text (Folded number) = codes "folded " ++ decimal number
+reply_text NotYet = codes "notyet"
 reply_text StepIdle = codes "idle"
 reply_text StepMore = codes "more"
 reply_text StepDone = codes "done"

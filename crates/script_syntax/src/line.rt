@@ -109,6 +109,11 @@ pub enum Line {
         /// How many hives there are.
         count: u8,
     },
+    /// `history N`: the script's store accepts this many changes until its history is folded, 1 to 1,048,576.
+    History {
+        /// How many changes the history has at most.
+        limit: u64,
+    },
     /// `at M`: the moment of what follows.
     At {
         /// The moment.
@@ -165,6 +170,8 @@ pub enum Line {
     },
     /// `flush`: waits until every change accepted so far is durable.
     Flush,
+    /// `fold`: folds the history.
+    Fold,
     /// A line that only a laboratory takes.
     Lab {
         /// The line.

@@ -2,7 +2,7 @@
 ghost use Rattle.std.specs.Prelude.{◌≡◌};
 ghost use Rattle.std.specs.Option.{option_copied};
 ghost use Rattle.script_syntax.specs.Words.{parts_of};
-ghost use Rattle.script_syntax.specs.Lines.{line_of, hives_line, at_line, session_line, end_line, alone, begin_line, inside_line, label_in, transaction_line};
+ghost use Rattle.script_syntax.specs.Lines.{line_of, hives_line, history_line, at_line, session_line, end_line, alone, begin_line, inside_line, label_in, transaction_line};
 ghost use Rattle.script_syntax.specs.Reads.{Reads};
 
 use crate::lab_line_parser::step_line;
@@ -13,7 +13,7 @@ use crate::parse_error::ParseError;
 use crate::requests::request;
 use crate::word_parser::{label, small_number, uuid, whole_number};
 use crate::words::{first_word, next_word, one_word, two_words};
-use refusals::limits::MOST_HIVES;
+use refusals::limits::{MOST_HISTORY, MOST_HIVES};
 use std::alloc::Global;
 
 /// Parses one line, without the byte that ends it.
@@ -26,6 +26,8 @@ pub fn read_line(alloc: Global, bytes: &[u8]) -> Result<Line, ParseError>
     let (verb, rest) = first_word(bytes);
     if verb == b"hives".as_slice() {
         hives(one_word(rest)?)
+    } else if verb == b"history".as_slice() {
+        history(one_word(rest)?)
     } else if verb == b"at".as_slice() {
         at(one_word(rest)?)
     } else if verb == b"session".as_slice() {
@@ -34,6 +36,8 @@ pub fn read_line(alloc: Global, bytes: &[u8]) -> Result<Line, ParseError>
         end(one_word(rest)?)
     } else if verb == b"flush".as_slice() {
         alone(Line::Flush, rest)
+    } else if verb == b"fold".as_slice() {
+        alone(Line::Fold, rest)
     } else {
         transaction_line(alloc, verb, rest)
     }
@@ -70,6 +74,15 @@ fn hives(count: &[u8]) -> Result<Line, ParseError>
     match small_number(count, MOST_HIVES as u8)? {
         0 => Err(ParseError::NotUnderstood),
         count => Ok(Line::Hives { count }),
+    }
+}
+
+fn history(limit: &[u8]) -> Result<Line, ParseError>
+    ensures { Reads result (history_line limit.now) }
+{
+    match number(limit, MOST_HISTORY) {
+        None | Some(0) => Err(ParseError::NotUnderstood),
+        Some(limit) => Ok(Line::History { limit }),
     }
 }
 

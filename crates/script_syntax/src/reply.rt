@@ -70,6 +70,13 @@ pub enum ReplyLine {
         /// The number of the last change.
         number: u64,
     },
+    /// `folded N`: the history was folded.
+    Folded {
+        /// The number of the last change.
+        number: u64,
+    },
+    /// `notyet`: the history was not folded, because an accepted change is not durable yet.
+    NotYet,
     /// `idle`: a step had nothing to do.
     StepIdle,
     /// `more`: a step was made, and its work isn't done by it.
@@ -107,10 +114,12 @@ impl Drop for ReplyLine {
             } => {}
             ReplyLine::Accepted { number: _ }
             | ReplyLine::Committed { number: _ }
-            | ReplyLine::Flushed { number: _ } => {}
+            | ReplyLine::Flushed { number: _ }
+            | ReplyLine::Folded { number: _ } => {}
             ReplyLine::Refused { refusal: _ } => {}
             ReplyLine::Done
             | ReplyLine::Opened
+            | ReplyLine::NotYet
             | ReplyLine::StepIdle
             | ReplyLine::StepMore
             | ReplyLine::StepDone
@@ -145,6 +154,8 @@ impl ReplyLine {
             } => writeln!(writer, "info {subkeys} {values} {time}"),
             ReplyLine::Committed { number } => writeln!(writer, "committed {number}"),
             ReplyLine::Flushed { number } => writeln!(writer, "flushed {number}"),
+            ReplyLine::Folded { number } => writeln!(writer, "folded {number}"),
+            ReplyLine::NotYet => writeln!(writer, "notyet"),
             ReplyLine::StepIdle => writeln!(writer, "idle"),
             ReplyLine::StepMore => writeln!(writer, "more"),
             ReplyLine::StepDone => writeln!(writer, "done"),
