@@ -1,7 +1,8 @@
 -- What an opening of the store that is on a disk leaves, and a life of it.
 use Rattle.std.proofs.Common.{◌≡◌, ℕ, zero, suc, ◌-◌, take, List, [], ◌∷◌, refl, sym, subst, arith, Bool, true, false, length}
 use Rattle.script_runner.proofs.Later.{advances}
-use Rattle.store_model.specs.Machine.{Machine, bounds_of, opened_machine}
+use Rattle.refusals.specs.declared.limits.TheConstants.{MOST_HISTORY}
+use Rattle.store_model.specs.Machine.{Machine, bounds_of, opened_machine, with_history}
 use Rattle.store_model.specs.declared.event.Event.TheVariants as event
 use Rattle.store_model.specs.declared.event.Reply.TheVariants as reply
 use Rattle.reg_tree.specs.Maps.{TreeMap}
@@ -21,15 +22,15 @@ use Rattle.script_runner.specs.Running.{BeginsAt, LifeReaches, HasLived, IsOpene
 
 -- a machine that begins was reached from the one that was opened
 pub opened_came : (number room : ℕ) (trees : List TreeMap) (machine : Machine) → BeginsAt number trees room [] machine → ReachedFromOpening number trees machine
-opened_came number room trees machine begins = record { room = room; broken = false; events = []; replies = []; run = begins }
+opened_came number room trees machine begins = record { room = room; limit = MOST_HISTORY; broken = false; events = []; replies = []; run = begins }
 
 pub begun_came : (number room : ℕ) (trees : List TreeMap) (machine : Machine) → BeginsAt number trees room session_0 machine → ReachedFromOpening number trees machine
-begun_came number room trees machine begins = record { room = room; broken = false; events = event.StartSession 0 ∷ []; replies = reply.Done ∷ []; run = (machine, (refl, begins), refl) }
+begun_came number room trees machine begins = record { room = room; limit = MOST_HISTORY; broken = false; events = event.StartSession 0 ∷ []; replies = reply.Done ∷ []; run = (machine, (refl, begins), refl) }
 
 pub came_on : (number : ℕ) (trees : List TreeMap) (old new : Machine) → ReachedFromOpening number trees old → ReachedByEvents old new → ReachedFromOpening number trees new
 came_on number trees old new came later =
-    let all = advances (record (opened_machine (bounds_of trees) trees number [] 0) { room = came.room; faulted = came.broken }) old new (came.events, came.replies, came.run) later in
-    record { room = came.room; broken = came.broken; events = all.0; replies = all.1; run = all.2 }
+    let all = advances (with_history came.limit (record (opened_machine (bounds_of trees) trees number [] 0) { room = came.room; faulted = came.broken })) old new (came.events, came.replies, came.run) later in
+    record { room = came.room; limit = came.limit; broken = came.broken; events = all.0; replies = all.1; run = all.2 }
 
 -- what an opening that was refused leaves
 pub left_unopened : (failed faithful : Type 0) (state end : ℕ → FileState) → (faithful → (f : ℕ) → IsSyncedOrSame (state f) (end f)) → LeavesLife failed faithful state end
@@ -53,7 +54,7 @@ pub found_lives : (failed : Type 0) (broken : Bool) (store : Store) (number : �
     → (broken ≡ false → ReadsSafely store.hives end) → (broken ≡ true → failed) → HasLived failed store number trees end
 found_lives failed broken store number trees end many recovered reads why = (
   machine,
-  record { room = 0; broken = broken; events = []; replies = []; run = refl },
+  record { room = 0; limit = MOST_HISTORY; broken = broken; events = []; replies = []; run = refl },
   record {
     safe = λ files left.
         let r = recovered files (subst (λ n. LeavesHonest (IsPrimaryOf n) end files) many left) in (

@@ -4,21 +4,21 @@ use Rattle.std.specs.Prelude.{IfOk}
 use Rattle.std.specs.Io.KnownBytes.{Appends, Keeps}
 use Rattle.script_syntax.specs.Replies.{reply_line}
 use Rattle.script_syntax.proofs.Written.{appends_more}
-use Rattle.script_syntax.specs.declared.line.Line.{Line}
 use Rattle.script_syntax.specs.declared.reply.ReplyLine.{ReplyLine}
 use Rattle.script_syntax.specs.declared.reply.ReplyLine.TheVariants as reply
 use Rattle.script_syntax.specs.Statuses.{with_refusal}
-use Rattle.script_runner.specs.Scripts.{Script, Answers, fresh_script, hives_asked, line_asked}
-use Rattle.script_runner.specs.Plays.{lines_of, AreFirst, AreReadOf, WereRead, wrong_text, Ends, KeepsUpBetweenLines, MayReply, PlaysOn, IsPlayed, IsPlayedOn, is_refusal}
+use Rattle.script_runner.specs.Scripts.{Script, fresh_script, limited, hives_asked, history_asked, line_asked}
+use Rattle.script_runner.specs.Plays.{lines_of, AreFirst, AreReadOf, WereRead, wrong_text, Ends, KeepsUpBetweenLines, MayReply, PlaysOverNew, IsPlayed, IsPlayedOn, IsPlayedOverNew}
 use Rattle.script_runner.specs.Faults.{is_device_reply}
-use Rattle.script_runner.specs.OutcomeOfLine.{IsPlayedTo, TakesLine, OutcomeOfLine}
+use Rattle.script_runner.specs.OutcomeOfLine.{AnswerOfLine, IsPlayedTo, TakesLine, OutcomeOfLine}
 use Rattle.script_runner.specs.declared.background_work.FlushPolicy.{FlushPolicy}
 use Rattle.script_runner.specs.declared.background_work.FlushPolicy.TheVariants.{OnRequest, WhenHalfFull}
 use Rattle.script_runner.specs.declared.end_of_script.EndOfScript.{EndOfScript}
 use Rattle.script_runner.specs.declared.end_of_script.EndOfScript.TheVariants.{Ended, Broken, OutOfMemory}
 use Rattle.script_syntax.specs.declared.status.Status.{Status}
 use Rattle.script_syntax.specs.declared.status.Status.TheVariants.{Clean, Refused, Wrong}
-use Rattle.script_runner.specs.declared.runner.LineOutcome.TheVariants.{Replied}
+use Rattle.script_runner.specs.declared.runner.LineOutcome.{LineOutcome}
+use Rattle.script_runner.specs.declared.runner.LineOutcome.TheVariants.{Replied, Over}
 
 -- a write, and nothing more
 pub appends_kept : (old mid new : Option (List ℕ)) (text : List ℕ) → Appends old mid text → Keeps mid new → Appends old new text
@@ -74,13 +74,6 @@ pub stops_wrong : (policy : FlushPolicy) (old new : Script) (number : ℕ) (know
 stops_wrong policy old new number known rest before after line status taken none wrong written same =
     (line ∷ [], None, wrong_text number, one_read known rest line taken, inl (none, record { last = refl; stopped = refl; printed = refl; wrong = wrong }, same), written)
 
--- a line was answered, after what was written out
-pub turned : (policy : FlushPolicy) (old new : Script) (number : ℕ) (known rest before mid after : Option (List ℕ)) (line : List ℕ) (asked : Line) (reported : ReplyLine) (refused : Bool)
-    → TakesLine known rest line → line_asked line ≡ Some asked → Answers old asked reported new → Keeps before mid → Appends mid after (reply_line reported) → refused ≡ is_refusal reported → MayReply policy reported
-    → OutcomeOfLine policy old number known before (Replied refused) new rest after
-turned policy old new number known rest before mid after line asked reported refused taken is answered no_change written said may =
-    (line, asked, reported, taken, is, answered, kept_appends before mid after (reply_line reported) no_change written, said, may)
-
 -- there is no further line
 pub ends_here : (policy : FlushPolicy) (old new : Script) (number : ℕ) (known before after : Option (List ℕ)) (end_of_script : EndOfScript) (text : List ℕ) (status : Status) → WereRead known [] (Some end_of_script) → Ends end_of_script text status → Appends before after text → new ≡ old → IsPlayedOn policy old number known before after status new
 ends_here policy old new number known before after end_of_script text status read how written same = ([], Some end_of_script, text, read, (how, same), written)
@@ -131,15 +124,70 @@ is_end e = cc
 pub broken_is_no_end : Broken ≡ Ended → ⊥
 broken_is_no_end e = cc
 
--- a first line that says how many hives there are
-pub begins : (known rest before mid after : Option (List ℕ)) (line : List ℕ) (hives : ℕ) (old end : Script) (status : Status) → TakesLine known rest line → hives_asked line ≡ Some hives → old ≡ fresh_script hives → Appends before mid (reply_line reply.Done) → IsPlayedOn OnRequest old 2 rest mid after status end → IsPlayed known before after status
-begins known rest before mid after line hives old end status taken asked fresh written on = (
+-- what was answered to a line that was read, or how it ended the run
+pub taken_so : (policy : FlushPolicy) (old new : Script) (number : ℕ) (known rest before after : Option (List ℕ)) (line : List ℕ) (outcome : LineOutcome) → TakesLine known rest line → AnswerOfLine policy old number line before outcome new after → OutcomeOfLine policy old number known before outcome new rest after
+taken_so policy old new number known rest before after line (Over status) taken (inl stops) =
+    to_end policy old new number known before after status (stops_wrong policy old new number known rest before after line status taken stops.0 stops.1 stops.2 stops.3)
+taken_so policy old new number known rest before after line (Over status) taken (inr stops) =
+    (old, ends_here policy old old number known before after OutOfMemory stops.0 status (none_read known OutOfMemory is_end) stops.1 stops.2 refl, stops.3)
+taken_so policy old new number known rest before after line (Replied refused) taken told = (line, told.0, told.1, taken, told.2, told.3, told.4, told.5, told.6)
+
+-- a script's second line
+
+-- a line that `history` is
+pub limits : (old end : Script) (known rest before mid after : Option (List ℕ)) (line : List ℕ) (limit : ℕ) (status : Status) → TakesLine known rest line → history_asked line ≡ Some limit → Appends before mid (reply_line reply.Done) → IsPlayedOn OnRequest (limited limit old) 3 rest mid after status end → IsPlayedOverNew old known before after status
+limits old end known rest before mid after line limit status taken asked written on = (
   line ∷ on.0,
   on.1,
   reply_line reply.Done ++ on.2,
+  end,
   more_read known rest line on.0 on.1 taken on.3,
-  inr (hives, on.2, end, asked, subst (λ script. PlaysOn (MayReply OnRequest) OnRequest script 2 on.0 on.1 on.2 status end) fresh on.4, refl),
+  inr (limit, on.2, asked, on.4, refl),
   appends_more before mid after (reply_line reply.Done) on.2 written on.5,
+)
+
+or_false : (b : Bool) → b ≡ b || false
+or_false true = refl
+or_false false = refl
+
+-- a store in memory makes no step between lines
+idle : (script : Script) → KeepsUpBetweenLines OnRequest script script
+idle script = (None, (refl, refl), ap (λ b. record script { failed = b }) (or_false script.failed))
+
+-- any other that is answered
+pub second_answered : (old new end : Script) (known rest before mid after : Option (List ℕ)) (line : List ℕ) (refused : Bool) (status : Status)
+    → TakesLine known rest line → history_asked line ≡ None → AnswerOfLine OnRequest old 2 line before (Replied refused) new mid → IsPlayedOn OnRequest new 3 rest mid after status end
+    → IsPlayedOverNew old known before after (with_refusal refused status)
+second_answered old new end known rest before mid after line refused status taken other told on =
+    let reported = told.1 in (
+      line ∷ on.0,
+      on.1,
+      reply_line reported ++ on.2,
+      end,
+      more_read known rest line on.0 on.1 taken on.3,
+      inl (other, inr (told.0, reported, new, new, on.2, status, told.2, told.3, told.6, idle new, on.4, refl, ap (λ b. with_refusal b status) told.5)),
+      appends_more before mid after (reply_line reported) on.2 told.4 on.5,
+    )
+
+-- and one that ends the run
+pub second_ends : (old new : Script) (known rest before after : Option (List ℕ)) (line : List ℕ) (status : Status) → TakesLine known rest line → history_asked line ≡ None → AnswerOfLine OnRequest old 2 line before (Over status) new after → IsPlayedOverNew old known before after status
+second_ends old new known rest before after line status taken other (inl stops) =
+    (line ∷ [], None, wrong_text 2, old, one_read known rest line taken, inl (other, inl (stops.0, record { last = refl; stopped = refl; printed = refl; wrong = stops.1 }, refl)), stops.2)
+second_ends old new known rest before after line status taken other (inr stops) = ([], Some OutOfMemory, stops.0, old, none_read known OutOfMemory is_end, (stops.1, refl), stops.2)
+
+-- there is none
+pub no_second : (old : Script) (known before after : Option (List ℕ)) (end_of_script : EndOfScript) (text : List ℕ) (status : Status) → WereRead known [] (Some end_of_script) → Ends end_of_script text status → Appends before after text → IsPlayedOverNew old known before after status
+no_second old known before after end_of_script text status read how written = ([], Some end_of_script, text, old, read, (how, refl), written)
+
+-- a first line that says how many hives there are
+pub begins : (known rest before mid after : Option (List ℕ)) (line : List ℕ) (hives : ℕ) (old : Script) (status : Status) → TakesLine known rest line → hives_asked line ≡ Some hives → old ≡ fresh_script hives → Appends before mid (reply_line reply.Done) → IsPlayedOverNew old rest mid after status → IsPlayed known before after status
+begins known rest before mid after line hives old status taken asked fresh written on = (
+  line ∷ on.0,
+  on.1,
+  reply_line reply.Done ++ on.2,
+  more_read known rest line on.0 on.1 taken on.4,
+  inr (hives, on.2, on.3, asked, subst (λ script. PlaysOverNew script on.0 on.1 on.2 status on.3) fresh on.5, refl),
+  appends_more before mid after (reply_line reply.Done) on.2 written on.6,
 )
 
 -- a first line that is none

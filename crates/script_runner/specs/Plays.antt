@@ -9,7 +9,7 @@ use Rattle.script_syntax.specs.Replies.{reply_line}
 use Rattle.script_syntax.specs.declared.line.Line.{Line}
 use Rattle.script_syntax.specs.declared.reply.ReplyLine.{ReplyLine}
 use Rattle.script_syntax.specs.declared.reply.ReplyLine.TheVariants as reply
-use Rattle.script_runner.specs.Scripts.{Script, Answers, fresh_script, hives_asked, line_asked}
+use Rattle.script_runner.specs.Scripts.{Script, Answers, fresh_script, limited, hives_asked, history_asked, line_asked}
 use Rattle.script_runner.specs.Faults.{is_device_reply}
 use Rattle.script_runner.specs.Work.{WorksBetweenLines, is_fault}
 use Rattle.script_runner.specs.declared.background_work.FlushPolicy.{FlushPolicy}
@@ -92,6 +92,15 @@ PlaysOn may policy old number (line ∷ lines) end_of_script text status end =
     × may reported × KeepsUpBetweenLines policy new kept × PlaysOn may policy kept (number + 1) lines end_of_script rest later end × (text ≡ reply_line reported ++ rest)
     × (status ≡ with_refusal (is_refusal reported) later))
 
+-- A script over its new store, from line 2 on. If that line is `history`, it is answered `ok`, and says how many changes
+-- the store accepts until its history is folded. Any other is answered as those after it.
+abbrev pub PlaysOverNew : Script → List (List ℕ) → Option EndOfScript → List ℕ → Status → Script → Type 0
+PlaysOverNew old [] end_of_script text status end = PlaysOn (MayReply OnRequest) OnRequest old 2 [] end_of_script text status end
+PlaysOverNew old (line ∷ lines) end_of_script text status end =
+    ((history_asked line ≡ None) × PlaysOn (MayReply OnRequest) OnRequest old 2 (line ∷ lines) end_of_script text status end)
+    ⊎ ((limit : ℕ) × (rest : List ℕ) × (history_asked line ≡ Some limit) × PlaysOn (MayReply OnRequest) OnRequest (limited limit old) 3 lines end_of_script rest status end
+    × (text ≡ reply_line reply.Done ++ rest))
+
 -- the first line says how many hives there are; a script without a line is wrong at line 1
 abbrev pub Plays : List (List ℕ) → Option EndOfScript → List ℕ → Status → Type 0
 Plays [] (Some Ended) text status = (text ≡ wrong_text 1) × (status ≡ Wrong)
@@ -100,13 +109,19 @@ Plays [] (Some OutOfMemory) text status = Ends OutOfMemory text status
 Plays [] None text status = ⊥
 Plays (line ∷ lines) end_of_script text status =
     ((hives_asked line ≡ None) × IsWrong 1 lines end_of_script text status)
-    ⊎ ((hives : ℕ) × (rest : List ℕ) × (end : Script) × (hives_asked line ≡ Some hives) × PlaysOn (MayReply OnRequest) OnRequest (fresh_script hives) 2 lines end_of_script rest status end
+    ⊎ ((hives : ℕ) × (rest : List ℕ) × (end : Script) × (hives_asked line ≡ Some hives) × PlaysOverNew (fresh_script hives) lines end_of_script rest status end
     × (text ≡ reply_line reply.Done ++ rest))
 
 -- some lines were read, and what was written is what they print
 abbrev pub IsPlayed : Option (List ℕ) → Option (List ℕ) → Option (List ℕ) → Status → Type 0
 IsPlayed known before after status =
     (lines : List (List ℕ)) × (end_of_script : Option EndOfScript) × (text : List ℕ) × WereRead known lines end_of_script × Plays lines end_of_script text status × Appends before after text
+
+-- the same from line 2 on, over a new store
+abbrev pub IsPlayedOverNew : Script → Option (List ℕ) → Option (List ℕ) → Option (List ℕ) → Status → Type 0
+IsPlayedOverNew old known before after status =
+    (lines : List (List ℕ)) × (end_of_script : Option EndOfScript) × (text : List ℕ) × (end : Script) × WereRead known lines end_of_script × PlaysOverNew old lines end_of_script text status end
+    × Appends before after text
 
 -- the same from a script's later line on, over a store that works by this policy; it leaves the script so
 abbrev pub IsPlayedOn : FlushPolicy → Script → ℕ → Option (List ℕ) → Option (List ℕ) → Option (List ℕ) → Status → Script → Type 0

@@ -4,10 +4,10 @@ use Rattle.refusals.specs.declared.refusal.Refusal.{Refusal}
 use Rattle.refusals.specs.declared.refusal.Refusal.TheVariants.{NoMemory, NoSuchHandle}
 use Rattle.script_syntax.specs.Lines.{line_of}
 use Rattle.script_syntax.specs.declared.line.Line.{Line}
-use Rattle.script_syntax.specs.declared.line.Line.TheVariants.{Hives, At, Session, End, Plain, Begin, Inside, Commit, Rollback, Close, Outcome, Flush, Lab}
+use Rattle.script_syntax.specs.declared.line.Line.TheVariants.{Hives, History, At, Session, End, Plain, Begin, Inside, Commit, Rollback, Close, Outcome, Flush, Fold, Lab}
 use Rattle.script_syntax.specs.declared.reply.ReplyLine.{ReplyLine}
 use Rattle.script_syntax.specs.declared.reply.ReplyLine.TheVariants as reply
-use Rattle.store_model.specs.Machine.{Machine, bounds_for, fresh_machine}
+use Rattle.store_model.specs.Machine.{Machine, bounds_for, fresh_machine, with_history}
 use Rattle.store_model.specs.Steps.{Step, with_session}
 use Rattle.store_model.specs.declared.handle.Tx.{Tx}
 use Rattle.store_model.specs.declared.handle.Outcome.{Outcome as TxOutcome}
@@ -42,6 +42,10 @@ script_at machine = record { machine = machine; moment = 0; session = 0; labels 
 -- a script that has made its store, of `hives` new hives: session 0 is open
 abbrev pub fresh_script : ℕ → Script
 fresh_script hives = script_at (with_session (fresh_machine (bounds_for hives)) 0)
+
+-- the script over a store whose history may have this many changes
+abbrev pub limited : ℕ → Script → Script
+limited limit script = record script { machine = with_history limit script.machine }
 
 -- the result of a read as a reply; no line asks for a subkey by its index
 abbrev pub found_reply : ReadResult → ReplyLine
@@ -85,7 +89,8 @@ reply_of (answer.OutcomeIs outcome) = outcome_reply outcome
 reply_of (answer.Refused refusal) = reply.Refused refusal
 reply_of (answer.Awaits number) = reply.Accepted number
 reply_of (answer.Receipt number) = reply.Done
-reply_of answer.NotYet = reply.Done
+reply_of answer.NotYet = reply.NotYet
+reply_of (answer.Folded number) = reply.Folded number
 reply_of (answer.Stepped progress) = step_reply progress
 
 -- the machine is asked one event, and its answer is the reply; nothing else of the script changes
@@ -170,6 +175,7 @@ BeginsNothing old id reported new =
 -- name; then its label.
 abbrev pub Answers : Script → Line → ReplyLine → Script → Type 0
 Answers old (Hives count) reported new = ⊥
+Answers old (History limit) reported new = ⊥
 Answers old (At moment) reported new = (reported ≡ reply.Done) × (new ≡ record old { moment = moment })
 Answers old (Session number) reported new = Enters old number reported new ⊎ IsRefusedBy old (event.StartSession number) reported new
 Answers old (End number) reported new = Asks old (event.EndSession number) reported new
@@ -184,12 +190,14 @@ Answers old (Rollback label) reported new = IsLabelled (old.labels label) (λ tx
 Answers old (Close label) reported new = IsLabelled (old.labels label) (λ tx. Asks old (event.Close old.session tx) reported new) old reported new
 Answers old (Outcome label) reported new = IsLabelled (old.labels label) (λ tx. Asks old (event.Outcome old.session tx) reported new) old reported new
 Answers old Flush reported new = AsksAndWaits old event.FlushAsk reply.Flushed reported new
+Answers old Fold reported new = Asks old event.Fold reported new
 Answers old (Lab line) reported new = ⊥
 
 -- `hives` is the first line and no other
 abbrev pub first_line : Option Line → Option ℕ
 first_line None = None
 first_line (Some (Hives count)) = Some count
+first_line (Some (History limit)) = None
 first_line (Some (At moment)) = None
 first_line (Some (Session number)) = None
 first_line (Some (End number)) = None
@@ -201,12 +209,19 @@ first_line (Some (Rollback label)) = None
 first_line (Some (Close label)) = None
 first_line (Some (Outcome label)) = None
 first_line (Some Flush) = None
+first_line (Some Fold) = None
 first_line (Some (Lab line)) = None
+
+-- `history` is the line after that and no other
+abbrev pub second_line : Option Line → Option ℕ
+second_line (Some (History limit)) = Some limit
+second_line _ = None
 
 -- a line that only a laboratory takes is none here
 abbrev pub later_line : Option Line → Option Line
 later_line None = None
 later_line (Some (Hives count)) = None
+later_line (Some (History limit)) = None
 later_line (Some (At moment)) = Some (At moment)
 later_line (Some (Session number)) = Some (Session number)
 later_line (Some (End number)) = Some (End number)
@@ -218,11 +233,16 @@ later_line (Some (Rollback label)) = Some (Rollback label)
 later_line (Some (Close label)) = Some (Close label)
 later_line (Some (Outcome label)) = Some (Outcome label)
 later_line (Some Flush) = Some Flush
+later_line (Some Fold) = Some Fold
 later_line (Some (Lab line)) = None
 
 -- how many hives the bytes of a script's first line ask for
 abbrev pub hives_asked : List ℕ → Option ℕ
 hives_asked bytes = first_line (line_of bytes)
+
+-- how many changes the bytes of a script's second line let its history have, if they are `history`
+abbrev pub history_asked : List ℕ → Option ℕ
+history_asked bytes = second_line (line_of bytes)
 
 -- the line of the bytes of any further line
 abbrev pub line_asked : List ℕ → Option Line

@@ -1,9 +1,10 @@
 //! A script over a store, asked line by line.
-ghost use Rattle.std.specs.Prelude.{◌≡◌, ℕ, Some, None, MatchOption, IfOk, IfSome, IfNone, IfErr, OnErr};
+ghost use Rattle.std.specs.Prelude.{◌≡◌, ◌≤◌, ℕ, Some, None, MatchOption, IfOk, IfSome, IfNone, IfErr, OnErr, length};
+ghost use Rattle.store_model.specs.Machine.{with_history};
 ghost use Rattle.store_model.specs.Steps.{Step};
 ghost use Rattle.script_syntax.specs.declared.line.Line.{Line as AnyLine};
 ghost use Rattle.script_syntax.specs.declared.reply.ReplyLine.{ReplyLine as AnyReplyLine};
-ghost use Rattle.script_runner.specs.Scripts.{Asks, Answers, AsksAndWaits, event_alone, event_inside, later_line, line_asked, script_at};
+ghost use Rattle.script_runner.specs.Scripts.{Asks, Answers, AsksAndWaits, event_alone, event_inside, later_line, limited, line_asked, script_at};
 ghost use Rattle.script_runner.specs.Later.{IsLater};
 ghost use Rattle.script_runner.specs.Interpreters.{engine_of, script_of, reply_by};
 ghost use Rattle.script_runner.specs.Plays.{KeepsUpBetweenLines};
@@ -13,6 +14,7 @@ mod single_steps;
 use crate::background_work::{FlushPolicy, frees_room, is_fault, work_between_lines};
 use crate::durable_wait::wait;
 use crate::engine_call::ask;
+use crate::history_limit::HistoryLimit;
 use crate::labels::Labels;
 use crate::operation::{Operation, operation_of};
 use crate::replies::reply_of;
@@ -60,6 +62,18 @@ impl<D: Disk> Interpreter<D> {
             labels: Labels::new(alloc),
             failed: false,
         }
+    }
+
+    /// Sets how many changes the store accepts until its history is folded: not fewer than the history has.
+    pub fn limit_history(&mut self, limit: HistoryLimit)
+        requires { length (engine_of self.old).machine.accepted ≤ limit }
+        ensures script { script_of self.new ≡ limited limit (script_of self.old) }
+        ensures engine { engine_of self.new ≡ record (engine_of self.old) {
+          machine = with_history limit (engine_of self.old).machine;
+          prepared = None;
+        } }
+    {
+        self.engine.limit_history(limit.changes());
     }
 
     /// What the store does between two lines, by this policy. If the device failed in it, that is kept for the end.
@@ -125,7 +139,7 @@ impl<D: Disk> Interpreter<D> {
         }
     }
 
-    /// Answers a line of the script, or `None` if it is a script's first line or one that only a laboratory takes.
+    /// Answers a line of the script, or `None` if it is `hives`, `history`, or a line that only a laboratory takes.
     pub fn answer(&mut self, alloc: Global, line: Line) -> Option<ReplyLine>
         ensures reported { MatchOption result ((later_line (Some line) ≡ None) × (self.new ≡ self.old))
             (λ reported. (later_line (Some line) ≡ Some line)
@@ -133,7 +147,7 @@ impl<D: Disk> Interpreter<D> {
         ensures later { IsLater D.faithful D.failures (engine_of self.old) (engine_of self.new) }
     {
         let reported = match line {
-            Line::Hives { .. } | Line::Lab { .. } => return None,
+            Line::Hives { .. } | Line::History { .. } | Line::Lab { .. } => return None,
             Line::At { moment } => {
                 self.moment = moment;
                 Ok(ReplyLine::Done)
@@ -148,6 +162,7 @@ impl<D: Disk> Interpreter<D> {
             Line::Close { label } => self.close(label),
             Line::Outcome { label } => self.outcome(label),
             Line::Flush => Ok(self.flush()),
+            Line::Fold => Ok(self.ask(Event::Fold)),
         };
         match reported {
             Ok(reported) => Some(reported),

@@ -5,7 +5,8 @@
 //! which knows no bytes. `specs/Scripts` states what a line asks of the machine, and `specs/Plays` states the text.
 //!
 //! The parts of a run are public, for other kinds of runs. [`begin_on`] makes the store that a script's first line asks
-//! for, on a disk in memory that fails as a plan says. [`open_store`] opens the store that is on a disk, and
+//! for, on a disk in memory that fails as a plan says. [`read_history_limit`] parses its second line, if that is `history`.
+//! [`open_store`] opens the store that is on a disk, and
 //! [`open_engine`] does so without a session. An [`Interpreter`] answers one line after another. [`next_line`], [`end`]
 //! and [`wrong`] read a script's lines and report how they end.
 #![tactic(auto)]
@@ -14,6 +15,7 @@ mod background_work;
 mod durable_wait;
 mod end_of_script;
 mod engine_call;
+mod history_limit;
 mod interpreter;
 mod labels;
 mod operation;
@@ -28,6 +30,7 @@ pub use background_work::{
 pub use durable_wait::wait;
 pub use end_of_script::EndOfScript;
 pub use engine_call::ask;
+pub use history_limit::{HistoryLimit, read_history_limit};
 pub use interpreter::Interpreter;
 pub use labels::Labels;
 pub use operation::{Operation, operation_of};

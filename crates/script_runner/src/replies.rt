@@ -22,9 +22,9 @@ pub fn reply_of(answer: Reply) -> ReplyLine
         Reply::Refused { refusal } => ReplyLine::Refused { refusal },
         Reply::Awaits { number } => ReplyLine::Accepted { number },
         Reply::Stepped { progress } => step_reply(progress),
-        Reply::Done | Reply::Begun { .. } | Reply::Receipt { .. } | Reply::NotYet => {
-            ReplyLine::Done
-        }
+        Reply::Folded { number } => ReplyLine::Folded { number },
+        Reply::NotYet => ReplyLine::NotYet,
+        Reply::Done | Reply::Begun { .. } | Reply::Receipt { .. } => ReplyLine::Done,
     }
 }
 

@@ -3,13 +3,14 @@ ghost use Rattle.std.specs.Prelude.{◌≡◌, ℕ, List, [], ◌++◌, ◌∷�
 ghost use Rattle.std.specs.Io.KnownBytes.{Appends, Keeps};
 ghost use Rattle.std.specs.Io.BufRead.{strip_last};
 ghost use Rattle.script_syntax.specs.Replies.{reply_line};
-ghost use Rattle.script_runner.specs.Plays.{Ends, KeepsUpBetweenLines, WereRead, IsPlayed, is_refusal, wrong_text};
+ghost use Rattle.script_runner.specs.Plays.{Ends, KeepsUpBetweenLines, WereRead, IsPlayed, IsPlayedOverNew, is_refusal, wrong_text};
 ghost use Rattle.script_runner.specs.Later.{IsLater};
 ghost use Rattle.script_runner.specs.Interpreters.{engine_of, script_of};
-ghost use Rattle.script_runner.specs.OutcomeOfLine.{IsPlayedTo, TakesLine, OutcomeOfLine};
+ghost use Rattle.script_runner.specs.OutcomeOfLine.{AnswerOfLine, IsPlayedTo, TakesLine, OutcomeOfLine};
 
 use crate::background_work::FlushPolicy;
 use crate::end_of_script::EndOfScript;
+use crate::history_limit::read_history_limit;
 use crate::interpreter::Interpreter;
 use crate::replies::is_device_reply;
 use crate::store_setup::begin;
@@ -78,17 +79,42 @@ fn run<R: BufRead, W: Write>(alloc: Global, reader: &mut R, writer: &mut W) -> i
         Ok(Some(engine)) => {
             let mut interpreter = Interpreter::new(alloc, engine);
             ReplyLine::Done.write(writer)?;
-            go_on(
-                alloc,
-                &mut interpreter,
-                FlushPolicy::OnRequest,
-                2,
-                reader,
-                &mut line,
-                writer,
-            )
+            run_over_new(alloc, &mut interpreter, reader, &mut line, writer)
         }
         Ok(None) => wrong(writer, 1),
+        Err(AllocError) => end(writer, EndOfScript::OutOfMemory),
+    }
+}
+
+// runs the script of a new store from its second line on, which may be `history`
+fn run_over_new<D: Disk, R: BufRead, W: Write>(
+    alloc: Global,
+    interpreter: &mut Interpreter<D>,
+    reader: &mut R,
+    line: &mut Vec<u8>,
+    writer: &mut W,
+) -> io::Result<Status>
+    requires { (script_of interpreter.old).machine.accepted ≡ [] }
+    ensures { IfOk result (λ status. IsPlayedOverNew (script_of interpreter.old)
+        (R.remaining reader.old) (W.contents writer.old) (W.contents writer.new) status) }
+{
+    let policy = FlushPolicy::OnRequest;
+    if let Err(end_of_script) = next_line(reader, line) {
+        return end(writer, end_of_script);
+    }
+    match read_history_limit(alloc, line) {
+        Ok(Some(limit)) => {
+            interpreter.limit_history(limit);
+            ReplyLine::Done.write(writer)?;
+            go_on(alloc, interpreter, policy, 3, reader, line, writer)
+        }
+        Ok(None) => match answer_line(alloc, interpreter, policy, line, writer, 2)? {
+            LineOutcome::Replied { is_refusal } => {
+                let status = go_on(alloc, interpreter, policy, 3, reader, line, writer)?;
+                Ok(status.after(is_refusal))
+            }
+            LineOutcome::Over { status } => Ok(status),
+        },
         Err(AllocError) => end(writer, EndOfScript::OutOfMemory),
     }
 }
@@ -182,6 +208,22 @@ fn take_line<D: Disk, R: BufRead, W: Write>(
         let status = end(writer, end_of_script)?;
         return Ok(LineOutcome::Over { status });
     }
+    answer_line(alloc, interpreter, policy, line, writer, number)
+}
+
+// answers the line of this number, which was read, and writes the reply
+fn answer_line<D: Disk, W: Write>(
+    alloc: Global,
+    interpreter: &mut Interpreter<D>,
+    policy: FlushPolicy,
+    line: &[u8],
+    writer: &mut W,
+    number: u64,
+) -> io::Result<LineOutcome>
+    ensures reported { IfOk result (λ reported. AnswerOfLine policy (script_of interpreter.old) number line.now
+        (W.contents writer.old) reported (script_of interpreter.new) (W.contents writer.new)) }
+    ensures later { IsLater D.faithful D.failures (engine_of interpreter.old) (engine_of interpreter.new) }
+{
     let waits = policy.waits_at(line);
     write_out(writer, waits)?;
     match interpreter.reply_to(alloc, line) {

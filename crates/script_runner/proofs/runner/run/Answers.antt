@@ -5,11 +5,9 @@ use Rattle.script_runner.specs.Scripts.{hives_asked, script_at}
 use Rattle.store_model.specs.Machine.{bounds_for, fresh_machine}
 use Rattle.store_model.specs.Steps.{with_session}
 use Rattle.script_runner.specs.Interpreters.{script_of}
-use Rattle.script_runner.specs.Plays.{Ends, IsPlayed, wrong_text}
-use Rattle.script_runner.specs.OutcomeOfLine.{IsPlayedTo}
+use Rattle.script_runner.specs.Plays.{Ends, IsPlayed, IsPlayedOverNew, wrong_text}
 use Rattle.script_runner.specs.declared.end_of_script.EndOfScript.TheVariants.{OutOfMemory}
 use Rattle.script_syntax.specs.declared.status.Status.TheVariants.{Wrong}
-use Rattle.script_runner.specs.declared.background_work.FlushPolicy.TheVariants.{OnRequest}
 use Rattle.script_runner.proofs.Runs.{begins, begins_wrong, begins_without_memory, if_ok}
 use Rattle.script_runner.proofs.runner.run.Goals as goal
 
@@ -19,12 +17,12 @@ returns-in-Ok-Some g c =
     let rest = g.R.Read.remaining c.next_line.new.reader in
     let before = g.W.Write.contents c.args.writer.now in
     let mid = g.W.Write.contents c.write.new.writer in
-    let after = g.W.Write.contents c.go_on.new.writer in
+    let after = g.W.Write.contents c.run_over_new.new.writer in
     let some = subst (λ made. IfSome made (λ engine. (hives : ℕ) × (hives_asked c.deref.result.now ≡ Some hives) × (engine.machine ≡ with_session (fresh_machine (bounds_for hives)) 0))) c.in-Ok-Some.field-0-is c.in-Ok-Some.ensures.some in
     let old = script_of c.new-interpreter.result in
-    if_ok (λ status. IsPlayedTo OnRequest old 2 rest mid after status (script_of c.go_on.new.interpreter)) (IsPlayed known before after) c.go_on.result
-    (λ status on. begins known rest before mid after c.next_line.new.line.items some.0 old on.0 status c.in-Ok.ensures.line (ap hives_asked (sym c.deref.ensures.value) ∙ some.1) (c.new-interpreter.ensures.script ∙ ap script_at some.2) c.in_ok-write-in-Ok-Some.ensures on.1)
-    c.go_on.ensures.played
+    if_ok (IsPlayedOverNew old rest mid after) (IsPlayed known before after) c.run_over_new.result
+    (λ status on. begins known rest before mid after c.next_line.new.line.items some.0 old status c.in-Ok.ensures.line (ap hives_asked (sym c.deref.ensures.value) ∙ some.1) (c.new-interpreter.ensures.script ∙ ap script_at some.2) c.in_ok-write-in-Ok-Some.ensures on)
+    c.run_over_new.ensures
 
 pub returns-in-Ok-None : goal.returns-in-Ok-None
 returns-in-Ok-None g c =
