@@ -3,7 +3,7 @@ use Rattle.std.specs.Prelude.{◌≡◌, ◌⊎◌, ℕ, ⊤}
 use Rattle.disk_model.specs.FileState.{FileState}
 use Rattle.disk_model.specs.Tear.{IsCrashOf}
 use Rattle.disk_model.specs.declared.tear.Tear.{Tear}
-use Rattle.store_model.specs.Machine.{Machine}
+use Rattle.store_model.specs.Machine.{Machine, with_history}
 use Rattle.recovery.specs.Recovered.{IsNoStore, seen_in}
 use Rattle.refusals.specs.declared.refusal.Refusal.{Refusal}
 use Rattle.refusals.specs.declared.refusal.Refusal.TheVariants.{NoMemory}
@@ -15,9 +15,11 @@ abbrev pub IsLeftBy : Tear → (ℕ → FileState) → (ℕ → FileState) → T
 IsLeftBy tear files left = (f : ℕ) → IsCrashOf tear (files f) (left f)
 
 -- The files that are left recover this number. The machine begins at it with the trees that the files recover, and with
--- the room that their journal takes.
-abbrev pub OpensAfterCrash : Tear → (ℕ → FileState) → ℕ → Machine → Type 0
-OpensAfterCrash tear files number machine = (left : ℕ → FileState) × IsLeftBy tear files left × ((store : Store) × IsOpenedOn ⊤ (seen_in left) store number session_0 machine)
+-- the room that their journal takes; and its history may have this many changes.
+abbrev pub OpensAfterCrash : Tear → (ℕ → FileState) → ℕ → ℕ → Machine → Type 0
+OpensAfterCrash tear files limit number machine =
+    (left : ℕ → FileState) × IsLeftBy tear files left
+    × ((store : Store) × (opened : Machine) × IsOpenedOn ⊤ (seen_in left) store number session_0 opened × (machine ≡ with_history limit opened))
 
 -- Why nothing opens: memory was lacking, or the files that are left recover nothing, as the refusal says.
 abbrev pub MayNotReopen : Tear → (ℕ → FileState) → Refusal → Type 0

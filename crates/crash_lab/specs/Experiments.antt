@@ -3,7 +3,6 @@ use Rattle.std.specs.Prelude.{◌≡◌, ◌≢◌, ◌⊎◌, ℕ, zero, suc, �
 use Rattle.disk_model.specs.declared.tear.Tear.{Tear}
 use Rattle.disk_model.specs.declared.tear.Tear.TheVariants as tear
 use Rattle.store_model.specs.declared.event.Event.TheVariants as event
-use Rattle.refusals.specs.declared.refusal.Refusal.{Refusal}
 use Rattle.reg_tree.specs.Maps.{TreeMap}
 use Rattle.script_syntax.specs.Lines.{line_of}
 use Rattle.script_syntax.specs.Replies.{reply_line}
@@ -12,7 +11,7 @@ use Rattle.script_syntax.specs.declared.lab_line.CrashTear.TheVariants as crash
 use Rattle.script_syntax.specs.declared.lab_line.LabLine.{LabLine}
 use Rattle.script_syntax.specs.declared.lab_line.LabLine.TheVariants.{Accept, JournalStep, FlusherStep, TrimStep, FlushWhole, StopAt, FailAt, Crash}
 use Rattle.script_syntax.specs.declared.line.Line.{Line}
-use Rattle.script_syntax.specs.declared.line.Line.TheVariants.{Hives, Lab}
+use Rattle.script_syntax.specs.declared.line.Line.TheVariants.{Hives, History, Lab}
 use Rattle.script_syntax.specs.declared.reply.ReplyLine.{ReplyLine}
 use Rattle.script_syntax.specs.declared.reply.ReplyLine.TheVariants as reply
 use Rattle.script_runner.specs.Plays.{is_refusal}
@@ -24,19 +23,20 @@ use Rattle.crash_lab.specs.Crashes.{MayNotReopen, OpensAfterCrash}
 use Rattle.crash_lab.specs.declared.reply.LabReply.{LabReply}
 use Rattle.crash_lab.specs.declared.reply.LabReply.TheVariants.{OneLine, Opened}
 
--- `hives` is a script's first line alone; any other line may follow it
+-- `hives` is a script's first line alone, and `history` its second; any other line may follow them
 abbrev pub following_line : Option Line → Option Line
 following_line None = None
 following_line (Some (Hives count)) = None
+following_line (Some (History limit)) = None
 following_line (Some line) = Some line
 
 -- the line of the bytes of any further line
 abbrev pub line_asked : List ℕ → Option Line
 line_asked bytes = following_line (line_of bytes)
 
--- the script asks for what is reported, and nothing is asked of the device
+-- the script asks for what is reported, nothing is asked of the device, and the limit of the history stays
 abbrev pub Replies : (ReplyLine → Script → Type 0) → LabState → LabReply → LabState → Type 0
-Replies answers old (OneLine reported) new = answers reported new.script × (new.asked ≡ old.asked)
+Replies answers old (OneLine reported) new = answers reported new.script × (new.asked ≡ old.asked) × (new.limit ≡ old.limit)
 Replies answers old (Opened number) new = ⊥
 
 -- the transaction of a label is committed, and not waited for
@@ -66,10 +66,11 @@ tear_of crash.New = tear.New
 tear_of crash.Torn = tear.Torn
 
 -- A store was opened after a loss of power: session 0 is open and current, no label names anything, the moment is the
--- one before, and nothing is asked of the new disk's device.
+-- one before, its history may have as many changes as before, and nothing is asked of the new disk's device.
 pub record Reopens (at : Tear) (old : LabState) (number : ℕ) (new : LabState) : Type 0 where
-  pub opens : OpensAfterCrash at old.files number new.script.machine
+  pub opens : OpensAfterCrash at old.files old.limit number new.script.machine
   pub script_is : new.script ≡ record (script_at new.script.machine) { moment = old.script.moment }
+  pub limit_is : new.limit ≡ old.limit
   pub asked_is : new.asked ≡ nothing_asked
 
 -- the power goes: a store is opened on what is left, or none is, which changes nothing

@@ -3,16 +3,19 @@ use Rattle.std.specs.Prelude.{◌≡◌, ℕ, length, None}
 use Rattle.disk_model.specs.FileState.{FileState}
 use Rattle.disk_model.specs.MemDisk.{states, earlier}
 use Rattle.disk_model.specs.declared.mem_disk.MemDisk.{MemDisk}
+use Rattle.refusals.specs.declared.limits.TheConstants.{MOST_HISTORY}
 use Rattle.commit_journal.specs.Store.{Store}
 use Rattle.engine.specs.Lives.{IsSafe}
 use Rattle.script_runner.specs.Interpreters.{engine_of, script_of}
-use Rattle.script_runner.specs.Scripts.{Script, fresh_script}
+use Rattle.script_runner.specs.Scripts.{Script, fresh_script, limited}
 use Rattle.crash_lab.specs.declared.lab_state.Laboratory.{Laboratory}
 use Rattle.crash_lab.specs.declared.device.Asked.{Asked}
 
--- its script; each file of its disk; and what was asked of the disk's device
+-- its script; how many changes its store's history may have, also after a loss of power; each file of its disk; and what
+-- was asked of the disk's device
 pub record LabState : Type 0 where
   pub script : Script
+  pub limit : ℕ
   pub files : ℕ → FileState
   pub asked : Asked
 
@@ -25,7 +28,7 @@ abbrev pub files_of : MemDisk → ℕ → FileState
 files_of disk f = states disk.past disk.files.items (length (earlier disk.past)) f
 
 abbrev pub lab_state_of : Laboratory → LabState
-lab_state_of laboratory = record { script = script_of laboratory.interpreter; files = files_of (engine_of laboratory.interpreter).disk; asked = laboratory.device.asked }
+lab_state_of laboratory = record { script = script_of laboratory.interpreter; limit = laboratory.limit; files = files_of (engine_of laboratory.interpreter).disk; asked = laboratory.device.asked }
 
 -- Whatever a loss of power leaves of the files, with honest first sectors, recovers one number and the trees after the
 -- accepted changes up to it. The number is not below the durable one and not above the last.
@@ -35,5 +38,11 @@ CrashesAreSafe lab_state = (store : Store) × IsSafe store lab_state.script.mach
 -- a laboratory that has made its store, of `hives` new hives
 pub record IsNew (hives : ℕ) (lab_state : LabState) : Type 0 where
   pub script_is : lab_state.script ≡ fresh_script hives
+  pub limit_is : lab_state.limit ≡ MOST_HISTORY
   pub asked_is : lab_state.asked ≡ nothing_asked
   pub kept : CrashesAreSafe lab_state
+
+-- the history may have this many changes from now on, and nothing else changes
+pub record IsLimited (limit : ℕ) (old new : LabState) : Type 0 where
+  pub is : new ≡ record old { script = limited limit old.script; limit = limit }
+  pub kept : CrashesAreSafe new

@@ -1,10 +1,10 @@
 //! Runs a script in a laboratory.
-ghost use Rattle.std.specs.Prelude.{◌≡◌, IfOk};
+ghost use Rattle.std.specs.Prelude.{◌≡◌, [], IfOk};
 ghost use Rattle.crash_lab.specs.LabStates.{lab_state_of};
-ghost use Rattle.crash_lab.specs.Runs.{IsExperiment, IsExperimentOn, OutcomeOfLine};
+ghost use Rattle.crash_lab.specs.Runs.{AnswerOfLine, IsExperiment, IsExperimentOn, IsExperimentOverNew, OutcomeOfLine};
 
 use crate::lab_state::Laboratory;
-use script_runner::{EndOfScript, end, next_line, wrong};
+use script_runner::{EndOfScript, end, next_line, read_history_limit, wrong};
 use script_syntax::{ReplyLine, Status};
 use std::alloc::{AllocError, Global};
 use std::io;
@@ -59,25 +59,58 @@ fn run<R: BufRead, W: Write>(alloc: Global, reader: &mut R, writer: &mut W) -> i
         Ok(Some(laboratory)) => {
             let mut laboratory = laboratory;
             ReplyLine::Done.write(writer)?;
-            go_on(&mut laboratory, reader, &mut line, writer)
+            run_over_new(alloc, &mut laboratory, reader, &mut line, writer)
         }
         Ok(None) => wrong(writer, 1),
         Err(AllocError) => end(writer, EndOfScript::OutOfMemory),
     }
 }
 
-// runs the script from its second line on
-fn go_on<R: BufRead, W: Write>(
+// runs the script of a new store from its second line on, which may be `history`
+fn run_over_new<R: BufRead, W: Write>(
+    alloc: Global,
     laboratory: &mut Laboratory,
     reader: &mut R,
     line: &mut Vec<u8>,
     writer: &mut W,
 ) -> io::Result<Status>
-    ensures { IfOk result (λ status. IsExperimentOn (lab_state_of laboratory.old) 2
+    requires { (lab_state_of laboratory.old).script.machine.accepted ≡ [] }
+    ensures { IfOk result (λ status. IsExperimentOverNew (lab_state_of laboratory.old)
+        (R.remaining reader.old) (W.contents writer.old) (W.contents writer.new) status) }
+{
+    if let Err(end_of_script) = next_line(reader, line) {
+        return end(writer, end_of_script);
+    }
+    match read_history_limit(alloc, line) {
+        Ok(Some(limit)) => {
+            laboratory.limit_history(limit);
+            ReplyLine::Done.write(writer)?;
+            go_on(laboratory, 3, reader, line, writer)
+        }
+        Ok(None) => match answer_line(laboratory, line, writer, 2)? {
+            LabLineOutcome::Replied { is_refusal } => {
+                let status = go_on(laboratory, 3, reader, line, writer)?;
+                Ok(status.after(is_refusal))
+            }
+            LabLineOutcome::Over { status } => Ok(status),
+        },
+        Err(AllocError) => end(writer, EndOfScript::OutOfMemory),
+    }
+}
+
+// runs the script from the line of this number on
+fn go_on<R: BufRead, W: Write>(
+    laboratory: &mut Laboratory,
+    first: u64,
+    reader: &mut R,
+    line: &mut Vec<u8>,
+    writer: &mut W,
+) -> io::Result<Status>
+    ensures { IfOk result (λ status. IsExperimentOn (lab_state_of laboratory.old) first
         (R.remaining reader.old) (W.contents writer.old) (W.contents writer.new) status) }
 {
     let mut has_refusal = false;
-    for number in 2..u64::MAX {
+    for number in first..u64::MAX {
         match take_line(laboratory, reader, line, writer, number)? {
             LabLineOutcome::Replied { is_refusal } => has_refusal |= is_refusal,
             LabLineOutcome::Over { status } => return Ok(status.after(has_refusal)),
@@ -104,6 +137,19 @@ fn take_line<R: BufRead, W: Write>(
         let status = end(writer, end_of_script)?;
         return Ok(LabLineOutcome::Over { status });
     }
+    answer_line(laboratory, line, writer, number)
+}
+
+// answers the line of this number, which was read, and writes the reply
+fn answer_line<W: Write>(
+    laboratory: &mut Laboratory,
+    line: &[u8],
+    writer: &mut W,
+    number: u64,
+) -> io::Result<LabLineOutcome>
+    ensures { IfOk result (λ turn. AnswerOfLine (lab_state_of laboratory.old) number line.now
+        (W.contents writer.old) turn (lab_state_of laboratory.new) (W.contents writer.new)) }
+{
     match laboratory.reply_to(line) {
         Ok(Some(reported)) => {
             reported.write(laboratory.trees(), writer)?;

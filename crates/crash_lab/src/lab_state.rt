@@ -1,10 +1,10 @@
 //! A script in a laboratory, between two lines.
-ghost use Rattle.std.specs.Prelude.{◌≡◌, ◌↔◌, ℕ, true, Some, None, MatchOption, IfOk, IfSome, IfNone, OnErr};
+ghost use Rattle.std.specs.Prelude.{◌≡◌, ◌↔◌, [], ℕ, true, Some, None, MatchOption, IfOk, IfSome, IfNone, OnErr};
 ghost use Rattle.script_syntax.specs.declared.line.Line.{Line as AnyLine};
 ghost use Rattle.script_runner.specs.Scripts.{hives_asked};
 ghost use Rattle.script_runner.specs.Interpreters.{script_of};
 ghost use Rattle.store_model.specs.Machine.{trees_now};
-ghost use Rattle.crash_lab.specs.LabStates.{lab_state_of, CrashesAreSafe, IsNew};
+ghost use Rattle.crash_lab.specs.LabStates.{lab_state_of, CrashesAreSafe, IsLimited, IsNew};
 ghost use Rattle.crash_lab.specs.Experiments.{Answered, AnswersLine, Crashes, Experiments, IsFlushedWhole, following_line, line_asked, tear_of};
 
 use crate::device::Device;
@@ -12,7 +12,7 @@ use crate::power_loss::{Reopened, open_after_crash};
 use crate::reply::LabReply;
 use disk_model::{MemDisk, Tear};
 use reg_tree::Trees;
-use script_runner::{Interpreter, begin_on};
+use script_runner::{HistoryLimit, Interpreter, begin_on};
 use script_syntax::{CrashTear, LabLine, Line, ParseError, ReplyLine, read_line};
 use std::alloc::{AllocError, Global};
 use store_model::Event;
@@ -21,6 +21,8 @@ use store_model::Event;
 pub(crate) struct Laboratory {
     alloc: Global,
     interpreter: Interpreter<MemDisk>,
+    // of this store's history, and of those that are opened after it
+    limit: HistoryLimit,
     device: Device,
 }
 
@@ -30,6 +32,7 @@ impl Drop for Laboratory {
         let Laboratory {
             alloc: _,
             interpreter: _,
+            limit: _,
             device: _,
         } = self;
     }
@@ -51,11 +54,22 @@ impl Laboratory {
                 Ok(Some(Laboratory {
                     alloc,
                     interpreter,
+                    limit: HistoryLimit::most(),
                     device,
                 }))
             }
             None => Ok(None),
         }
+    }
+
+    /// Sets how many changes the store accepts until its history is folded, also after a loss of power.
+    pub(crate) fn limit_history(&mut self, limit: HistoryLimit)
+        requires { (lab_state_of self.old).script.machine.accepted ≡ [] }
+        ensures { IsLimited limit (lab_state_of self.old) (lab_state_of self.new) }
+    {
+        self.interpreter.limit_history(limit);
+        self.limit = limit;
+        self.interpreter.engine().keeps_a_prefix(); // for the prover
     }
 
     /// The trees after all accepted changes.
@@ -80,7 +94,7 @@ impl Laboratory {
         }
     }
 
-    // answers a line, or `None` if it is a script's first; what a loss of power would leave then is known
+    // answers a line, or `None` if it is `hives` or `history`; what a loss of power would leave then is known
     fn answer(&mut self, line: Line) -> Option<LabReply>
         ensures { MatchOption result (following_line (Some line) ≡ None)
             (λ reported. (following_line (Some line) ≡ Some line)
@@ -91,7 +105,7 @@ impl Laboratory {
         reported
     }
 
-    // the reply to a line, or `None` if it is a script's first
+    // the reply to a line, or `None` if it is `hives` or `history`
     fn reply(&mut self, line: Line) -> Option<LabReply>
         ensures { MatchOption result (following_line (Some line) ≡ None)
             (λ reported. (following_line (Some line) ≡ Some line)
@@ -135,6 +149,7 @@ impl Laboratory {
         ensures reported { IsFlushedWhole (script_of self.old.interpreter) hive result
             (script_of self.new.interpreter) }
         ensures device { self.new.device ≡ self.old.device }
+        ensures limit { self.new.limit ≡ self.old.limit }
     {
         for _made in 0..u64::MAX {
             let reported = self.interpreter.ask(Event::FlusherStep { hive });
@@ -150,7 +165,12 @@ impl Laboratory {
     fn crash(&mut self, tear: Tear) -> LabReply
         ensures { Crashes tear (lab_state_of self.old) result (lab_state_of self.new) }
     {
-        match open_after_crash(self.alloc, self.interpreter.engine().disk(), tear) {
+        match open_after_crash(
+            self.alloc,
+            self.interpreter.engine().disk(),
+            tear,
+            self.limit,
+        ) {
             Ok(
                 Reopened {
                     engine,

@@ -8,7 +8,7 @@ use crate::device::Device;
 use disk_model::{MemDisk, Tear};
 use engine::Engine;
 use refusals::Refusal;
-use script_runner::{make_journal_room, open_store};
+use script_runner::{HistoryLimit, make_journal_room, open_store};
 use std::alloc::{AllocError, Global};
 
 /// A store that was opened after a loss of power.
@@ -22,28 +22,33 @@ pub(crate) struct Reopened {
     pub device: Device,
 }
 
-/// The store that opens if the power goes now, and what was not synced is torn by this tear. The disk itself stays as
-/// it is.
+/// The store that opens if the power goes now, and what was not synced is torn by this tear. Its history has this limit.
+/// The disk itself stays as it is.
 ///
 /// Refused for lack of memory, and with a refusal of the files only if those that are left recover nothing.
 pub(crate) fn open_after_crash(
     alloc: Global,
     disk: &MemDisk,
     tear: Tear,
+    limit: HistoryLimit,
 ) -> Result<Reopened, Refusal>
     ensures opens { IfOk result (λ it.
-        OpensAfterCrash tear (files_of disk.now) it.number it.engine.machine) }
+        OpensAfterCrash tear (files_of disk.now) limit it.number it.engine.machine) }
     ensures device { IfOk result (λ it. it.device.asked ≡ nothing_asked) }
     ensures refused { IfErr result (MayNotReopen tear (files_of disk.now)) }
 {
     let device = Device::new(alloc)?;
     let left = disk_after_crash(alloc, disk, tear, &device)?;
     match open_store(alloc, left) {
-        Ok((engine, number)) => Ok(Reopened {
-            engine,
-            number,
-            device,
-        }),
+        Ok((engine, number)) => {
+            let mut engine = engine;
+            engine.limit_history(limit.changes());
+            Ok(Reopened {
+                engine,
+                number,
+                device,
+            })
+        }
         Err((why, _)) => Err(opening_refusal(why)),
     }
 }

@@ -21,7 +21,7 @@ loop-number-preserved g c =
     let number = c.loop-number.number in
     let turn = subst (λ reported. OutcomeOfLine old number known before reported new rest mid) c.in-Replied.is c.in_ok-is_refusal.ensures in
     λ status after on.
-    subst (λ s. IsExperimentOn (lab_state_of c.args.laboratory.now) 2 (remaining c.args.reader.now) (contents c.args.writer.now) after s) (refusals_join c.loop-number.has_refusal now status)
+    subst (λ s. IsExperimentOn (lab_state_of c.args.laboratory.now) c.args.first (remaining c.args.reader.now) (contents c.args.writer.now) after s) (refusals_join c.loop-number.has_refusal now status)
     (c.loop-number.invariant (with_refusal now status) after (continues old new number known rest before mid after now status turn on))
 
 pub returns-in-Over : goal.returns-in-Over
@@ -30,7 +30,7 @@ returns-in-Over g c =
     let after = contents c.take_line.new.writer in
     let new = lab_state_of c.take_line.new.laboratory in
     let on = subst (λ reported. OutcomeOfLine (lab_state_of c.loop-number.laboratory) c.loop-number.number (g.R.Read.remaining c.loop-number.reader) (contents c.loop-number.writer) reported new (g.R.Read.remaining c.take_line.new.reader) after) c.in-Over.is c.in_ok-is_refusal.ensures in
-    subst (λ s. IsExperimentOn (lab_state_of c.args.laboratory.now) 2 (g.R.Read.remaining c.args.reader.now) (contents c.args.writer.now) after s) (sym c.after.ensures)
+    subst (λ s. IsExperimentOn (lab_state_of c.args.laboratory.now) c.args.first (g.R.Read.remaining c.args.reader.now) (contents c.args.writer.now) after s) (sym c.after.ensures)
     (c.loop-number.invariant c.in-Over.status after on)
 
 pub returns : goal.returns
@@ -40,6 +40,6 @@ returns g c =
     let known = g.R.Read.remaining c.loop-number.reader in
     let said = c.in_ok-status.ensures in
     let end = lab_state_of c.loop-number.laboratory in
-    subst (λ s. IsExperimentOn (lab_state_of c.args.laboratory.now) 2 (g.R.Read.remaining c.args.reader.now) (contents c.args.writer.now) after s) (sym c.after-2.ensures)
+    subst (λ s. IsExperimentOn (lab_state_of c.args.laboratory.now) c.args.first (g.R.Read.remaining c.args.reader.now) (contents c.args.writer.now) after s) (sym c.after-2.ensures)
     (c.loop-number.invariant c.in_ok-status.status after
     (ends_here end c.loop-number.number known (contents c.loop-number.writer) after Broken said.0 c.in_ok-status.status (none_read known Broken broken_is_no_end) said.1 said.2))

@@ -11,4 +11,4 @@ invariant-loop-number g l =
     let remaining = g.R.Read.remaining in
     let contents = g.W.Write.contents in
     (status : Status) (after : Option (List ℕ)) → IsExperimentOn (lab_state_of l.laboratory) l.number (remaining l.reader) (contents l.writer) after status
-    → IsExperimentOn (lab_state_of l.fn.laboratory) 2 (remaining l.fn.reader) (contents l.fn.writer) after (with_refusal l.has_refusal status)
+    → IsExperimentOn (lab_state_of l.fn.laboratory) l.fn.first (remaining l.fn.reader) (contents l.fn.writer) after (with_refusal l.has_refusal status)

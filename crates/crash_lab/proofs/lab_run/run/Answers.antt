@@ -7,7 +7,7 @@ use Rattle.script_runner.specs.declared.end_of_script.EndOfScript.TheVariants.{O
 use Rattle.script_syntax.specs.declared.status.Status.TheVariants.{Wrong}
 use Rattle.script_runner.proofs.Runs.{if_ok}
 use Rattle.crash_lab.specs.LabStates.{lab_state_of, IsNew}
-use Rattle.crash_lab.specs.Runs.{IsExperiment, IsExperimentOn}
+use Rattle.crash_lab.specs.Runs.{IsExperiment, IsExperimentOverNew}
 use Rattle.crash_lab.proofs.LineOutcomes.{begins, begins_wrong, begins_without_memory}
 use Rattle.crash_lab.proofs.lab_run.run.Goals as goal
 
@@ -17,12 +17,12 @@ returns-in-Ok-Some g c =
     let rest = g.R.Read.remaining c.next_line.new.reader in
     let before = g.W.Write.contents c.args.writer.now in
     let mid = g.W.Write.contents c.write.new.writer in
-    let after = g.W.Write.contents c.go_on.new.writer in
+    let after = g.W.Write.contents c.run_over_new.new.writer in
     let some = subst (λ made. IfSome made (λ laboratory. (hives : ℕ) × (hives_asked c.deref.result.now ≡ Some hives) × IsNew hives (lab_state_of laboratory))) c.in-Ok-Some.field-0-is c.in-Ok-Some.ensures.some in
     let old = lab_state_of c.in-Ok-Some.laboratory in
-    if_ok (λ status. IsExperimentOn old 2 rest mid after status) (IsExperiment known before after) c.go_on.result
+    if_ok (IsExperimentOverNew old rest mid after) (IsExperiment known before after) c.run_over_new.result
     (λ status on. begins known rest before mid after c.next_line.new.line.items some.0 old status c.in-Ok.ensures.line (ap hives_asked (sym c.deref.ensures.value) ∙ some.1) some.2 c.in_ok-write-in-Ok-Some.ensures on)
-    c.go_on.ensures
+    c.run_over_new.ensures
 
 pub returns-in-Ok-None : goal.returns-in-Ok-None
 returns-in-Ok-None g c =

@@ -13,6 +13,7 @@ returns-in-Some-clause-some c =
       made.1,
       record {
         script_is = c.new-interpreter.ensures.script ∙ ap script_at made.2;
+        limit_is = c.most.ensures;
         asked_is = c.in_ok-device.ensures;
         kept = (c.new-interpreter.result.engine.store, subst (λ engine. IsSafe engine.store engine.machine (files_of engine.disk)) (sym c.new-interpreter.ensures.engine) (c.keeps_a_prefix.ensures tt));
       },

@@ -14,8 +14,9 @@ returns-in-Ok c =
     let disk : c.disk.result.now ≡ (engine_of old).disk = c.disk.ensures ∙ ap (λ engine. engine.disk) c.engine.ensures in
     let machine : (script_of new).machine ≡ it.engine.machine = ap (λ script. script.machine) c.reopen.ensures.script in
     record {
-      opens = subst (OpensAfterCrash c.args.tear (files_of (engine_of old).disk) it.number) (sym machine) (subst (λ disk. OpensAfterCrash c.args.tear (files_of disk) it.number it.engine.machine) disk c.in-Ok.ensures.opens);
+      opens = subst (OpensAfterCrash c.args.tear (files_of (engine_of old).disk) c.args.self.now.limit it.number) (sym machine) (subst (λ disk. OpensAfterCrash c.args.tear (files_of disk) c.args.self.now.limit it.number it.engine.machine) disk c.in-Ok.ensures.opens);
       script_is = c.reopen.ensures.script ∙ ap (λ machine. record (script_at machine) { moment = (script_of old).moment }) (sym machine);
+      limit_is = refl;
       asked_is = c.in-Ok.ensures.device;
     }
 
