@@ -52,7 +52,12 @@ fn swept<R: BufRead, W: Write>(
             Err(EndOfScript::Ended) => return run.finish(writer),
             Err(end_of_script) => return Ok(end(writer, end_of_script)?),
         }
-        if !run.take(&line, number, writer)? {
+        let is_understood = if number == 2 {
+            run.take_second(&line, writer)?
+        } else {
+            run.take(&line, number, writer)?
+        };
+        if !is_understood {
             return Ok(wrong(writer, number)?);
         }
     }

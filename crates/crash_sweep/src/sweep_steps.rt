@@ -7,7 +7,9 @@ use crate::watched_disk::WatchedMemDisk;
 use disk_model::Plan;
 use engine::Engine;
 use refusals::Refusal;
-use script_runner::{Interpreter, begin_on, frees_room, is_refusal, next_step, open_store};
+use script_runner::{
+    Interpreter, begin_on, frees_room, is_refusal, next_step, open_store, read_history_limit,
+};
 use script_syntax::{Label, Line, ParseError, ReplyLine, Status, read_line};
 use std::alloc::Global;
 use std::io::Write;
@@ -92,6 +94,21 @@ impl Run {
         }
         self.free_room(writer)?;
         Ok(true)
+    }
+
+    /// Takes the second line, which may be `history`, likewise.
+    pub(crate) fn take_second<W: Write>(
+        &mut self,
+        bytes: &[u8],
+        writer: &mut W,
+    ) -> Result<bool, SweepError> {
+        match read_history_limit(self.alloc, bytes)? {
+            Some(limit) if self.interpreter.engine().history_len() <= limit.changes() => {
+                self.interpreter.limit_history(limit);
+                Ok(true)
+            }
+            _ => self.take(bytes, 2, writer),
+        }
     }
 
     // the line's reply, and whether it waits for the device; `None` if the line is not one of this run
