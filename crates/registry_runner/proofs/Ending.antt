@@ -1,5 +1,5 @@
 -- The beginning of a script's run and its end.
-use Rattle.std.proofs.Common.{◌≡◌, ◌∙◌, ℕ, List, [], Option, Some, None, ◌++◌, Bool, true, false, Result, Ok, Err, refl, sym, ap, subst, inl, inr}
+use Rattle.std.proofs.Common.{◌≡◌, ◌∙◌, ℕ, ◌+◌, length, List, [], ◌∷◌, Option, Some, None, ◌++◌, Bool, true, false, Result, Ok, Err, refl, sym, ap, subst, inl, inr}
 use Rattle.std.proofs.lemmas.Bool.{true≢false}
 use Rattle.std.specs.Prelude.{IfOk, IsOk, is_some}
 use Rattle.std.specs.Io.KnownBytes.{Appends, Keeps}
@@ -8,13 +8,15 @@ use Rattle.std.specs.Ordering.{nat_cmp}
 use Rattle.std.specs.Cmp.Lexicographic.{slice_cmp}
 use Rattle.std.specs.BTreeMap.{is_at}
 use Rattle.std.specs.Map.{lookup}
+use Rattle.refusals.specs.Refusals.{refusal_text}
 use Rattle.refusals.specs.declared.refusal.Refusal.{Refusal}
 use Rattle.refusals.specs.declared.refusal.Refusal.TheVariants.{Faulted}
 use Rattle.script_syntax.proofs.Written.{appends_more}
 use Rattle.script_syntax.specs.Statuses.{with_refusal}
 use Rattle.script_syntax.specs.declared.reply.ReplyLine.{ReplyLine}
 use Rattle.script_syntax.specs.declared.status.Status.{Status}
-use Rattle.script_runner.proofs.Runs.{appends_kept, if_ok}
+use Rattle.script_syntax.specs.declared.status.Status.TheVariants.{Refused}
+use Rattle.script_runner.proofs.Runs.{appends_kept, if_ok, keeps_same, kept_appends}
 use Rattle.script_runner.specs.Labels.{NamesNothing, named_by}
 use Rattle.script_runner.specs.Plays.{Ends, is_refusal}
 use Rattle.script_runner.specs.Running.{BeginsAt, opened_text}
@@ -22,10 +24,20 @@ use Rattle.script_runner.specs.declared.end_of_script.EndOfScript.{EndOfScript}
 use Rattle.script_runner.specs.declared.end_of_script.EndOfScript.TheVariants.{Broken}
 use Rattle.script_syntax.specs.declared.line.Line.TheVariants.{Flush}
 use Rattle.reg_tree.specs.Maps.{TreeMap}
+use Rattle.reg_tree.specs.Sequences.{after_elements}
 use Rattle.store_model.specs.Machine.{Machine}
 use Rattle.ktm_calls.specs.Moments.{IsOf}
-use Rattle.registry_runner.specs.Plays.{HaveEnded, HaveRead, IsPlayedOn, WereReadIf}
+use Rattle.registry_runner.specs.Folding.{IsFoldedAt, IsIdle}
+use Rattle.registry_runner.specs.Parts.{Part, BeginsOrNot, FoldsAt, IsBegun, MayNotBegin, MayNotFold, kind_text}
+use Rattle.registry_runner.specs.Plays.{GoesOnFolded, HaveEnded, IsPlayedOn, IsUnread, LinesCome, PlaysOn}
 use Rattle.registry_runner.specs.Scripts.{Script, Answers}
+use Rattle.registry_runner.specs.declared.lines.LinesEnd.{LinesEnd}
+use Rattle.registry_runner.specs.declared.lines.LinesEnd.TheVariants as come
+use Rattle.registry_runner.specs.declared.parts.NextPart.{NextPart}
+use Rattle.registry_runner.specs.declared.parts.PartEnd.TheVariants.{ToFold}
+use Rattle.registry_runner.specs.declared.parts.PartKind.TheVariants.{Opened}
+use Rattle.registry_runner.specs.declared.parts.PartStart.{PartStart}
+use Rattle.registry_runner.proofs.Playing.{appends_nothing, kept_by_nothing, part, stopped}
 use Rattle.script_runner.specs.declared.labels.Labels.{Labels}
 use Rattle.store_model.specs.declared.event.Reply.{Reply}
 use Rattle.store_model.specs.declared.event.Reply.TheVariants as answer
@@ -33,7 +45,7 @@ use Rattle.ktm_calls.specs.Denials.{IsTurnDenied, denial_of, refusal_in}
 use Rattle.ktm_calls.specs.Waiting.{HasFailed}
 use Rattle.ktm_calls.specs.declared.registry.Denied.{Denied}
 use Rattle.ktm_calls.specs.declared.registry.Denied.TheVariants as denied
-use Rattle.registry_runner.specs.Running.{IsBegun, MayBeUndone, RunsOver, flushed_text, undone_text}
+use Rattle.registry_runner.specs.Running.{EndsPart, EndsRun, MayBeUndone, RunsFrom, RunsOrNot, flushed_text, undone_text}
 
 -- no label names anything
 pub names_nothing : (labels : Labels) → NamesNothing labels → (label : List ℕ) → named_by labels label ≡ None
@@ -73,64 +85,152 @@ pub turn_undone : (why : Denied) → IsTurnDenied why → (ended : Option Refusa
 turn_undone denied.NoMemory t ended e not = inr (inr e)
 turn_undone (denied.Told told) t ended e not = step_undone told.reply t.1 ended e not
 
-module _ (trees : List TreeMap) (number : ℕ) (can_read : Bool) (old : Script) (known was : Option (List ℕ)) {E : Type 0} where
+-- refusals before the end of a run
+with_refusals : (a b : Bool) (status : Status) → with_refusal a (with_refusal b status) ≡ with_refusal b (with_refusal a status)
+with_refusals false b status = refl
+with_refusals true false status = refl
+with_refusals true true status = refl
+
+-- the end of a run after further refusals
+pub ends_after : (refused : Bool) (end : Result Part Refusal) (came_to status : Status) (before after : Option (List ℕ)) → EndsRun end came_to before after status → EndsRun end (with_refusal refused came_to) before after (with_refusal refused status)
+ends_after refused (Err why) came_to status before after e = (e.0, ap (with_refusal refused) e.1)
+ends_after refused (Ok part) came_to status before after e = record {
+  reported = e.reported;
+  last = e.last;
+  flushed = e.flushed;
+  undone = e.undone;
+  may = e.may;
+  wrote = e.wrote;
+  status_is = ap (with_refusal refused) e.status_is ∙ with_refusals refused (is_some e.undone) (with_refusal (is_refusal e.reported) came_to) ∙ ap (with_refusal (is_some e.undone)) (with_refusals refused (is_refusal e.reported) came_to);
+}
+
+-- A part
+
+module _ (limit : ℕ) (can_read : Bool) (trees : List TreeMap) (first number : ℕ) (known was : Option (List ℕ)) where
   -- a script that can be read
-  pub read_all : (is : Option (List ℕ)) (new : Script) (r : Result Status E) → can_read ≡ true → IfOk r (λ s. IsPlayedOn trees number old 1 known was is s new) → IfOk r (λ s. HaveRead trees number can_read old known was is s new)
-  read_all is new r can h = subst (λ (b : Bool). IfOk r (λ s. HaveRead trees number b old known was is s new)) (sym can) h
+  pub read_all : {E : Type 0} (old new : Script) (rest is : Option (List ℕ)) (r : Result LinesEnd E) → can_read ≡ true → IfOk r (λ end. LinesCome limit true (part trees first old) number known was end new rest is) → IfOk r (λ end. LinesCome limit can_read (part trees first old) number known was end new rest is)
+  read_all old new rest is r can h = subst (λ (b : Bool). IfOk r (λ end. LinesCome limit b (part trees first old) number known was end new rest is)) (sym can) h
 
   -- one that can't be
-  pub read_none : (is : Option (List ℕ)) (r : Result Status E) → can_read ≡ false → IfOk r (λ s. (text : List ℕ) × Ends Broken text s × Appends was is text) → IfOk r (λ s. HaveRead trees number can_read old known was is s old)
-  read_none is r can h =
-      subst (λ (b : Bool). IfOk r (λ s. HaveRead trees number b old known was is s old)) (sym can)
-      (if_ok (λ s. (text : List ℕ) × Ends Broken text s × Appends was is text) (λ s. HaveRead trees number false old known was is s old) r (λ s said. ([], Some Broken, said.0, (refl, refl), (said.1, refl), said.2)) h)
+  unread_come : (old : Script) (rest is : Option (List ℕ)) (end : LinesEnd) → IsUnread was is end → LinesCome limit false (part trees first old) number known was end old rest is
+  unread_come old rest is (come.Ended status) u = ([], Some Broken, u.0, (refl, refl), (u.1, refl), u.2)
+  unread_come old rest is (come.ToFold next) u = absurd u
+
+  pub read_none : {E : Type 0} (old : Script) (rest is : Option (List ℕ)) (r : Result LinesEnd E) → can_read ≡ false → IfOk r (IsUnread was is) → IfOk r (λ end. LinesCome limit can_read (part trees first old) number known was end old rest is)
+  read_none old rest is r can h =
+      subst (λ (b : Bool). IfOk r (λ end. LinesCome limit b (part trees first old) number known was end old rest is)) (sym can) (if_ok (IsUnread was is) (λ end. LinesCome limit false (part trees first old) number known was end old rest is) r (unread_come old rest is) h)
 
   -- what was played is written out, and all is flushed
-  pub ended : (mid is : Option (List ℕ)) (end last : Script) (flushed : ReplyLine) (played out : Result Status E) → IfOk played (λ s. HaveRead trees number can_read old known was mid s end) → IfOk out (λ s. (played ≡ Ok s) × Keeps mid is) → Answers trees number end Flush flushed last
-      → IfOk out (λ s. HaveEnded trees number can_read old known was is s flushed last)
-  ended mid is end last flushed played (Err e) h o a = tt
-  ended mid is end last flushed played (Ok s) h o a =
-      let r = subst (λ p. IfOk p (λ s. HaveRead trees number can_read old known was mid s end)) o.0 h in (end, (r.0, r.1, r.2, r.3, r.4, appends_kept was mid is r.2 r.5 o.1), a)
+  pub ended : {E : Type 0} (old end last : Script) (mid is : Option (List ℕ)) (flushed : ReplyLine) (played out : Result Status E) → IfOk played (λ s. IsPlayedOn limit can_read (Ok (part trees first old)) number known was mid s (Ok (part trees first end))) → IfOk out (λ s. (played ≡ Ok s) × Keeps mid is) → Answers trees first end Flush flushed last
+      → IfOk out (λ s. HaveEnded limit can_read (part trees first old) number known was is s flushed last)
+  ended old end last mid is flushed played (Err e) h o a = tt
+  ended old end last mid is flushed played (Ok s) h o a =
+      let r = subst (λ p. IfOk p (λ s. IsPlayedOn limit can_read (Ok (part trees first old)) number known was mid s (Ok (part trees first end)))) o.0 h in (end, (r.0, r.1, r.2, r.3, r.4, appends_kept was mid is r.2 r.5 o.1), a)
 
-module _ (trees : List TreeMap) (number : ℕ) (can_read : Bool) (known before opened mid after : Option (List ℕ)) (script last : Script) (flushed : ReplyLine) where
-  abbrev pub Reports : Status → Status → Type 0
-  Reports status came_to = (undone : Option Refusal) × MayBeUndone undone × (status ≡ with_refusal (is_some undone) (with_refusal (is_refusal flushed) came_to)) × Appends mid after (flushed_text flushed ++ undone_text undone)
+module _ (start : PartStart) (trees : List TreeMap) (number : ℕ) (known before opened : Option (List ℕ)) (script : Script) (begun : IsBegun trees number start.moment script) (told : Appends before opened (kind_text start.kind number)) where
+  module _ (mid after : Option (List ℕ)) (last : Script) (flushed : ReplyLine) where
+    abbrev pub Reports : Status → Status → Type 0
+    Reports status came_to = (undone : Option Refusal) × MayBeUndone undone × (status ≡ with_refusal (is_some undone) (with_refusal (is_refusal flushed) came_to)) × Appends mid after (flushed_text flushed ++ undone_text undone)
 
-  abbrev pub Plays : Status → Type 0
-  Plays came_to = HaveEnded trees number can_read script known opened mid came_to flushed last
+    abbrev pub Plays : Status → Type 0
+    Plays came_to = HaveEnded start.limit start.can_read (part trees number script) start.line known opened mid came_to flushed last
 
-  abbrev pub Runs : Status → Type 0
-  Runs status = (lines : List (List ℕ)) × (end_of_script : Option EndOfScript) × WereReadIf can_read known lines end_of_script × RunsOver trees number lines end_of_script before after status
+    ran_from : (status came_to : Status) → Reports status came_to → Plays came_to → RunsFrom start trees number known before after status
+    ran_from status came_to e h = (
+      Ok (part trees number script),
+      opened,
+      (refl, refl, begun),
+      told,
+      (Ok (part trees number h.0), came_to, mid, h.1, record { reported = flushed; last = last; flushed = h.2; undone = e.0; may = e.1; wrote = e.3; status_is = e.2 }),
+    )
 
-  runs_over : IsBegun trees number script → Appends before opened (opened_text number) → (status came_to : Status) → Reports status came_to → Plays came_to → Runs status
-  runs_over begun told status came_to e h = (
-    h.1.0,
-    h.1.1,
-    h.1.3,
-    record {
-      opened = opened;
-      told = told;
-      script = script;
-      begun = begun;
-      text = h.1.2;
-      came_to = came_to;
-      end = h.0;
-      plays = h.1.4;
-      played = mid;
-      wrote = h.1.5;
-      ends = record { reported = flushed; last = last; flushed = h.2; undone = e.0; may = e.1; wrote = e.3; status_is = e.2 };
-    },
+    -- a script that was begun, its lines, and what the end reports
+    pub ran : {E : Type 0} (r played : Result Status E) → (IsOk r → IsOk played) → IfOk r (λ status. IfOk played (Reports status)) → IfOk played Plays → IfOk r (λ status. RunsFrom start trees number known before after status)
+    ran r played also e h = if_ok (λ status. (came_to : Status) × Reports status came_to × Plays came_to) (λ status. RunsFrom start trees number known before after status) r (λ status both. ran_from status both.0 both.1 both.2) (both_ok Reports Plays r played also e h)
+
+  -- a script that was begun, and whose history is to be folded
+  pub folds_from : (next : NextPart) (end : Script) (rest is : Option (List ℕ)) → GoesOnFolded start.limit start.can_read (part trees number script) start.line known opened next (part trees number end) rest is → EndsPart start trees number known before (ToFold next) rest is
+  folds_from next end rest is goes (Ok one) said after status folds printed on = (
+    Ok (part trees number script),
+    opened,
+    (refl, refl, begun),
+    told,
+    (on.0, with_refusal next.has_refusal on.1, on.2, goes.2 (Ok one) said on.2 on.1 on.0 (subst (λ m. FoldsAt trees number m (Ok one)) goes.1 folds) printed on.3, ends_after next.has_refusal on.0 on.1 status on.2 after on.4),
+  )
+  folds_from next end rest is goes (Err why) said after status folds printed on = (
+    Ok (part trees number script),
+    opened,
+    (refl, refl, begun),
+    told,
+    (
+      Err why,
+      with_refusal next.has_refusal status,
+      after,
+      goes.2 (Err why) said after status (Err why) (subst (λ m. FoldsAt trees number m (Err why)) goes.1 folds) printed (stopped start.limit start.can_read why next.line rest said after status goes.0 on.0 on.1),
+      (keeps_same after, refl),
+    ),
   )
 
-  -- a script that was begun, its lines, and what the end reports
-  pub ran : {E : Type 0} (r played : Result Status E) → IsBegun trees number script → Appends before opened (opened_text number) → (IsOk r → IsOk played) → IfOk r (λ status. IfOk played (Reports status)) → IfOk played Plays → IfOk r Runs
-  ran r played begun told also e h = if_ok (λ status. (came_to : Status) × Reports status came_to × Plays came_to) Runs r (λ status both. runs_over begun told status both.0 both.1 both.2) (both_ok Reports Plays r played also e h)
+-- a part that doesn't begin
+pub begins_not : (start : PartStart) (trees : List TreeMap) (number : ℕ) (known before after : Option (List ℕ)) (why : Refusal) {E : Type 0} (r : Result Status E) → MayNotBegin trees number why → IfOk r (λ status. (status ≡ Refused) × Appends before after (refusal_text why ++ 10 ∷ [])) → IfOk r (λ status. RunsFrom start trees number known before after status)
+begins_not start trees number known before after why r may h =
+    if_ok (λ status. (status ≡ Refused) × Appends before after (refusal_text why ++ 10 ∷ [])) (λ status. RunsFrom start trees number known before after status) r (λ status said. (Err why, before, may, appends_nothing before, (said.1, said.0))) h
+
+-- the next part after a fold
+pub folded_from : (start : PartStart) (next : NextPart) (at : ℕ) (trees : List TreeMap) (number : ℕ) (known before rest mid after : Option (List ℕ)) (status : Status) (old new : Machine) → IsOf trees number old → IsFoldedAt old new at → EndsPart start trees number known before (ToFold next) rest mid
+    → RunsFrom (record start { kind = next.kind; number = at; line = next.line; moment = next.moment }) new.opened new.before rest mid after status → RunsFrom start trees number known before after (with_refusal next.has_refusal status)
+folded_from start next at trees number known before rest mid after status old new of is ends runs =
+    let opened = is.opened ∙ ap (λ (t : List TreeMap). after_elements t old.accepted) of.opened in
+    let numbered = is.before ∙ ap (λ (n : ℕ). n + length old.accepted) of.before in
+    let begins = subst (λ (n : ℕ). BeginsOrNot (after_elements trees old.accepted) n next.moment runs.0) numbered (subst (λ (t : List TreeMap). BeginsOrNot t new.before next.moment runs.0) opened runs.2) in
+    ends runs.0 runs.1 after status (inl (old.accepted, begins)) runs.3 runs.4
+
+-- a fold that is refused
+pub not_folded : (start : PartStart) (next : NextPart) (trees : List TreeMap) (number : ℕ) (known before rest mid after : Option (List ℕ)) (why : Refusal) {E : Type 0} (r : Result Status E) → EndsPart start trees number known before (ToFold next) rest mid → MayNotFold why → IfOk r (λ status. (status ≡ Refused) × Appends mid after (refusal_text why ++ 10 ∷ []))
+    → IfOk r (λ status. RunsFrom start trees number known before after (with_refusal next.has_refusal status))
+not_folded start next trees number known before rest mid after why r ends may h =
+    if_ok (λ status. (status ≡ Refused) × Appends mid after (refusal_text why ++ 10 ∷ [])) (λ status. RunsFrom start trees number known before after (with_refusal next.has_refusal status)) r
+    (λ status said. ends (Err why) mid after status (inr (why, may, refl)) (appends_nothing mid) (said.1, said.0)) h
+
+-- a run with the refusals before it
+pub with_earlier : {E : Type 0} (P Q : Status → Type 0) (refused : Bool) (r ran : Result Status E) → ((status : Status) → P status → Q (with_refusal refused status)) → (IsOk r → IsOk ran) → IfOk r (λ status. IfOk ran (λ later. status ≡ with_refusal refused later)) → IfOk ran P → IfOk r Q
+with_earlier P Q refused (Ok status) (Ok later) goes also is h = subst Q (sym is) (goes later h)
+with_earlier P Q refused (Ok status) (Err e) goes also is h = absurd (true≢false (sym (also refl)))
+with_earlier P Q refused (Err e) ran goes also is h = tt
+
+-- A run
+
+-- one part after another: from the first part that begins so, the run goes to its end
+pub run_from : (limit number : ℕ) (can_read : Bool) (trees : List TreeMap) (known before after : Option (List ℕ)) (status : Status) → RunsFrom (record { kind = Opened; number = number; limit = limit; can_read = can_read; line = 1; moment = 0 }) trees number known before after status → RunsOrNot limit can_read known trees number before after status
+run_from limit number can_read trees known before after status (Err why, told, begins, printed, on) =
+    inl (record { why = why; may_be = begins; reported = kept_appends before told after (refusal_text why ++ 10 ∷ []) (kept_by_nothing before told printed) on.0; status_is = on.1 })
+run_from limit number can_read trees known before after status (Ok one, told, begins, printed, on) =
+    let same : one ≡ record { trees = trees; number = number; script = one.script } = ap (λ (t : List TreeMap). record { trees = t; number = one.number; script = one.script }) begins.0 ∙ ap (λ (n : ℕ). record { trees = trees; number = n; script = one.script }) begins.1 in
+    let play = on.3 in
+    inr (
+      play.0,
+      play.1,
+      play.3,
+      record {
+        opened = told;
+        told = subst (λ n. Appends before told (opened_text n)) begins.1 printed;
+        script = one.script;
+        begun = begins.2;
+        text = play.2;
+        came_to = on.1;
+        end = on.0;
+        plays = subst (λ (p : Part). PlaysOn limit (Ok p) 1 play.0 play.1 play.2 on.1 on.0) same play.4;
+        played = on.2;
+        wrote = play.5;
+        ends = on.4;
+      },
+    )
 
 -- Openings
 
--- an engine that was just opened may begin a registry of its own trees and number
-pub begins_registry : (number room : ℕ) (trees : List TreeMap) (machine : Machine) → BeginsAt number trees room [] machine → IsOf machine.opened machine.before machine × (machine.accepted ≡ []) × (machine.sessions ≡ [])
-begins_registry number room trees machine begins =
-    subst (λ (m : Machine). IsOf m.opened m.before m × (m.accepted ≡ []) × (m.sessions ≡ [])) (sym begins) (record { opened = refl; before = refl; hives = refl }, refl, refl)
+-- of an engine that was just opened a registry may be made
+pub begins_idle : (number room : ℕ) (trees : List TreeMap) (machine : Machine) → BeginsAt number trees room [] machine → IsIdle machine
+begins_idle number room trees machine begins = subst IsIdle (sym begins) (refl, refl, refl)
 
 -- its number is the store's last
 pub begins_before : (number room : ℕ) (trees : List TreeMap) (machine : Machine) → BeginsAt number trees room [] machine → machine.before ≡ number

@@ -1,4 +1,7 @@
 mod Hearing
 mod Answered
 mod Playing
+mod Folding
 mod Ending
+mod LineProofs
+mod PartProofs

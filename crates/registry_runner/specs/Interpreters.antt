@@ -1,7 +1,26 @@
 -- What a script of the program shows.
-use Rattle.script_runner.specs.Labels.{named_by}
+use Rattle.std.specs.Prelude.{ℕ, List, Option, Some, None}
+use Rattle.reg_tree.specs.Maps.{TreeMap}
+use Rattle.store_model.specs.declared.handle.Tx.{Tx}
+use Rattle.script_runner.specs.Labels.{HasRoom, named_by}
+use Rattle.script_runner.specs.declared.labels.Labels.{Labels}
+use Rattle.registry_runner.specs.Parts.{Part}
 use Rattle.registry_runner.specs.Scripts.{Script}
 use Rattle.registry_runner.specs.declared.script.Script.{Script as Shown}
 
+-- the transaction that a label names; before the first label there are none
+abbrev pub named_in : Option Labels → List ℕ → Option Tx
+named_in None label = None
+named_in (Some labels) label = named_by labels label
+
+-- there is room for a label
+abbrev pub HasRoomFor : Option Labels → List ℕ → Type 0
+HasRoomFor None label = ⊥
+HasRoomFor (Some labels) label = HasRoom labels label
+
 abbrev pub script_of : {O : Type 0} → Shown O → Script
-script_of shown = record { moment = shown.moment; session = shown.session; labels = named_by shown.labels }
+script_of shown = record { moment = shown.moment; session = shown.session; labels = named_in shown.labels }
+
+-- the part of a run whose registry's list of changes begins on these trees after this number
+abbrev pub part_of : {O : Type 0} → List TreeMap → ℕ → Shown O → Part
+part_of trees number shown = record { trees = trees; number = number; script = script_of shown }

@@ -1,5 +1,7 @@
 pub mod Heard
 pub mod Scripts
+pub mod Parts
 pub mod Interpreters
 pub mod Plays
 pub mod Running
+pub mod Folding

@@ -1,55 +1,103 @@
--- What a script prints over a registry, and how its lines end.
-use Rattle.std.specs.Prelude.{◌≡◌, ℕ, ◌+◌, ◌⊎◌, Bool, true, false, List, [], ◌∷◌, ◌++◌, Option, Some, None}
-use Rattle.std.specs.Io.KnownBytes.{Appends}
-use Rattle.reg_tree.specs.Maps.{TreeMap}
+-- What a script prints over registries, and how its lines end.
+use Rattle.std.specs.Prelude.{◌≡◌, ℕ, ◌+◌, ◌⊎◌, Bool, true, false, List, [], ◌∷◌, ◌++◌, Option, Some, None, Result, Ok, Err, IfOk}
+use Rattle.std.specs.Io.KnownBytes.{Appends, Keeps}
+use Rattle.refusals.specs.Refusals.{refusal_text}
+use Rattle.refusals.specs.declared.refusal.Refusal.{Refusal}
 use Rattle.script_syntax.specs.Replies.{reply_line}
 use Rattle.script_syntax.specs.Statuses.{with_refusal}
 use Rattle.script_syntax.specs.declared.line.Line.{Line}
-use Rattle.script_syntax.specs.declared.line.Line.TheVariants.{Flush}
+use Rattle.script_syntax.specs.declared.line.Line.TheVariants.{Flush, Fold}
 use Rattle.script_syntax.specs.declared.reply.ReplyLine.{ReplyLine}
 use Rattle.script_syntax.specs.declared.status.Status.{Status}
+use Rattle.script_syntax.specs.declared.status.Status.TheVariants.{Refused}
 use Rattle.script_runner.specs.OutcomeOfLine.{TakesLine}
-use Rattle.script_runner.specs.Plays.{EndsAs, IsWrong, WereRead, is_refusal}
+use Rattle.script_runner.specs.Plays.{Ends, EndsAs, IsWrong, WereRead, is_refusal}
 use Rattle.script_runner.specs.Scripts.{line_asked}
 use Rattle.script_runner.specs.declared.end_of_script.EndOfScript.{EndOfScript}
 use Rattle.script_runner.specs.declared.end_of_script.EndOfScript.TheVariants.{Broken}
-use Rattle.registry_runner.specs.Scripts.{Script, Answers}
+use Rattle.registry_runner.specs.Scripts.{Script, Answers, Flushes, IsFlushed}
+use Rattle.registry_runner.specs.Parts.{Part, Folds, IsDue, IsUnlabelled, KeepsOrFolds, number_told, start_text, with_script}
+use Rattle.registry_runner.specs.declared.parts.NextPart.{NextPart}
+use Rattle.registry_runner.specs.declared.parts.PartKind.TheVariants.{Folded}
+use Rattle.registry_runner.specs.declared.lines.BetweenLines.{BetweenLines}
+use Rattle.registry_runner.specs.declared.lines.BetweenLines.TheVariants as between
 use Rattle.registry_runner.specs.declared.lines.LineOutcome.{LineOutcome}
-use Rattle.registry_runner.specs.declared.lines.LineOutcome.TheVariants.{Replied, Over}
+use Rattle.registry_runner.specs.declared.lines.LineOutcome.TheVariants as outcome
+use Rattle.registry_runner.specs.declared.lines.LinesEnd.{LinesEnd}
+use Rattle.registry_runner.specs.declared.lines.LinesEnd.TheVariants as come
+use Rattle.registry_runner.specs.declared.part_run.LinesEnded.{LinesEnded}
+use Rattle.registry_runner.specs.declared.part_run.LinesEnded.TheVariants as ended
+
+-- no part follows: the reason is the last line, and nothing more is read
+pub record IsStopped (why : Refusal) (lines : List (List ℕ)) (end_of_script : Option EndOfScript) (text : List ℕ) (status : Status) : Type 0 where
+  pub last : lines ≡ []
+  pub stopped : end_of_script ≡ None
+  pub printed : text ≡ refusal_text why ++ 10 ∷ []
+  pub refused : status ≡ Refused
 
 -- From old, at the line of this number, the lines and the way that reading ended print this text, end with this status
--- and leave the script so. Each line is answered in turn, by a reply that may be given, up to one that is not
--- understood.
-abbrev pub PlaysOn : List TreeMap → ℕ → Script → ℕ → List (List ℕ) → Option EndOfScript → List ℕ → Status → Script → Type 0
-PlaysOn trees before old number [] end_of_script text status end = EndsAs end_of_script text status × (end ≡ old)
-PlaysOn trees before old number (line ∷ lines) end_of_script text status end =
-    ((line_asked line ≡ None) × IsWrong number lines end_of_script text status × (end ≡ old))
-    ⊎ ((asked : Line) × (reported : ReplyLine) × (new : Script) × (rest : List ℕ) × (later : Status) × (line_asked line ≡ Some asked) × Answers trees before old asked reported new
-    × PlaysOn trees before new (number + 1) lines end_of_script rest later end × (text ≡ reply_line reported ++ rest) × (status ≡ with_refusal (is_refusal reported) later))
-
--- some lines were read from the line of this number on, and what was written is what they print
-abbrev pub IsPlayedOn : List TreeMap → ℕ → Script → ℕ → Option (List ℕ) → Option (List ℕ) → Option (List ℕ) → Status → Script → Type 0
-IsPlayedOn trees before old number known was is status end =
-    (lines : List (List ℕ)) × (end_of_script : Option EndOfScript) × (text : List ℕ) × WereRead known lines end_of_script × PlaysOn trees before old number lines end_of_script text status end × Appends was is text
-
--- a line was answered, or no line is read any more
-abbrev pub OutcomeOfLine : List TreeMap → ℕ → Script → ℕ → Option (List ℕ) → Option (List ℕ) → LineOutcome → Script → Option (List ℕ) → Option (List ℕ) → Type 0
-OutcomeOfLine trees before old number known was (Over status) new rest is = IsPlayedOn trees before old number known was is status new
-OutcomeOfLine trees before old number known was (Replied refused) new rest is =
-    (line : List ℕ) × (asked : Line) × (reported : ReplyLine) × TakesLine known rest line × (line_asked line ≡ Some asked) × Answers trees before old asked reported new
-    × Appends was is (reply_line reported) × (refused ≡ is_refusal reported)
+-- and leave the run so. Each line is answered in turn, by a reply that may be given, up to one that is not understood.
+-- A line `fold` that isn't refused folds the history, and the next part goes on with the line after it. A history may
+-- have as many changes as the limit says.
+abbrev pub PlaysOn : ℕ → Result Part Refusal → ℕ → List (List ℕ) → Option EndOfScript → List ℕ → Status → Result Part Refusal → Type 0
+PlaysOn limit (Err why) number lines end_of_script text status end = IsStopped why lines end_of_script text status × (end ≡ Err why)
+PlaysOn limit (Ok old) number [] end_of_script text status end = EndsAs end_of_script text status × (end ≡ Ok old)
+PlaysOn limit (Ok old) number (line ∷ lines) end_of_script text status end =
+    ((line_asked line ≡ None) × IsWrong number lines end_of_script text status × (end ≡ Ok old))
+    ⊎ ((asked : Line) × (reported : ReplyLine) × (new : Script) × (kept : Result Part Refusal) × (rest : List ℕ) × (later : Status) × (line_asked line ≡ Some asked) × Answers old.trees old.number old.script asked reported new
+    × KeepsOrFolds limit (with_script old new) reported kept × PlaysOn limit kept (number + 1) lines end_of_script rest later end × (text ≡ reply_line reported ++ rest) × (status ≡ with_refusal (is_refusal reported) later))
+    ⊎ ((mid : Script) × (next : Result Part Refusal) × (rest : List ℕ) × (line_asked line ≡ Some Fold) × IsFlushed old.trees old.number old.script mid × Folds (with_script old mid) next
+    × PlaysOn limit next (number + 1) lines end_of_script rest status end × (text ≡ start_text Folded next ++ rest))
 
 -- a script that can be read was read so; of another one no line is read
 abbrev pub WereReadIf : Bool → Option (List ℕ) → List (List ℕ) → Option EndOfScript → Type 0
 WereReadIf true known lines end_of_script = WereRead known lines end_of_script
 WereReadIf false known lines end_of_script = (lines ≡ []) × (end_of_script ≡ Some Broken)
 
--- the lines were read from the first on, if the script can be read, and what was written is what they print
-abbrev pub HaveRead : List TreeMap → ℕ → Bool → Script → Option (List ℕ) → Option (List ℕ) → Option (List ℕ) → Status → Script → Type 0
-HaveRead trees before can_read old known was is status end =
-    (lines : List (List ℕ)) × (end_of_script : Option EndOfScript) × (text : List ℕ) × WereReadIf can_read known lines end_of_script × PlaysOn trees before old 1 lines end_of_script text status end × Appends was is text
+-- some lines were read from the line of this number on, and what was written is what they print
+abbrev pub IsPlayedOn : ℕ → Bool → Result Part Refusal → ℕ → Option (List ℕ) → Option (List ℕ) → Option (List ℕ) → Status → Result Part Refusal → Type 0
+IsPlayedOn limit can_read old number known was is status end =
+    (lines : List (List ℕ)) × (end_of_script : Option EndOfScript) × (text : List ℕ) × WereReadIf can_read known lines end_of_script × PlaysOn limit old number lines end_of_script text status end × Appends was is text
 
--- the same, and the flush at their end was answered this reply
-abbrev pub HaveEnded : List TreeMap → ℕ → Bool → Script → Option (List ℕ) → Option (List ℕ) → Option (List ℕ) → Status → ReplyLine → Script → Type 0
-HaveEnded trees before can_read old known was is status flushed last =
-    (end : Script) × HaveRead trees before can_read old known was is status end × Answers trees before end Flush flushed last
+-- a line was answered; it asks for a fold, for which all was flushed; or no line is read any more
+abbrev pub OutcomeOfLine : ℕ → Part → ℕ → Option (List ℕ) → Option (List ℕ) → LineOutcome → Script → Option (List ℕ) → Option (List ℕ) → Type 0
+OutcomeOfLine limit old number known was (outcome.Over status) new rest is = IsPlayedOn limit true (Ok old) number known was is status (Ok (with_script old new))
+OutcomeOfLine limit old number known was outcome.ToFold new rest is =
+    (line : List ℕ) × TakesLine known rest line × (line_asked line ≡ Some Fold) × IsFlushed old.trees old.number old.script new × Keeps was is
+OutcomeOfLine limit old number known was (outcome.Replied refused told) new rest is =
+    (line : List ℕ) × (asked : Line) × (reported : ReplyLine) × TakesLine known rest line × (line_asked line ≡ Some asked) × Answers old.trees old.number old.script asked reported new
+    × Appends was is (reply_line reported) × (refused ≡ is_refusal reported) × (told ≡ number_told reported)
+
+-- after a line whose reply told a number, the script goes on in the same registry; or the history is to be folded
+abbrev pub Between : ℕ → Part → ℕ → BetweenLines → Script → Type 0
+Between limit old told (between.GoOn failed) new =
+    (new ≡ old.script) ⊎ (IsDue limit old told × IsUnlabelled old.script × (flushed : ReplyLine) × Flushes old.trees old.number old.script flushed new)
+Between limit old told between.ToFold new = IsDue limit old told × IsUnlabelled old.script × IsFlushed old.trees old.number old.script new
+
+-- However a run goes on once the history of a part is folded, that is how it goes on from a line of the part.
+abbrev pub GoesOnFolded : ℕ → Bool → Part → ℕ → Option (List ℕ) → Option (List ℕ) → NextPart → Part → Option (List ℕ) → Option (List ℕ) → Type 0
+GoesOnFolded limit can_read old number known was next mid rest is =
+    (can_read ≡ true) × (next.moment ≡ mid.script.moment)
+    × ((follows : Result Part Refusal) (told after : Option (List ℕ)) (status : Status) (end : Result Part Refusal) → Folds mid follows → Appends is told (start_text next.kind follows) → IsPlayedOn limit can_read follows next.line rest told after status end
+    → IsPlayedOn limit can_read (Ok old) number known was after (with_refusal next.has_refusal status) end)
+
+-- What came of the lines from the line of this number on. They ended, and the script is left so. Or the history is to be
+-- folded: however the run goes on then, that is how it goes on from the first of these lines.
+abbrev pub LinesCome : ℕ → Bool → Part → ℕ → Option (List ℕ) → Option (List ℕ) → LinesEnd → Script → Option (List ℕ) → Option (List ℕ) → Type 0
+LinesCome limit can_read old number known was (come.Ended status) new rest is = IsPlayedOn limit can_read (Ok old) number known was is status (Ok (with_script old new))
+LinesCome limit can_read old number known was (come.ToFold next) new rest is = GoesOnFolded limit can_read old number known was next (with_script old new) rest is
+
+-- the lines were read, and the flush at their end was answered this reply
+abbrev pub HaveEnded : ℕ → Bool → Part → ℕ → Option (List ℕ) → Option (List ℕ) → Option (List ℕ) → Status → ReplyLine → Script → Type 0
+HaveEnded limit can_read old number known was is status flushed last =
+    (end : Script) × IsPlayedOn limit can_read (Ok old) number known was is status (Ok (with_script old end)) × Answers old.trees old.number end Flush flushed last
+
+-- what came of a part's lines, and of the flush at their end
+abbrev pub PartComes : ℕ → Bool → Part → ℕ → Option (List ℕ) → Option (List ℕ) → LinesEnded → Script → Option (List ℕ) → Option (List ℕ) → Type 0
+PartComes limit can_read old number known was (ended.AtEnd played failed flush) new rest is = IfOk played (λ status. HaveEnded limit can_read old number known was is status flush new)
+PartComes limit can_read old number known was (ended.ToFold next) new rest is = GoesOnFolded limit can_read old number known was next (with_script old new) rest is
+
+-- no line is read of a script that can't be read
+abbrev pub IsUnread : Option (List ℕ) → Option (List ℕ) → LinesEnd → Type 0
+IsUnread was is (come.Ended status) = (text : List ℕ) × Ends Broken text status × Appends was is text
+IsUnread was is (come.ToFold next) = ⊥

@@ -1,10 +1,12 @@
 -- The run of a script over the store that is on a disk: what is written, with which status, and what is left.
-use Rattle.std.specs.Prelude.{◌≡◌, ◌⊎◌, ℕ, Bool, true, false, List, [], ◌++◌, ◌∷◌, if◌then◌else◌, Option, Some, None, Result, Ok, Err, is_some}
-use Rattle.std.specs.Io.KnownBytes.{Appends}
+use Rattle.std.specs.Prelude.{◌≡◌, ◌⊎◌, ℕ, Bool, true, false, List, [], ◌++◌, ◌∷◌, ◌+◌, if◌then◌else◌, Option, Some, None, Result, Ok, Err, IfOk, is_some, length}
+use Rattle.std.specs.Io.KnownBytes.{Appends, Keeps}
 use Rattle.refusals.specs.Refusals.{refusal_text}
 use Rattle.refusals.specs.declared.refusal.Refusal.{Refusal}
-use Rattle.refusals.specs.declared.refusal.Refusal.TheVariants.{NoMemory, NoSeat, DiskFault, Faulted}
+use Rattle.refusals.specs.declared.refusal.Refusal.TheVariants.{NoMemory, DiskFault, Faulted}
 use Rattle.reg_tree.specs.Maps.{TreeMap}
+use Rattle.reg_tree.specs.Sequences.{after_elements}
+use Rattle.reg_tree.specs.declared.element.Element.{Element}
 use Rattle.script_syntax.specs.Replies.{reply_line}
 use Rattle.script_syntax.specs.Statuses.{with_refusal}
 use Rattle.script_syntax.specs.declared.line.Line.TheVariants.{Flush}
@@ -14,22 +16,18 @@ use Rattle.script_syntax.specs.declared.status.Status.TheVariants.{Refused}
 use Rattle.script_runner.specs.Plays.{is_refusal}
 use Rattle.script_runner.specs.Running.{IsOpenedOn, LeavesPrefix, MayNotOpen, opened_text}
 use Rattle.script_runner.specs.declared.end_of_script.EndOfScript.{EndOfScript}
-use Rattle.ktm_calls.specs.Denials.{IsOpened, denial_of}
-use Rattle.ktm_calls.specs.Kinds.{Told}
+use Rattle.ktm_calls.specs.Denials.{denial_of}
 use Rattle.ktm_calls.specs.Moments.{IsOf}
 use Rattle.ktm_calls.specs.declared.registry.Denied.{Denied}
 use Rattle.commit_journal.specs.Store.{Store}
 use Rattle.disk_model.specs.FileState.{FileState}
 use Rattle.store_model.specs.Machine.{Machine}
-use Rattle.registry_runner.specs.Plays.{PlaysOn, WereReadIf}
-use Rattle.registry_runner.specs.Scripts.{Script, Answers, MayNotEnter}
-
--- a script before its first line: a session was just opened, and no label names anything
-pub record IsBegun (trees : List TreeMap) (number : ℕ) (script : Script) : Type 0 where
-  pub told : Told
-  pub opened : IsOpened trees number script.session told
-  pub moment : script.moment ≡ 0
-  pub labels : (label : List ℕ) → script.labels label ≡ None
+use Rattle.registry_runner.specs.Parts.{Part, BeginsOrNot, FoldsAt, IsBegun, MayNotBegin, start_text}
+use Rattle.registry_runner.specs.Plays.{IsPlayedOn, PlaysOn, WereReadIf}
+use Rattle.registry_runner.specs.Scripts.{Script, Answers}
+use Rattle.registry_runner.specs.declared.parts.PartStart.{PartStart}
+use Rattle.registry_runner.specs.declared.parts.PartEnd.{PartEnd}
+use Rattle.registry_runner.specs.declared.parts.PartEnd.TheVariants.{RunEnded, ToFold}
 
 -- a flush that no line asked for is reported if it is refused
 abbrev pub flushed_text : ReplyLine → List ℕ
@@ -66,24 +64,25 @@ pub record HasEnded (trees : List TreeMap) (number : ℕ) (script : Script) (cam
   pub wrote : Appends before after (flushed_text reported ++ undone_text undone)
   pub status_is : status ≡ with_refusal (is_some undone) (with_refusal (is_refusal reported) came_to)
 
--- The store's number was reported; these lines were played over a registry of the store, up to this end of the script;
+-- how a run ends whose lines left it so, with this status: as a script does; or with nothing more, as no part followed
+abbrev pub EndsRun : Result Part Refusal → Status → Option (List ℕ) → Option (List ℕ) → Status → Type 0
+EndsRun (Ok part) came_to before after status = HasEnded part.trees part.number part.script came_to before after status
+EndsRun (Err why) came_to before after status = Keeps before after × (status ≡ came_to)
+
+-- The store's number was reported; these lines were played over registries of the store, up to this end of the script;
 -- and at the end all was flushed.
-pub record RunsOver (trees : List TreeMap) (number : ℕ) (lines : List (List ℕ)) (end_of_script : Option EndOfScript) (before after : Option (List ℕ)) (status : Status) : Type 0 where
+pub record RunsOver (limit : ℕ) (trees : List TreeMap) (number : ℕ) (lines : List (List ℕ)) (end_of_script : Option EndOfScript) (before after : Option (List ℕ)) (status : Status) : Type 0 where
   pub opened : Option (List ℕ)
   pub told : Appends before opened (opened_text number)
   pub script : Script
-  pub begun : IsBegun trees number script
+  pub begun : IsBegun trees number 0 script
   pub text : List ℕ
   pub came_to : Status
-  pub end : Script
-  pub plays : PlaysOn trees number script 1 lines end_of_script text came_to end
+  pub end : Result Part Refusal
+  pub plays : PlaysOn limit (Ok (record { trees = trees; number = number; script = script })) 1 lines end_of_script text came_to end
   pub played : Option (List ℕ)
   pub wrote : Appends opened played text
-  pub ends : HasEnded trees number end came_to played after status
-
--- Why no script begins over a store that was opened: there is no memory, no reader, or a machine refused session 0.
-abbrev pub MayNotBegin : List TreeMap → ℕ → Refusal → Type 0
-MayNotBegin trees number why = (why ≡ NoMemory) ⊎ (why ≡ NoSeat) ⊎ MayNotEnter trees number why
+  pub ends : EndsRun end came_to played after status
 
 -- nothing is read, and the reason is written
 pub record IsReported (may : Refusal → Type 0) (before after : Option (List ℕ)) (status : Status) : Type 0 where
@@ -93,27 +92,32 @@ pub record IsReported (may : Refusal → Type 0) (before after : Option (List �
   pub status_is : status ≡ Refused
 
 -- A script over an opened store: it doesn't begin, and the reason is written; or it runs.
-abbrev pub RunsOrNot : Bool → Option (List ℕ) → List TreeMap → ℕ → Option (List ℕ) → Option (List ℕ) → Status → Type 0
-RunsOrNot can_read known trees number before after status =
+abbrev pub RunsOrNot : ℕ → Bool → Option (List ℕ) → List TreeMap → ℕ → Option (List ℕ) → Option (List ℕ) → Status → Type 0
+RunsOrNot limit can_read known trees number before after status =
     IsReported (MayNotBegin trees number) before after status
-    ⊎ ((lines : List (List ℕ)) × (end_of_script : Option EndOfScript) × WereReadIf can_read known lines end_of_script × RunsOver trees number lines end_of_script before after status)
+    ⊎ ((lines : List (List ℕ)) × (end_of_script : Option EndOfScript) × WereReadIf can_read known lines end_of_script × RunsOver limit trees number lines end_of_script before after status)
 
--- A store was opened on these files, and a script ran over a registry of it. The disk as it was after the opening is
--- `first`: if it is faithful, the registry's list begins with the number and the trees that the files recover.
+-- A store was opened on these files, and a script ran over registries of it. The disk as it was after the opening is
+-- `first`: if it is faithful, the first registry's list begins with the number and the trees that the files recover.
 pub record OpensAndRuns {D : Type 0} (is_faithful : D → Type 0) (files : ℕ → List ℕ) (can_read : Bool) (known before after : Option (List ℕ)) (status : Status) : Type 0 where
   pub first : D
   pub store : Store
   pub number : ℕ
   pub machine : Machine
   pub opened : IsOpenedOn (is_faithful first) files store number [] machine
-  pub runs : RunsOrNot can_read known machine.opened number before after status
+  pub runs : RunsOrNot machine.bounds.changes can_read known machine.opened number before after status
 
 -- A run: no store was opened, and the reason is written; or one was.
 abbrev pub IsRun : {D : Type 0} → (D → Type 0) → Type 0 → Type 0 → (ℕ → List ℕ) → Bool → Option (List ℕ) → Option (List ℕ) → Option (List ℕ) → Status → Type 0
 IsRun is_faithful failed faithful files can_read known before after status =
     IsReported (MayNotOpen failed faithful files) before after status ⊎ OpensAndRuns is_faithful files can_read known before after status
 
--- A store was opened on these files, and a machine of its registry has reached a state. If the disk that is left is
+-- a machine is of a registry of the store that was opened on these trees after the change of this number: some changes
+-- were folded, and its history begins after them
+abbrev pub IsOfStore : List TreeMap → ℕ → Machine → Type 0
+IsOfStore trees number machine = (folded : List Element) × IsOf (after_elements trees folded) (number + length folded) machine
+
+-- A store was opened on these files, and a machine of a registry of it has reached a state. If the disk that is left is
 -- faithful, whatever a crash leaves of it recovers a prefix of that machine's changes, and so does what a read gives
 -- unless it is faulted.
 pub record LeavesStore {D : Type 0} (is_faithful : D → Type 0) (files : ℕ → List ℕ) (faithful : Type 0) (states : ℕ → ℕ → FileState) (clock : ℕ) : Type 0 where
@@ -124,5 +128,24 @@ pub record LeavesStore {D : Type 0} (is_faithful : D → Type 0) (files : ℕ �
   pub opened : IsOpenedOn (is_faithful first) files found number [] begun
   pub store : Store
   pub machine : Machine
-  pub owner : IsOf begun.opened number machine
+  pub owner : IsOfStore begun.opened number machine
   pub left : LeavesPrefix faithful states clock store machine
+
+-- From here the lines were read to their end, and the run has ended; or no part follows, which is the last line.
+abbrev pub GoesToEnd : ℕ → Bool → Result Part Refusal → ℕ → Option (List ℕ) → Option (List ℕ) → Option (List ℕ) → Status → Type 0
+GoesToEnd limit can_read (Err why) line known was is status = Appends was is (refusal_text why ++ 10 ∷ []) × (status ≡ Refused)
+GoesToEnd limit can_read (Ok here) line known was is status =
+    (end : Result Part Refusal) × (came_to : Status) × (played : Option (List ℕ)) × IsPlayedOn limit can_read (Ok here) line known was played came_to end × EndsRun end came_to played is status
+
+-- a part was to begin on these trees after the change of this number: from there the run went to its end
+abbrev pub RunsFrom : PartStart → List TreeMap → ℕ → Option (List ℕ) → Option (List ℕ) → Option (List ℕ) → Status → Type 0
+RunsFrom start trees number known was is status =
+    (first : Result Part Refusal) × (told : Option (List ℕ)) × BeginsOrNot trees number start.moment first × Appends was told (start_text start.kind first) × GoesToEnd start.limit start.can_read first start.line known told is status
+
+-- The run ended in a part that was to begin so. Or the part's history is to be folded: however the run goes to its end
+-- then, that is how it does from the part's beginning.
+abbrev pub EndsPart : PartStart → List TreeMap → ℕ → Option (List ℕ) → Option (List ℕ) → PartEnd → Option (List ℕ) → Option (List ℕ) → Type 0
+EndsPart start trees number known was (RunEnded ran) rest is = IfOk ran (λ status. RunsFrom start trees number known was is status)
+EndsPart start trees number known was (ToFold next) rest is =
+    (follows : Result Part Refusal) (told after : Option (List ℕ)) (status : Status) → FoldsAt trees number next.moment follows → Appends is told (start_text next.kind follows) → GoesToEnd start.limit start.can_read follows next.line rest told after status
+    → RunsFrom start trees number known was after (with_refusal next.has_refusal status)

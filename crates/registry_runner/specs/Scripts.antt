@@ -1,23 +1,28 @@
 -- What the lines of a script ask of a registry, and the replies to them.
-use Rattle.std.specs.Prelude.{◌≡◌, ℕ, ◌⊎◌, List, [], Option, Some, None, Result, Ok, Err}
+use Rattle.std.specs.Prelude.{◌≡◌, ℕ, ◌⊎◌, true, false, List, [], Option, Some, None, Result, Ok, Err}
 use Rattle.refusals.specs.declared.refusal.Refusal.{Refusal}
 use Rattle.refusals.specs.declared.refusal.Refusal.TheVariants.{NoMemory, NoSuchHandle}
 use Rattle.reg_tree.specs.Maps.{TreeMap}
 use Rattle.reg_tree.specs.declared.element.Element.{Element}
+use Rattle.script_runner.specs.Plays.{is_refusal}
 use Rattle.script_runner.specs.Requests.{operation_of}
 use Rattle.script_runner.specs.Scripts.{Names, SameNames}
 use Rattle.script_runner.specs.declared.operation.Operation.{Operation}
 use Rattle.script_syntax.specs.declared.line.Line.{Line}
-use Rattle.script_syntax.specs.declared.line.Line.TheVariants.{Hives, At, Session, End, Plain, Begin, Inside, Commit, Rollback, Close, Outcome, Flush, Lab}
+use Rattle.script_syntax.specs.declared.line.Line.TheVariants.{Hives, History, At, Session, End, Plain, Begin, Inside, Commit, Rollback, Close, Outcome, Flush, Fold, Lab}
 use Rattle.script_syntax.specs.declared.reply.ReplyLine.{ReplyLine}
 use Rattle.script_syntax.specs.declared.reply.ReplyLine.TheVariants as reply
 use Rattle.store_model.specs.declared.event.Event.{Event}
 use Rattle.store_model.specs.declared.event.Event.TheVariants as event
 use Rattle.store_model.specs.declared.event.Reply.TheVariants as answer
 use Rattle.store_model.specs.declared.handle.Tx.{Tx}
+use Rattle.ktm_calls.specs.Denials.{IsTurnDenied}
 use Rattle.ktm_calls.specs.Kinds.{Told}
 use Rattle.ktm_calls.specs.Moments.{NumberedList, Tells}
-use Rattle.registry_runner.specs.Heard.{GoesOn, Hears, HearsAlone, HearsDurably, HearsInside, IsHeard}
+use Rattle.ktm_calls.specs.declared.registry.Denied.{Denied}
+use Rattle.registry_runner.specs.declared.script.LineAnswer.{LineAnswer}
+use Rattle.registry_runner.specs.declared.script.LineAnswer.TheVariants as answered
+use Rattle.registry_runner.specs.Heard.{GoesOn, Hears, HearsAlone, HearsDurably, HearsInside, IsHeard, denied_reply}
 
 -- a script between two lines: the moment of what follows, the session in which it is asked, and the transaction that
 -- each label names
@@ -94,10 +99,26 @@ pub record BeginsNothing (trees : List TreeMap) (number : ℕ) (old : Script) (i
   pub rest : new ≡ record old { session = new.session; labels = new.labels }
   pub names : SameNames old.labels new.labels
 
+-- all that was accepted is made durable
+abbrev pub Flushes : List TreeMap → ℕ → Script → ReplyLine → Script → Type 0
+Flushes trees number old reported new = AsksDurably trees number old event.FlushAsk reply.Flushed reported new
+
+-- all that was accepted is made durable, and that isn't refused
+abbrev pub IsFlushed : List TreeMap → ℕ → Script → Script → Type 0
+IsFlushed trees number old new = (flushed : ReplyLine) × Flushes trees number old flushed new × (is_refusal flushed ≡ false)
+
+-- The history isn't folded: the flush before it is refused; or a step is that moves into the hives what they lack.
+abbrev pub RefusesFold : List TreeMap → ℕ → Script → ReplyLine → Script → Type 0
+RefusesFold trees number old reported new =
+    (Flushes trees number old reported new × (is_refusal reported ≡ true))
+    ⊎ (IsFlushed trees number old new × (why : Denied) × IsTurnDenied why × (reported ≡ denied_reply why))
+
 -- From old, the line may be answered this reply over a registry whose list begins with these trees after this number,
--- and leave new. Its names are tested first: the path, then a value's name; then its label.
+-- and leave new. Its names are tested first: the path, then a value's name; then its label. A line `fold` is answered
+-- here only if it is refused.
 abbrev pub Answers : List TreeMap → ℕ → Script → Line → ReplyLine → Script → Type 0
 Answers trees number old (Hives count) reported new = ⊥
+Answers trees number old (History limit) reported new = ⊥
 Answers trees number old (At moment) reported new = (reported ≡ reply.Done) × (new ≡ record old { moment = moment })
 Answers trees number old (Session wanted) reported new = Enters trees number old reported new
 Answers trees number old (End wanted) reported new = Ends trees number old reported new
@@ -115,5 +136,11 @@ Answers trees number old (Close label) reported new =
     IsLabelled (old.labels label) (λ tx. Asks trees number old (event.Close old.session.number tx) reported new) old reported new
 Answers trees number old (Outcome label) reported new =
     IsLabelled (old.labels label) (λ tx. Asks trees number old (event.Outcome old.session.number tx) reported new) old reported new
-Answers trees number old Flush reported new = AsksDurably trees number old event.FlushAsk reply.Flushed reported new
+Answers trees number old Flush reported new = Flushes trees number old reported new
+Answers trees number old Fold reported new = RefusesFold trees number old reported new
 Answers trees number old (Lab line) reported new = ⊥
+
+-- a line is answered by a reply; or it is `fold`, for which all was made durable
+abbrev pub AnswersLine : List TreeMap → ℕ → Script → Line → LineAnswer → Script → Type 0
+AnswersLine trees number old asked (answered.Reply reported) new = Answers trees number old asked reported new
+AnswersLine trees number old asked answered.ToFold new = (asked ≡ Fold) × IsFlushed trees number old new

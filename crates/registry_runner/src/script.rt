@@ -1,15 +1,17 @@
 //! A script between two lines, and its lines.
-ghost use Rattle.std.specs.Prelude.{◌≡◌, Some, None, IfErr, IfNone, IfOk, IfSome, MatchOption, OnErr};
+ghost use Rattle.std.specs.Prelude.{◌≡◌, ◌<◌, ◌+◌, true, Some, None, IfErr, IfNone, IfOk, IfSome, MatchOption, OnErr};
 ghost use Rattle.refusals.specs.declared.refusal.Refusal.TheVariants.{NoSuchHandle};
 ghost use Rattle.script_syntax.specs.declared.line.Line.{Line as AnyLine};
 ghost use Rattle.script_syntax.specs.declared.line.Line.TheVariants.{Inside, Plain};
 ghost use Rattle.script_syntax.specs.declared.reply.ReplyLine.TheVariants.{Refused};
 ghost use Rattle.script_runner.specs.Scripts.{later_line, line_asked};
 ghost use Rattle.registry_runner.specs.Interpreters.{script_of};
-ghost use Rattle.registry_runner.specs.Running.{IsBegun};
-ghost use Rattle.registry_runner.specs.Scripts.{Answers, MayNotEnter};
+ghost use Rattle.registry_runner.specs.Parts.{IsBegun, IsUnlabelled};
+ghost use Rattle.registry_runner.specs.Scripts.{Answers, AnswersLine, MayNotEnter};
 
 use crate::caller::Caller;
+use crate::labels::tx_of;
+use crate::parts::{NextPart, PartKind};
 use ktm_calls::{Key, Session, StoreEngine};
 use published_trees::Origin;
 use refusals::Refusal;
@@ -48,11 +50,23 @@ impl<O: Origin> OpenSession<O> {
     }
 }
 
+/// What is answered to a line.
+pub enum LineAnswer {
+    /// A reply.
+    Reply {
+        /// The reply.
+        reply: ReplyLine,
+    },
+    /// The history is to be folded: all that was accepted is durable and in the hives.
+    ToFold,
+}
+
 /// A script between two lines: the current moment and session, the other sessions that it opened, and the transaction
 /// that each label names.
 pub struct Script<O: Origin> {
     pub(crate) moment: u64,
-    pub(crate) labels: Labels,
+    // none before the first label
+    pub(crate) labels: Option<Labels>,
     // the number of the current session, which may have ended
     pub(crate) number: u32,
     pub(crate) is_open: bool,
@@ -82,15 +96,16 @@ impl<O: Origin> Script<O> {
     /// that session is, and with `NoMemory`.
     pub fn begin<E: StoreEngine, R: Wait>(
         caller: &Caller<'_, E, O, R>,
+        moment: u64,
     ) -> Result<Script<O>, Refusal>
-        ensures begun { IfOk result (λ script. IsBegun O.trees O.number (script_of script)) }
+        ensures begun { IfOk result (λ script. IsBegun O.trees O.number moment (script_of script)) }
         ensures refused { IfErr result (MayNotEnter O.trees O.number) }
     {
         let root = Key::new(0, Path::root(caller.alloc)?);
         let session = caller.open_session()?;
         Ok(Script {
-            moment: 0,
-            labels: Labels::new(caller.alloc),
+            moment,
+            labels: None,
             number: 0,
             is_open: true,
             session,
@@ -105,13 +120,13 @@ impl<O: Origin> Script<O> {
         &mut self,
         caller: &Caller<'_, E, O, R>,
         bytes: &[u8],
-    ) -> Result<Option<ReplyLine>, AllocError>
+    ) -> Result<Option<LineAnswer>, AllocError>
         ensures none { IfOk result (λ made. IfNone made
             ((line_asked bytes.now ≡ None) × (self.new ≡ self.old))) }
         ensures err { OnErr result (self.new ≡ self.old) }
         ensures some { IfOk result (λ made. IfSome made
-            (λ reported. (asked : AnyLine) × (line_asked bytes.now ≡ Some asked)
-            × Answers O.trees O.number (script_of self.old) asked reported (script_of self.new))) }
+            (λ answer. (asked : AnyLine) × (line_asked bytes.now ≡ Some asked)
+            × AnswersLine O.trees O.number (script_of self.old) asked answer (script_of self.new))) }
     {
         match read_line(caller.alloc, bytes) {
             Ok(line) => Ok(self.answer(caller, line)),
@@ -120,18 +135,19 @@ impl<O: Origin> Script<O> {
         }
     }
 
-    // answers a line, or `None` if it is a script's first line or one that only a laboratory takes
+    // answers a line, or `None` if it makes a script's store or only a laboratory takes it
     fn answer<E: StoreEngine, R: Wait>(
         &mut self,
         caller: &Caller<'_, E, O, R>,
         line: Line,
-    ) -> Option<ReplyLine>
-        ensures reported { MatchOption result ((later_line (Some line) ≡ None) × (self.new ≡ self.old))
-            (λ reported. (later_line (Some line) ≡ Some line)
-            × Answers O.trees O.number (script_of self.old) line reported (script_of self.new)) }
+    ) -> Option<LineAnswer>
+        ensures answered { MatchOption result ((later_line (Some line) ≡ None) × (self.new ≡ self.old))
+            (λ answer. (later_line (Some line) ≡ Some line)
+            × AnswersLine O.trees O.number (script_of self.old) line answer (script_of self.new)) }
     {
         let answered = match line {
-            Line::Hives { .. } | Line::Lab { .. } => return None,
+            Line::Hives { .. } | Line::History { .. } | Line::Lab { .. } => return None,
+            Line::Fold => return Some(self.fold(caller)),
             Line::At { moment } => {
                 self.moment = moment;
                 Ok(ReplyLine::Done)
@@ -148,8 +164,10 @@ impl<O: Origin> Script<O> {
             Line::Flush => Ok(self.flush(caller)),
         };
         match answered {
-            Ok(reply) => Some(reply),
-            Err(refusal) => Some(ReplyLine::Refused { refusal }),
+            Ok(reply) => Some(LineAnswer::Reply { reply }),
+            Err(refusal) => Some(LineAnswer::Reply {
+                reply: ReplyLine::Refused { refusal },
+            }),
         }
     }
 
@@ -189,9 +207,35 @@ impl<O: Origin> Script<O> {
         ensures refused { IfErr result (λ refusal. ((script_of self.now).labels label ≡ None)
             × (refusal ≡ NoSuchHandle)) }
     {
-        match self.labels.tx(label) {
+        match tx_of(&self.labels, label) {
             Some(tx) => Ok(tx),
             None => Err(Refusal::NoSuchHandle),
+        }
+    }
+
+    /// Whether a fold ends nothing of the script: session 0 alone is open, and is the current one, and there are no
+    /// labels.
+    pub fn has_nothing_to_end(&self) -> bool
+        ensures { result ≡ true → IsUnlabelled (script_of self.now) }
+    {
+        self.is_open && self.number == 0 && self.others.is_empty() && self.labels.is_none()
+    }
+
+    /// With what the next part goes on, if the history is folded at the line of this number.
+    pub fn next_part(&self, kind: PartKind, line: u64, has_refusal: bool) -> NextPart
+        requires line { line < u64.MAX }
+        ensures { result ≡ record {
+          kind = kind;
+          line = line + 1;
+          moment = (script_of self.now).moment;
+          has_refusal = has_refusal;
+        } }
+    {
+        NextPart {
+            kind,
+            line: line + 1,
+            moment: self.moment,
+            has_refusal,
         }
     }
 }

@@ -1,16 +1,17 @@
-//! The lines of transactions, and the line `flush`.
+//! The lines of transactions, and the lines `flush` and `fold`.
 ghost use Rattle.std.specs.Prelude.{IfErr, IfOk};
-ghost use Rattle.script_syntax.specs.declared.line.Line.TheVariants.{Begin, Close, Commit, Flush, Outcome, Rollback};
+ghost use Rattle.script_syntax.specs.declared.line.Line.TheVariants.{Begin, Close, Commit, Flush, Fold, Outcome, Rollback};
 ghost use Rattle.script_syntax.specs.declared.reply.ReplyLine.TheVariants.{Refused};
 ghost use Rattle.registry_runner.specs.Interpreters.{script_of};
-ghost use Rattle.registry_runner.specs.Scripts.{Answers};
+ghost use Rattle.registry_runner.specs.Scripts.{Answers, AnswersLine};
 
 use crate::caller::{Caller, denied_reply, reply_to};
-use crate::script::Script;
+use crate::labels::{make_room, name};
+use crate::script::{LineAnswer, Script};
 use ktm_calls::StoreEngine;
 use published_trees::Origin;
 use refusals::Refusal;
-use script_runner::reply_of;
+use script_runner::{is_refusal, reply_of};
 use script_syntax::{Label, ReplyLine};
 use std::sync::Wait;
 use uuid::Uuid;
@@ -29,13 +30,13 @@ impl<O: Origin> Script<O> {
         ensures refused { IfErr result (λ refusal. Answers O.trees O.number (script_of self.old)
             (Begin label id) (Refused refusal) (script_of self.new)) }
     {
-        self.labels.make_room(label)?;
+        make_room(&mut self.labels, caller.alloc, label)?;
         match caller
             .registry
             .create_transaction(caller.rt, &mut self.session, id)
         {
             Ok((tx, _told)) => {
-                self.labels.name(label, tx);
+                name(&mut self.labels, label, tx);
                 Ok(ReplyLine::Done)
             }
             Err(denied) => Ok(denied_reply(denied)),
@@ -128,6 +129,23 @@ impl<O: Origin> Script<O> {
                 number: receipt.number(),
             },
             Err(denied) => denied_reply(denied),
+        }
+    }
+
+    /// Makes ready for a fold: makes all accepted changes durable, as the line `flush` does, and moves them into the
+    /// hives. If one of the two is refused, that is the reply.
+    pub fn fold<E: StoreEngine, R: Wait>(&mut self, caller: &Caller<'_, E, O, R>) -> LineAnswer
+        ensures { AnswersLine O.trees O.number (script_of self.old) Fold result (script_of self.new) }
+    {
+        let reply = self.flush(caller);
+        if is_refusal(&reply) {
+            return LineAnswer::Reply { reply };
+        }
+        match caller.registry.checkpoint(caller.rt) {
+            Ok(_receipt) => LineAnswer::ToFold,
+            Err(denied) => LineAnswer::Reply {
+                reply: denied_reply(denied),
+            },
         }
     }
 }

@@ -1,52 +1,100 @@
-use Rattle.std.proofs.Common.{refl, sym, subst}
-use Rattle.script_syntax.specs.Statuses.{with_refusal}
-use Rattle.script_runner.specs.declared.end_of_script.EndOfScript.TheVariants.{Broken}
-use Rattle.script_runner.proofs.Runs.{broken_is_no_end, none_read, refusals_join}
-use Rattle.registry_runner.specs.Interpreters.{script_of}
-use Rattle.registry_runner.specs.Plays.{IsPlayedOn, OutcomeOfLine}
-use Rattle.registry_runner.proofs.Playing.{continues, ends_here}
+use Rattle.std.proofs.Common.{◌∙◌, subst}
+use Rattle.registry_runner.specs.Interpreters.{part_of, script_of}
+use Rattle.registry_runner.specs.Plays.{Between, OutcomeOfLine}
+use Rattle.registry_runner.proofs.LineProofs.{folds_asked, folds_between, next_line, over, too_many}
 use Rattle.registry_runner.proofs.lines.go_on.Goals as goal
 
 pub loop-number-preserved : goal.loop-number-preserved
 loop-number-preserved g c =
     let O = g.O.Origin in
+    let limit = c.args.start.limit in
     let remaining = g.B.Read.remaining in
     let contents = g.W.Write.contents in
-    let old = script_of c.loop-number.script in
-    let new = script_of c.take_line.new.script in
+    let old = c.loop-number.script in
+    let new = c.take_line.new.script in
+    let kept = c.work_between_lines.new.script in
     let known = remaining c.loop-number.reader in
     let rest = remaining c.take_line.new.reader in
     let before = contents c.loop-number.writer in
     let reported = contents c.take_line.new.writer in
     let mid = contents c.work_between_lines.new.writer in
-    let now = c.in-Replied.is_refusal in
     let number = c.loop-number.number in
-    let turn = subst (λ turn. OutcomeOfLine O.trees O.number old number known before turn new rest reported) c.in-Replied.is c.in_ok-is_refusal.ensures in
-    λ status after end on.
-    subst (λ s. IsPlayedOn O.trees O.number (script_of c.args.script.now) 1 (remaining c.args.reader.now) (contents c.args.writer.now) after s end) (refusals_join c.loop-number.has_refusal now status)
-    (c.loop-number.invariant (with_refusal now status) after end (continues O.trees O.number old new end number known rest before reported mid after now status turn c.in_ok-work_between_lines.ensures on))
+    let now = c.in-Replied.is_refusal in
+    let told = c.in-Replied.told in
+    let turn = subst (λ turn. OutcomeOfLine limit (part_of O.trees O.number old) number known before turn (script_of new) rest reported) c.in-Replied.is c.in_ok-is_refusal.ensures in
+    let here = subst (λ n. Between n (part_of O.trees O.number new) told c.in_ok-failed-in-Replied.field-0 (script_of kept)) c.loop-number.invariant.1 c.in_ok-failed-in-Replied.ensures.between in
+    let worked = subst (λ next. Between limit (part_of O.trees O.number new) told next (script_of kept)) c.in-GoOn.is here in
+    let same = c.work_between_lines.ensures.same in (
+      same.0 ∙ c.loop-number.invariant.0,
+      same.1 ∙ c.loop-number.invariant.1,
+      next_line limit O.trees O.number (script_of c.args.script.now) c.args.start.line (remaining c.args.reader.now) (contents c.args.writer.now) c.loop-number.has_refusal (script_of old) number known before c.loop-number.invariant.2
+          (script_of new) (script_of kept) rest reported mid now told turn c.in_ok-failed-in-Replied.ensures.kept c.in-GoOn.failed worked,
+    )
+
+pub returns-in-ToFold-2 : goal.returns-in-ToFold-2
+returns-in-ToFold-2 g c =
+    let O = g.O.Origin in
+    let limit = c.args.start.limit in
+    let remaining = g.B.Read.remaining in
+    let contents = g.W.Write.contents in
+    let old = c.loop-number.script in
+    let new = c.take_line.new.script in
+    let kept = c.work_between_lines.new.script in
+    let known = remaining c.loop-number.reader in
+    let rest = remaining c.take_line.new.reader in
+    let before = contents c.loop-number.writer in
+    let reported = contents c.take_line.new.writer in
+    let mid = contents c.work_between_lines.new.writer in
+    let number = c.loop-number.number in
+    let now = c.in-Replied.is_refusal in
+    let told = c.in-Replied.told in
+    let turn = subst (λ turn. OutcomeOfLine limit (part_of O.trees O.number old) number known before turn (script_of new) rest reported) c.in-Replied.is c.in_ok-is_refusal.ensures in
+    let here = subst (λ n. Between n (part_of O.trees O.number new) told c.in_ok-failed-in-Replied.field-0 (script_of kept)) c.loop-number.invariant.1 c.in_ok-failed-in-Replied.ensures.between in
+    let worked = subst (λ next. Between limit (part_of O.trees O.number new) told next (script_of kept)) c.in-ToFold-2.is here in
+    folds_between limit O.trees O.number (script_of c.args.script.now) c.args.start.line (remaining c.args.reader.now) (contents c.args.writer.now) c.loop-number.has_refusal (script_of old) number known before c.loop-number.invariant.2
+    (script_of new) (script_of kept) rest reported mid now told turn c.in_ok-failed-in-Replied.ensures.kept c.next_part-next.result worked c.next_part-next.ensures
+
+pub returns-in-ToFold : goal.returns-in-ToFold
+returns-in-ToFold g c =
+    let O = g.O.Origin in
+    let limit = c.args.start.limit in
+    let remaining = g.B.Read.remaining in
+    let contents = g.W.Write.contents in
+    let old = c.loop-number.script in
+    let new = c.take_line.new.script in
+    let known = remaining c.loop-number.reader in
+    let rest = remaining c.take_line.new.reader in
+    let before = contents c.loop-number.writer in
+    let after = contents c.take_line.new.writer in
+    let number = c.loop-number.number in
+    let turn = subst (λ turn. OutcomeOfLine limit (part_of O.trees O.number old) number known before turn (script_of new) rest after) c.in-ToFold.is c.in_ok-is_refusal.ensures in
+    folds_asked limit O.trees O.number (script_of c.args.script.now) c.args.start.line (remaining c.args.reader.now) (contents c.args.writer.now) c.loop-number.has_refusal (script_of old) number known before c.loop-number.invariant.2 (script_of new) rest after c.next_part-next-in-ToFold.result turn c.next_part-next-in-ToFold.ensures
 
 pub returns-in-Over : goal.returns-in-Over
 returns-in-Over g c =
     let O = g.O.Origin in
+    let limit = c.args.start.limit in
+    let remaining = g.B.Read.remaining in
     let contents = g.W.Write.contents in
+    let old = c.loop-number.script in
+    let new = c.take_line.new.script in
+    let known = remaining c.loop-number.reader in
+    let rest = remaining c.take_line.new.reader in
+    let before = contents c.loop-number.writer in
     let after = contents c.take_line.new.writer in
-    let new = script_of c.take_line.new.script in
-    let on = subst (λ reported. OutcomeOfLine O.trees O.number (script_of c.loop-number.script) c.loop-number.number (g.B.Read.remaining c.loop-number.reader) (contents c.loop-number.writer) reported new (g.B.Read.remaining c.take_line.new.reader) after) c.in-Over.is c.in_ok-is_refusal.ensures in
-    subst (λ s. IsPlayedOn O.trees O.number (script_of c.args.script.now) 1 (g.B.Read.remaining c.args.reader.now) (contents c.args.writer.now) after s new) (sym c.after.ensures)
-    (c.loop-number.invariant c.in-Over.status after new on)
+    let number = c.loop-number.number in
+    let on = subst (λ turn. OutcomeOfLine limit (part_of O.trees O.number old) number known before turn (script_of new) rest after) c.in-Over.is c.in_ok-is_refusal.ensures in
+    over limit O.trees O.number (script_of c.args.script.now) c.args.start.line (remaining c.args.reader.now) (contents c.args.writer.now) c.loop-number.has_refusal (script_of old) number known before c.loop-number.invariant.2 (script_of new) rest after c.in-Over.status c.after-status.result on c.after-status.ensures
 
 pub returns : goal.returns
 returns g c =
     let O = g.O.Origin in
+    let limit = c.args.start.limit in
+    let remaining = g.B.Read.remaining in
     let contents = g.W.Write.contents in
+    let old = c.loop-number.script in
+    let known = remaining c.loop-number.reader in
+    let before = contents c.loop-number.writer in
     let after = contents c.end.new.writer in
-    let known = g.B.Read.remaining c.loop-number.reader in
-    let said = c.in_ok-status.ensures in
-    let end = script_of c.loop-number.script in
-    subst (λ s. IsPlayedOn O.trees O.number (script_of c.args.script.now) 1 (g.B.Read.remaining c.args.reader.now) (contents c.args.writer.now) after s end) (sym c.after-2.ensures)
-    (c.loop-number.invariant c.in_ok-status.status after end
-    (ends_here O.trees O.number end end c.loop-number.number known (contents c.loop-number.writer) after Broken said.0 c.in_ok-status.status (none_read known Broken broken_is_no_end) said.1 said.2 refl))
-
-pub loop-number-init : goal.loop-number-init
-loop-number-init g c = λ status after end on. on
+    let said = c.in_ok-end.ensures in
+    too_many limit O.trees O.number (script_of c.args.script.now) c.args.start.line (remaining c.args.reader.now) (contents c.args.writer.now) c.loop-number.has_refusal (script_of old) c.loop-number.number known before c.loop-number.invariant.2 after said.0 c.in_ok-end.field-0 c.after-status-2.result said.1 said.2 c.after-status-2.ensures

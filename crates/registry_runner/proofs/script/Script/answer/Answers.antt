@@ -15,7 +15,7 @@ returns-in-Ok g c =
     let then = script_of c.match-line.self in
     let old = script_of c.args.self.now in
     record {
-      reported = elim c.match-line.branch [
+      answered = elim c.match-line.branch [
         | in-At w ↦ carried trees number old (record old { moment = w.in-At.moment }) then line (At w.in-At.moment) (Ok Done) answered c.in-Ok.reply w.in-At.is refl w.answered-is c.in-Ok.is (ap script_of w.self-is) (refl, refl)
         | in-Session w ↦ carried trees number old (script_of w.enter-answered.new.self) then line (Session w.in-Session.number) w.enter-answered.result answered c.in-Ok.reply w.in-Session.is refl w.answered-is c.in-Ok.is (ap script_of w.self-is) w.enter-answered.ensures.ok
         | in-End w ↦ carried trees number old (script_of w.end-answered.new.self) then line (End w.in-End.number) w.end-answered.result answered c.in-Ok.reply w.in-End.is refl w.answered-is c.in-Ok.is (ap script_of w.self-is) w.end-answered.ensures.ok

@@ -1,0 +1,32 @@
+-- How a part of a run begins, and what came of its lines.
+use Rattle.std.proofs.Common.{◌≡◌, ◌⊎◌, ℕ, Bool, List, Option, Result, Ok, Err, sym, subst, inl, inr}
+use Rattle.std.specs.Prelude.{IfOk}
+use Rattle.refusals.specs.declared.refusal.Refusal.{Refusal}
+use Rattle.refusals.specs.declared.refusal.Refusal.TheVariants.{NoMemory, NoSeat}
+use Rattle.reg_tree.specs.Maps.{TreeMap}
+use Rattle.script_syntax.specs.declared.status.Status.{Status}
+use Rattle.registry_runner.specs.Parts.{MayNotBegin}
+use Rattle.registry_runner.specs.Plays.{IsPlayedOn, LinesCome}
+use Rattle.registry_runner.specs.Scripts.{Script}
+use Rattle.registry_runner.specs.declared.lines.LinesEnd.{LinesEnd}
+use Rattle.registry_runner.specs.declared.lines.LinesEnd.TheVariants as come
+use Rattle.registry_runner.proofs.Playing.{part}
+
+-- no registry was made over an engine, so that no part begins
+pub not_made : (trees : List TreeMap) (number : ℕ) (why : Refusal) → (why ≡ NoMemory) ⊎ (why ≡ NoSeat) → MayNotBegin trees number why
+not_made trees number why (inl memory) = inl memory
+not_made trees number why (inr seat) = inr (inl seat)
+
+-- what came of lines that ended with this status, or of which a write failed
+module _ (limit : ℕ) (can_read : Bool) (trees : List TreeMap) (first number : ℕ) (known was : Option (List ℕ)) (old new : Script) (rest is : Option (List ℕ)) where
+  abbrev pub Plays : Status → Type 0
+  Plays status = IsPlayedOn limit can_read (Ok (part trees first old)) number known was is status (Ok (part trees first new))
+
+  pub plays : {E : Type 0} (r : Result LinesEnd E) (end : LinesEnd) (status : Status) (played : Result Status E) → r ≡ Ok end → end ≡ come.Ended status → played ≡ Ok status → IfOk r (λ end. LinesCome limit can_read (part trees first old) number known was end new rest is) → IfOk played Plays
+  plays r end status played from ended same h =
+      let so = subst (λ r. IfOk r (λ end. LinesCome limit can_read (part trees first old) number known was end new rest is)) from h in
+      let on : Plays status = subst (λ end. LinesCome limit can_read (part trees first old) number known was end new rest is) ended so in subst (λ p. IfOk p Plays) (sym same) on
+
+-- nothing is said of what failed
+pub if_err : {A E : Type 0} (P : A → Type 0) (e : E) (r : Result A E) → r ≡ Err e → IfOk r P
+if_err P e r same = subst (λ r. IfOk r P) (sym same) tt

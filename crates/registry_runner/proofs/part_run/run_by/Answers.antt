@@ -1,0 +1,9 @@
+use Rattle.std.proofs.Common.{inr}
+use Rattle.registry_runner.proofs.Ending.{begins_not}
+use Rattle.registry_runner.proofs.part_run.run_by.Goals as goal
+
+pub returns-in-Err : goal.returns-in-Err
+returns-in-Err g c =
+    let O = g.O.Origin in
+    let contents = g.W.Write.contents in
+    begins_not c.args.start O.trees O.number (g.B.Read.remaining c.args.reader.now) (contents c.args.writer.now) (contents c.write_refusal.new.writer) c.in-Err.why c.write_refusal.result (inr (inr c.in-Err.ensures.refused)) c.write_refusal.ensures

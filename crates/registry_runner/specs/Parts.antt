@@ -1,0 +1,97 @@
+-- The parts of a script's run. Each calls a registry of its own, and the history is folded between two of them.
+use Rattle.std.specs.Prelude.{◌≡◌, ℕ, ◌+◌, ◌-◌, ◌*◌, ◌≤◌, ◌⊎◌, true, false, List, [], length, Option, None, Result, Ok, Err}
+use Rattle.refusals.specs.declared.refusal.Refusal.{Refusal}
+use Rattle.refusals.specs.declared.refusal.Refusal.TheVariants.{NoMemory, NoSeat}
+use Rattle.reg_tree.specs.Maps.{TreeMap}
+use Rattle.reg_tree.specs.Sequences.{after_elements}
+use Rattle.reg_tree.specs.declared.element.Element.{Element}
+use Rattle.script_syntax.specs.Replies.{reply_line}
+use Rattle.script_syntax.specs.declared.reply.ReplyLine.{ReplyLine}
+use Rattle.script_syntax.specs.declared.reply.ReplyLine.TheVariants as reply
+use Rattle.script_runner.specs.Plays.{is_refusal}
+use Rattle.script_runner.specs.Running.{opened_text}
+use Rattle.store_model.specs.Machine.{is_of_device}
+use Rattle.ktm_calls.specs.Denials.{IsOpened}
+use Rattle.ktm_calls.specs.Kinds.{Told}
+use Rattle.registry_runner.specs.Scripts.{Script, Flushes, IsFlushed, MayNotEnter}
+use Rattle.registry_runner.specs.declared.parts.PartKind.{PartKind}
+use Rattle.registry_runner.specs.declared.parts.PartKind.TheVariants.{Opened, Folded, Continued}
+
+-- a part of a run between two lines: the trees on which its registry's list of changes begins, the number of the last
+-- change before that list, and the script
+pub record Part : Type 0 where
+  pub trees : List TreeMap
+  pub number : ℕ
+  pub script : Script
+
+abbrev pub with_script : Part → Script → Part
+with_script part script = record part { script = script }
+
+-- a script before a part's first line: a session was just opened, and no label names anything
+pub record IsBegun (trees : List TreeMap) (number current : ℕ) (script : Script) : Type 0 where
+  pub told : Told
+  pub opened : IsOpened trees number script.session told
+  pub moment : script.moment ≡ current
+  pub labels : (label : List ℕ) → script.labels label ≡ None
+
+-- Why no part begins over an engine: there is no memory, no reader, or a machine refused session 0.
+abbrev pub MayNotBegin : List TreeMap → ℕ → Refusal → Type 0
+MayNotBegin trees number why = (why ≡ NoMemory) ⊎ (why ≡ NoSeat) ⊎ MayNotEnter trees number why
+
+-- a part begins on these trees after the change of this number, at this moment; or none does, and why
+abbrev pub BeginsOrNot : List TreeMap → ℕ → ℕ → Result Part Refusal → Type 0
+BeginsOrNot trees number moment (Ok part) = (part.trees ≡ trees) × (part.number ≡ number) × IsBegun trees number moment part.script
+BeginsOrNot trees number moment (Err why) = MayNotBegin trees number why
+
+-- why a history isn't folded of which all is durable: there is no memory, or the device has failed
+abbrev pub MayNotFold : Refusal → Type 0
+MayNotFold why = (why ≡ NoMemory) ⊎ (is_of_device why ≡ true)
+
+-- The history of a registry is folded whose list of changes begins on these trees after this number. The next part
+-- begins on the trees after the changes of that list, and its number is the last one plus their count. Or no part
+-- follows, and why.
+abbrev pub FoldsAt : List TreeMap → ℕ → ℕ → Result Part Refusal → Type 0
+FoldsAt trees number moment next =
+    ((accepted : List Element) × BeginsOrNot (after_elements trees accepted) (number + length accepted) moment next)
+    ⊎ ((why : Refusal) × MayNotFold why × (next ≡ Err why))
+
+-- the history of a part is folded, and the moment stays
+abbrev pub Folds : Part → Result Part Refusal → Type 0
+Folds old next = FoldsAt old.trees old.number old.script.moment next
+
+-- what is printed as a part begins
+abbrev pub kind_text : PartKind → ℕ → List ℕ
+kind_text Opened number = opened_text number
+kind_text Folded number = reply_line (reply.Folded number)
+kind_text Continued number = []
+
+-- the same, if it does
+abbrev pub start_text : PartKind → Result Part Refusal → List ℕ
+start_text kind (Ok part) = kind_text kind part.number
+start_text kind (Err why) = []
+
+-- the number of a change that a reply tells, or 0
+abbrev pub number_told : ReplyLine → ℕ
+number_told (reply.Accepted number) = number
+number_told (reply.Created levels number) = number
+number_told (reply.Committed number) = number
+number_told (reply.Flushed number) = number
+number_told _ = 0
+
+-- by the number of a change, three quarters of the changes that a history may have were accepted in a part
+abbrev pub IsDue : ℕ → Part → ℕ → Type 0
+IsDue limit part number = 3 * limit ≤ 4 * (number - part.number)
+
+-- no label names anything
+abbrev pub IsUnlabelled : Script → Type 0
+IsUnlabelled script = (label : List ℕ) → script.labels label ≡ None
+
+-- After a line's reply nothing changes for the script. Or the history is folded before it is full, of which nothing is
+-- printed. That happens only if the reply tells that it is due, and if no label names anything: so each later reply
+-- may be one of the registry before the fold. If the fold is refused, the script goes on in the same registry.
+abbrev pub KeepsOrFolds : ℕ → Part → ReplyLine → Result Part Refusal → Type 0
+KeepsOrFolds limit old reported kept =
+    (kept ≡ Ok old)
+    ⊎ (IsDue limit old (number_told reported) × IsUnlabelled old.script
+    × (((flushed : ReplyLine) × (mid : Script) × Flushes old.trees old.number old.script flushed mid × (kept ≡ Ok (with_script old mid)))
+    ⊎ ((mid : Script) × IsFlushed old.trees old.number old.script mid × Folds (with_script old mid) kept)))

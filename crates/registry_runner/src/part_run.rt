@@ -1,0 +1,286 @@
+//! One part of a run: a script's lines over a registry, beside a flusher.
+ghost use Rattle.std.specs.Prelude.{◌≡◌, [], Ok, IfErr, IfOk};
+ghost use Rattle.std.specs.Io.KnownBytes.{Appends};
+ghost use Rattle.ktm_calls.specs.Denials.{IsTurnDenied};
+ghost use Rattle.ktm_calls.specs.Moments.{IsOf};
+ghost use Rattle.registry_runner.specs.Interpreters.{part_of, script_of};
+ghost use Rattle.registry_runner.specs.Parts.{IsBegun, kind_text};
+ghost use Rattle.registry_runner.specs.Plays.{IsUnread, LinesCome, PartComes};
+ghost use Rattle.registry_runner.specs.Running.{EndsPart};
+
+use crate::caller::Caller;
+use crate::gate::EndOfLines;
+use crate::lines::{LinesEnd, LinesRead, read_lines};
+use crate::parts::{NextPart, PartEnd, PartKind, PartStart};
+use crate::run_end::{finish, write_refusal, written_out};
+use crate::script::Script;
+use flusher::try_run_beside;
+use ktm_calls::{Denied, Ended, Registry, Stopped, StoreEngine};
+use published_trees::{ChangeCount, Origin, SeenChanges};
+use script_runner::{EndOfScript, Status, end};
+use script_syntax::ReplyLine;
+use std::alloc::Global;
+use std::io;
+use std::io::{BufRead, Write};
+use std::sync::Wait;
+use std::thread::Threads;
+
+/// Runs a part of a script over a registry of this engine, whose list of changes begins after the part's number. The
+/// engine is handed back.
+pub fn run_part<
+    O: Origin + Send + Sync,
+    E: StoreEngine + Send,
+    R: Threads + Wait + Sync,
+    B: BufRead,
+    W: Write,
+>(
+    rt: &R,
+    alloc: Global,
+    engine: E,
+    count: ChangeCount,
+    seen: SeenChanges,
+    start: PartStart,
+    reader: &mut B,
+    writer: &mut W,
+) -> (E, PartEnd)
+    requires book { (count ≡ O.book) × (seen ≡ record { book = O.book; list = [] }) }
+    requires engine { IsOf O.trees O.number (E.machine engine)
+        × ((E.machine engine).accepted ≡ []) × ((E.machine engine).sessions ≡ []) }
+    requires number { start.number ≡ O.number }
+    ensures owner { IsOf O.trees O.number (E.machine result.0) }
+    ensures sessions { (E.machine result.0).sessions ≡ [] }
+    ensures ends { EndsPart start O.trees O.number (B.remaining reader.old) (W.contents writer.old)
+        result.1 (B.remaining reader.new) (W.contents writer.new) }
+{
+    let registry = match Registry::<E, O>::new(alloc, rt, engine, count, seen) {
+        Ok(registry) => registry,
+        Err((why, engine)) => {
+            let ran = write_refusal(writer, why);
+            return (engine, PartEnd::RunEnded { ran });
+        }
+    };
+    let caller = Caller {
+        rt,
+        alloc,
+        registry: &registry,
+    };
+    let end = run_by(&caller, start, reader, writer);
+    let Ended {
+        engine,
+        durable: _,
+        strangers: _,
+    } = registry.end(rt, Vec::new(alloc), Vec::new(alloc));
+    (engine, end)
+}
+
+// begins a script, and runs it
+fn run_by<
+    O: Origin + Send + Sync,
+    E: StoreEngine + Send,
+    R: Threads + Wait + Sync,
+    B: BufRead,
+    W: Write,
+>(caller: &Caller<'_, E, O, R>, start: PartStart, reader: &mut B, writer: &mut W) -> PartEnd
+    requires number { start.number ≡ O.number }
+    ensures { EndsPart start O.trees O.number (B.remaining reader.old) (W.contents writer.old) result
+        (B.remaining reader.new) (W.contents writer.new) }
+{
+    match Script::begin(caller, start.moment) {
+        Ok(script) => run_begun(caller, script, start, reader, writer),
+        Err(why) => PartEnd::RunEnded {
+            ran: write_refusal(writer, why),
+        },
+    }
+}
+
+// runs a script that was begun
+fn run_begun<
+    O: Origin + Send + Sync,
+    E: StoreEngine + Send,
+    R: Threads + Wait + Sync,
+    B: BufRead,
+    W: Write,
+>(
+    caller: &Caller<'_, E, O, R>,
+    script: Script<O>,
+    start: PartStart,
+    reader: &mut B,
+    writer: &mut W,
+) -> PartEnd
+    requires begun { IsBegun O.trees O.number start.moment (script_of script) }
+    requires number { start.number ≡ O.number }
+    ensures { EndsPart start O.trees O.number (B.remaining reader.old) (W.contents writer.old) result
+        (B.remaining reader.new) (W.contents writer.new) }
+{
+    let mut script = script;
+    let gate = EndOfLines::new(caller.rt);
+    run_told(caller, &gate, &mut script, start, reader, writer)
+}
+
+// prints what the part prints first, and runs the script beside a flusher
+fn run_told<
+    O: Origin + Send + Sync,
+    E: StoreEngine + Send,
+    R: Threads + Wait + Sync,
+    B: BufRead,
+    W: Write,
+>(
+    caller: &Caller<'_, E, O, R>,
+    gate: &EndOfLines<'_, R>,
+    script: &mut Script<O>,
+    start: PartStart,
+    reader: &mut B,
+    writer: &mut W,
+) -> PartEnd
+    requires begun { IsBegun O.trees O.number start.moment (script_of script.old) }
+    requires number { start.number ≡ O.number }
+    ensures { EndsPart start O.trees O.number (B.remaining reader.old) (W.contents writer.old) result
+        (B.remaining reader.new) (W.contents writer.new) }
+{
+    if let Err(error) = write_start(writer, start.kind, start.number) {
+        return PartEnd::RunEnded { ran: Err(error) };
+    }
+    let (ended, flushed) = read_beside_flusher(caller, gate, script, start, reader, writer);
+    match ended {
+        LinesEnded::ToFold { next } => PartEnd::ToFold { next },
+        LinesEnded::AtEnd {
+            played,
+            has_failed,
+            flush,
+        } => PartEnd::RunEnded {
+            ran: finish(played, has_failed, flush, flushed, writer),
+        },
+    }
+}
+
+// prints what a part prints first; what a line waited for is written out
+fn write_start<W: Write>(writer: &mut W, kind: PartKind, number: u64) -> io::Result<()>
+    ensures { IfOk result (λ _. Appends (W.contents writer.old) (W.contents writer.new)
+        (kind_text kind number)) }
+{
+    match kind {
+        PartKind::Opened => {
+            writeln!(writer, "opened {number}")?;
+        }
+        PartKind::Folded => {
+            ReplyLine::Folded { number }.write(writer)?;
+            writer.flush()?;
+        }
+        PartKind::Continued => {}
+    }
+    Ok(())
+}
+
+// reads the lines to their end or to a fold while a flusher waits at the gate, and lets it work then
+fn read_beside_flusher<
+    O: Origin + Send + Sync,
+    E: StoreEngine + Send,
+    R: Threads + Wait + Sync,
+    B: BufRead,
+    W: Write,
+>(
+    caller: &Caller<'_, E, O, R>,
+    gate: &EndOfLines<'_, R>,
+    script: &mut Script<O>,
+    start: PartStart,
+    reader: &mut B,
+    writer: &mut W,
+) -> (LinesEnded, Result<Stopped, Denied>)
+    requires number { start.number ≡ O.number }
+    ensures ended { PartComes start.limit start.can_read (part_of O.trees O.number script.old) start.line
+        (B.remaining reader.old) (W.contents writer.old) result.0 (script_of script.new)
+        (B.remaining reader.new) (W.contents writer.new) }
+    ensures flushed { IfErr result.1 IsTurnDenied }
+{
+    try_run_beside(
+        caller.rt,
+        caller.registry,
+        gate,
+        &mut || -> LinesEnded
+            requires { start.number ≡ O.number }
+            ensures { PartComes start.limit start.can_read
+                (part_of O.trees O.number script.entry.now) start.line (B.remaining reader.entry.now)
+                (W.contents writer.entry.now) result (script_of script.exit.now)
+                (B.remaining reader.exit.now) (W.contents writer.exit.now) }
+        { read_to_end(caller, gate, script, start, reader, writer) },
+    )
+}
+
+// what came of a part's lines
+enum LinesEnded {
+    // no line is read any more, and all was flushed
+    AtEnd {
+        played: io::Result<Status>,
+        has_failed: bool,
+        flush: ReplyLine,
+    },
+    // the history is to be folded
+    ToFold {
+        next: NextPart,
+    },
+}
+
+// reads the lines; at their end it writes out what was written, and makes all that was accepted durable; and then it
+// lets the flusher work
+fn read_to_end<O: Origin, E: StoreEngine, R: Wait, B: BufRead, W: Write>(
+    caller: &Caller<'_, E, O, R>,
+    gate: &EndOfLines<'_, R>,
+    script: &mut Script<O>,
+    start: PartStart,
+    reader: &mut B,
+    writer: &mut W,
+) -> LinesEnded
+    requires number { start.number ≡ O.number }
+    ensures { PartComes start.limit start.can_read (part_of O.trees O.number script.old) start.line
+        (B.remaining reader.old) (W.contents writer.old) result (script_of script.new)
+        (B.remaining reader.new) (W.contents writer.new) }
+{
+    let LinesRead { played, has_failed } = read_if(caller, script, start, reader, writer);
+    let status = match played {
+        Ok(LinesEnd::ToFold { next }) => {
+            gate.open();
+            return LinesEnded::ToFold { next };
+        }
+        Ok(LinesEnd::Ended { status }) => Ok(status),
+        Err(error) => Err(error),
+    };
+    let played = written_out(writer, status);
+    let flush = script.flush(caller);
+    gate.open();
+    LinesEnded::AtEnd {
+        played,
+        has_failed,
+        flush,
+    }
+}
+
+// reads the lines, or reports that they can't be read
+fn read_if<O: Origin, E: StoreEngine, R: Wait, B: BufRead, W: Write>(
+    caller: &Caller<'_, E, O, R>,
+    script: &mut Script<O>,
+    start: PartStart,
+    reader: &mut B,
+    writer: &mut W,
+) -> LinesRead
+    requires number { start.number ≡ O.number }
+    ensures { IfOk result.played (λ end. LinesCome start.limit start.can_read
+        (part_of O.trees O.number script.old) start.line (B.remaining reader.old)
+        (W.contents writer.old) end (script_of script.new) (B.remaining reader.new)
+        (W.contents writer.new)) }
+{
+    if start.can_read {
+        return read_lines(caller, script, start, reader, writer);
+    }
+    LinesRead {
+        played: unread(writer),
+        has_failed: false,
+    }
+}
+
+// reports that the lines can't be read
+fn unread<W: Write>(writer: &mut W) -> io::Result<LinesEnd>
+    ensures { IfOk result (IsUnread (W.contents writer.old) (W.contents writer.new)) }
+{
+    let status = end(writer, EndOfScript::Broken)?;
+    Ok(LinesEnd::Ended { status })
+}

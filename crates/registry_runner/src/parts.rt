@@ -1,0 +1,199 @@
+//! The parts of a run: each calls a registry of its own, and the history is folded between two of them.
+ghost use Rattle.std.specs.Prelude.{◌≡◌, [], IfErr, IfNone, IfOk, IfSome, IsOk, OnErr};
+ghost use Rattle.script_syntax.specs.Statuses.{with_refusal};
+ghost use Rattle.store_model.specs.Steps.{Step};
+ghost use Rattle.store_model.specs.declared.event.Event.TheVariants as event;
+ghost use Rattle.store_model.specs.declared.event.Reply.TheVariants as reply;
+ghost use Rattle.registry_runner.specs.Folding.{HasAllHives, HistoryStays, IsFoldedAt, IsIdle};
+ghost use Rattle.registry_runner.specs.Parts.{MayNotFold};
+ghost use Rattle.registry_runner.specs.Running.{IsOfStore, RunsFrom};
+
+use crate::part_run::run_part;
+use crate::run_end::write_refusal;
+use ktm_calls::StoreEngine;
+use published_trees::ChangeCount;
+use refusals::Refusal;
+use script_runner::Status;
+use std::alloc::Global;
+use std::io;
+use std::io::{BufRead, Write};
+use std::marker::Brand;
+use std::sync::Wait;
+use std::thread::Threads;
+use store_model::laws::openings_stay;
+use store_model::{Event, Reply};
+
+/// What a part prints as it begins.
+#[derive(Clone, Copy)]
+pub enum PartKind {
+    /// `opened N`, with the number of the store's last change: the store was opened.
+    Opened,
+    /// `folded N`, with the same: a line folded the history.
+    Folded,
+    /// Nothing: the history was folded before it was full.
+    Continued,
+}
+
+/// How a part begins.
+#[derive(Clone, Copy)]
+pub struct PartStart {
+    /// What it prints first.
+    pub kind: PartKind,
+    /// The number of the store's last change.
+    pub number: u64,
+    /// How many changes the history may have.
+    pub limit: u64,
+    /// Whether the script can be read.
+    pub can_read: bool,
+    /// The number of the next line, from 1 on.
+    pub line: u64,
+    /// The moment of what follows.
+    pub moment: u64,
+}
+
+/// With what the next part goes on, once the history is folded.
+#[derive(Clone, Copy)]
+pub struct NextPart {
+    /// What it prints first.
+    pub kind: PartKind,
+    /// The number of the next line.
+    pub line: u64,
+    /// The moment of what follows.
+    pub moment: u64,
+    /// Whether a reply of the part was a refusal.
+    pub has_refusal: bool,
+}
+
+/// How a part ends.
+pub enum PartEnd {
+    /// The run has ended. `Err` says that a write failed.
+    RunEnded {
+        /// How it went.
+        ran: io::Result<Status>,
+    },
+    /// All that was accepted is durable and in the hives, and the history is to be folded.
+    ToFold {
+        /// With what the next part goes on.
+        next: NextPart,
+    },
+}
+
+/// Runs a script over an engine on which no registry was made: one part after another, each over a registry of its own.
+/// The engine is handed back.
+pub fn run_parts<E: StoreEngine + Send, R: Threads + Wait + Sync, B: BufRead, W: Write>(
+    rt: &R,
+    alloc: Global,
+    engine: E,
+    start: PartStart,
+    reader: &mut B,
+    writer: &mut W,
+) -> (E, io::Result<Status>)
+    requires engine { IsIdle (E.machine engine) }
+    requires number { start.number ≡ (E.machine engine).before }
+    ensures owner { IsOfStore (E.machine engine).opened (E.machine engine).before
+        (E.machine result.0) }
+    ensures runs { IfOk result.1 (λ status. RunsFrom start (E.machine engine).opened
+        (E.machine engine).before (B.remaining reader.old) (W.contents writer.old)
+        (W.contents writer.new) status) }
+{
+    let mut engine = engine;
+    let mut start = start;
+    let mut has_refusal = false;
+    for _ in rt.forever() {
+        let (count, seen) = ChangeCount::open();
+        let (ended, end) = run_part::<Brand, E, R, B, W>(
+            rt, alloc, engine, count, seen, start, reader, writer,
+        );
+        engine = ended;
+        let next = match end {
+            PartEnd::RunEnded { ran } => return (engine, with_refusal(ran, has_refusal)),
+            PartEnd::ToFold { next } => next,
+        };
+        has_refusal |= next.has_refusal;
+        match fold(rt, &mut engine) {
+            Ok(number) => start = start.after_fold(number, next),
+            Err(why) => {
+                let ran = write_refusal(writer, why);
+                return (engine, with_refusal(ran, has_refusal));
+            }
+        }
+    }
+    unreachable!()
+}
+
+// a run that went so after replies of which one may have been a refusal
+fn with_refusal(ran: io::Result<Status>, has_refusal: bool) -> io::Result<Status>
+    ensures status { IfOk result (λ status. IfOk ran (λ later.
+        status ≡ with_refusal has_refusal later)) }
+    ensures same { IsOk result → IsOk ran }
+{
+    let status = ran?;
+    Ok(status.after(has_refusal))
+}
+
+impl PartStart {
+    // how the part begins that goes on after a fold at this number
+    fn after_fold(self, number: u64, next: NextPart) -> PartStart
+        ensures { result ≡ record self {
+          kind = next.kind;
+          number = number;
+          line = next.line;
+          moment = next.moment;
+        } }
+    {
+        PartStart {
+            kind: next.kind,
+            number,
+            limit: self.limit,
+            can_read: self.can_read,
+            line: next.line,
+            moment: next.moment,
+        }
+    }
+}
+
+// Folds the history of an engine whose registry has ended. All was made durable before that. If some change isn't
+// durable all the same, it is made so first.
+fn fold<E: StoreEngine, R: Wait>(rt: &R, engine: &mut E) -> Result<u64, Refusal>
+    requires hives { HasAllHives (E.machine engine.old) }
+    requires sessions { (E.machine engine.old).sessions ≡ [] }
+    ensures folded { IfOk result (IsFoldedAt (E.machine engine.old) (E.machine engine.new)) }
+    ensures refused { IfErr result MayNotFold }
+    ensures stays { OnErr result (HistoryStays (E.machine engine.old) (E.machine engine.new)) }
+{
+    openings_stay();
+    for _ in rt.forever() {
+        if let Some(number) = ask_fold(engine)? {
+            return Ok(number);
+        }
+        make_durable(engine)?;
+    }
+    unreachable!()
+}
+
+// asks for a fold, and answers its number; `None` if some accepted change isn't durable
+fn ask_fold<E: StoreEngine>(engine: &mut E) -> Result<Option<u64>, Refusal>
+    ensures folded { IfOk result (λ made. IfSome made (λ number.
+        Step (E.machine engine.old) event.Fold (reply.Folded number) (E.machine engine.new))) }
+    ensures waits { IfOk result (λ made. IfNone made
+        (HistoryStays (E.machine engine.old) (E.machine engine.new))) }
+    ensures refused { IfErr result MayNotFold }
+    ensures stays { OnErr result (HistoryStays (E.machine engine.old) (E.machine engine.new)) }
+{
+    match engine.event(Event::Fold) {
+        Reply::Folded { number } => Ok(Some(number)),
+        Reply::Refused { refusal } => Err(refusal),
+        _ => Ok(None),
+    }
+}
+
+// makes one step of the journal
+fn make_durable<E: StoreEngine>(engine: &mut E) -> Result<(), Refusal>
+    ensures refused { IfErr result MayNotFold }
+    ensures stays { HistoryStays (E.machine engine.old) (E.machine engine.new) }
+{
+    match engine.event(Event::JournalStep) {
+        Reply::Refused { refusal } => Err(refusal),
+        _ => Ok(()),
+    }
+}
