@@ -38,6 +38,8 @@ pub(crate) enum Answer {
     OutcomeIs(Outcome),
     Receipt(u64),
     NotYet,
+    /// The number of the last change.
+    Folded(u64),
     Stepped(Progress),
     Refused(Refusal),
 }
@@ -109,6 +111,7 @@ impl Answer {
             Reply::OutcomeIs { outcome } => Answer::OutcomeIs(*outcome),
             Reply::Receipt { number } => Answer::Receipt(*number),
             Reply::NotYet => Answer::NotYet,
+            Reply::Folded { number } => Answer::Folded(*number),
             Reply::Stepped { progress } => Answer::Stepped(*progress),
             Reply::Refused { refusal } => Answer::Refused(*refusal),
         }

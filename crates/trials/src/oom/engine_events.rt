@@ -155,8 +155,8 @@ const CONFLICT: [Step; 13] = [
     Step::Room(1_546),
 ];
 
-// two batches, each flushed, and a trim
-const STEPS: [Step; 15] = [
+// two batches, each flushed, and a trim; folds of the history, of which the hive lacks the changes of the second batch
+const STEPS: [Step; 18] = [
     Step::Ask(Ask::Journal, MORE),
     Step::ToEnd(Ask::Journal),
     Step::Ask(Ask::Flush, MORE),
@@ -164,11 +164,14 @@ const STEPS: [Step; 15] = [
     Step::Ask(Ask::Write(Change::Delete("D")), Answer::Accepted(7)),
     Step::Ask(Ask::Write(Change::Set("A", "v")), Answer::Accepted(8)),
     Step::Ask(Ask::Write(Change::Set("E", "v")), Answer::Accepted(9)),
+    Step::Free(Ask::Fold, Answer::NotYet),
     Step::Ask(Ask::Journal, MORE),
     Step::ToEnd(Ask::Journal),
     Step::Free(Ask::Acked(9), Answer::Receipt(9)),
+    Step::Ask(Ask::Fold, Answer::Folded(9)),
     Step::Ask(Ask::Flush, MORE),
     Step::ToEnd(Ask::Flush),
+    Step::Free(Ask::Fold, Answer::Folded(9)),
     Step::Room(2_885),
     Step::Ask(Ask::Trim, MORE),
     Step::ToEnd(Ask::Journal),
