@@ -12,6 +12,8 @@ mod device;
 #[cfg(test)]
 mod flushing;
 #[cfg(test)]
+mod folding;
+#[cfg(test)]
 mod handing_over;
 #[cfg(test)]
 mod playing;

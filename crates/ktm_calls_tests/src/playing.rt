@@ -95,8 +95,8 @@ fn new_engine(alloc: Global, device: &Device) -> Result<Engine<TestDisk>, Refusa
     Ok(engine)
 }
 
-// makes a store of two hives
-fn make(alloc: Global, disk: &mut TestDisk) -> Result<(), Refusal> {
+/// Makes a store of two hives.
+pub fn make(alloc: Global, disk: &mut TestDisk) -> Result<(), Refusal> {
     let trees = Trees::new(alloc, 2)?;
     recovery::create(alloc, disk, Uuid::nil(), &trees)
 }
@@ -115,8 +115,8 @@ fn begin(alloc: Global, store: Opened<TestDisk>) -> Result<Engine<TestDisk>, Ref
     }
 }
 
-// what is opened of a disk
-fn open(alloc: Global, disk: TestDisk) -> Result<Opened<TestDisk>, Refusal> {
+/// What is opened of a disk.
+pub fn open(alloc: Global, disk: TestDisk) -> Result<Opened<TestDisk>, Refusal> {
     match recovery::open(alloc, disk) {
         Ok(store) => Ok(store),
         Err((why, _disk)) => Err(why),
