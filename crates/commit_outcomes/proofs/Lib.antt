@@ -1,0 +1,15 @@
+pub mod Latest
+pub mod UnitNames
+pub mod Found
+pub mod Numbers
+pub mod Values
+pub mod Written
+pub mod Outcome
+pub mod ByNumber
+pub mod TreeCommits
+pub mod ReadTrees
+pub mod Roots
+pub mod Lists
+pub mod Places
+pub mod OfTrees
+pub mod Surplus
