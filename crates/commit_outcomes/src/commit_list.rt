@@ -3,6 +3,7 @@ ghost use Rattle.std.specs.Prelude.{◌≡◌, ◌↔◌, ◌<◌, ◌≤◌, �
 ghost use Rattle.std.specs.List.{AllByRecursion};
 ghost use Rattle.std.specs.List.Sorted.{IsPermutation, IsNonDecreasingBy};
 ghost use Rattle.std.specs.Option.{option_map};
+ghost use Rattle.std.specs.VecDeque.{deque_capacity, deque_len};
 ghost use Rattle.commit_outcomes.specs.Units as units;
 ghost use Rattle.commit_outcomes.specs.Commits.{AreUpTo, kept};
 ghost use Rattle.commit_outcomes.specs.Trees.{HasCommits, are_outcomes};
@@ -13,6 +14,7 @@ ghost use Rattle.commit_outcomes.specs.declared.kept_commit.KeptCommit.{KeptComm
 use crate::kept_commit::{KeptCommit, commit_in};
 use reg_tree::{Tree, Values};
 use std::alloc::{AllocError, Global};
+use std::collections::VecDeque;
 use std::marker::Model;
 use uuid::Uuid;
 
@@ -31,7 +33,8 @@ const _: () = prove!(COMMIT_KIND == 11);
 /// It has room for one commit more from its making, so that a commit is recorded without memory.
 #[derive(Drop)]
 pub struct CommitList {
-    commits: Vec<KeptCommit>,
+    // a ring: the first one goes as fast as one comes at the end
+    commits: VecDeque<KeptCommit>,
 }
 
 impl Model for CommitList {
@@ -55,7 +58,7 @@ impl CommitList {
     pub fn new(alloc: Global) -> Result<CommitList, AllocError>
         ensures { IfOk result (λ list. list ≡ []) }
     {
-        let commits = Vec::with_capacity(alloc, MOST_COMMITS + 1)?;
+        let commits = VecDeque::with_capacity(alloc, MOST_COMMITS + 1)?;
         Ok(CommitList { commits })
     }
 
@@ -74,6 +77,7 @@ impl CommitList {
         };
         in_order(&mut commits);
         if rises(&commits) {
+            let commits = VecDeque::from_vec(commits);
             Ok(Some(CommitList { commits }))
         } else {
             Ok(None)
@@ -92,7 +96,7 @@ impl CommitList {
         ensures last { result ≡ last_number self.now }
         ensures up_to { AreUpTo result self.now }
     {
-        match self.commits.last() {
+        match self.commits.back() {
             Some(commit) => commit.number,
             None => 0,
         }
@@ -102,7 +106,7 @@ impl CommitList {
     pub fn oldest(&self) -> Option<&KeptCommit>
         ensures { option_map (λ commit. named_commit commit.now) result ≡ slice_get self.now 0 }
     {
-        self.commits.first()
+        self.commits.front()
     }
 
     /// Records the commit of a unit of work, whose number is above all others, and lets go of what need not be kept.
@@ -168,10 +172,10 @@ fn rises(commits: &[KeptCommit]) -> bool
 }
 
 // removes the commit with this number
-fn remove_earlier(commits: &mut Vec<KeptCommit>, earlier: Option<u64>)
+fn remove_earlier(commits: &mut VecDeque<KeptCommit>, earlier: Option<u64>)
     requires { NumbersRise commits.old.items }
     ensures items { commits.new.items ≡ others_of earlier commits.old.items }
-    ensures capacity { vec_capacity commits.new ≡ vec_capacity commits.old }
+    ensures capacity { deque_capacity commits.new ≡ deque_capacity commits.old }
 {
     let Some(number) = earlier else {
         return;
@@ -182,14 +186,14 @@ fn remove_earlier(commits: &mut Vec<KeptCommit>, earlier: Option<u64>)
 }
 
 // one commit more, at the end; the first one goes if they are too many then
-fn push_last(commits: &mut Vec<KeptCommit>, commit: KeptCommit)
-    requires few { length commits.old.items ≤ MOST_COMMITS }
-    requires room { MOST_COMMITS + 1 ≤ vec_capacity commits.old }
+fn push_last(commits: &mut VecDeque<KeptCommit>, commit: KeptCommit)
+    requires few { deque_len commits.old ≤ MOST_COMMITS }
+    requires room { MOST_COMMITS + 1 ≤ deque_capacity commits.old }
     ensures items { commits.new.items ≡ last_commits MOST_COMMITS (commits.old.items ++ commit ∷ []) }
-    ensures capacity { vec_capacity commits.new ≡ vec_capacity commits.old }
+    ensures capacity { deque_capacity commits.new ≡ deque_capacity commits.old }
 {
-    commits.push_reserved(commit);
+    commits.push_back_reserved(commit);
     if commits.len() > MOST_COMMITS {
-        commits.remove(0);
+        commits.pop_front();
     }
 }

@@ -1,7 +1,10 @@
-use Rattle.std.proofs.Common.{◌≡◌, ◌+◌, ◌≤◌, false, [], ◌∷◌, IfSome, IfNone, refl, sym, ◌∙◌, subst}
+use Rattle.std.proofs.Common.{◌≡◌, ◌+◌, ◌≤◌, false, List, [], ◌∷◌, IfSome, IfNone, refl, sym, ◌∙◌, ap, subst}
 use Rattle.std.specs.FinMap as finite
 use Rattle.reg_tree_parts.specs.Nodes.{subkeys_of}
+use Rattle.commit_outcomes.specs.Commits.{Commit, AreKept, AreUpTo}
+use Rattle.commit_outcomes.specs.Trees.{HasCommits}
 use Rattle.commit_outcomes.specs.CommitLists.{NumbersRise, named_commits, tell_commits}
+use Rattle.commit_outcomes.specs.declared.kept_commit.KeptCommit.{KeptCommit}
 use Rattle.commit_outcomes.specs.ListRoom.{TellsCommits}
 use Rattle.commit_outcomes.specs.declared.commit_list.TheConstants.{MOST_COMMITS}
 use Rattle.commit_outcomes.proofs.Roots.{root_values_are}
@@ -26,8 +29,9 @@ invariant_of-result c =
     let tells : TellsCommits c.args.number c.values.result.now c.in-Some.commits = subst (λ o. IfSome o (TellsCommits c.args.number c.values.result.now)) c.in-Some.is c.in_ok-commits.ensures.some in
     let rise : NumbersRise c.in_order.new.commits.items = subst NumbersRise c.deref.ensures.value (c.if-rises.ensures.rise refl) in
     record {
-      are = kept_read c.args.number c.args.tree.now c.values.result.now c.in-Some.commits c.in_order.new.commits values c.root-root.ensures.encodable tells c.in_order.ensures.same rise;
-      room = subst (λ n. MOST_COMMITS + 1 ≤ n) (sym c.in_order.ensures.capacity) tells.room;
+      are = subst (λ (xs : List KeptCommit). AreKept (named_commits xs)) (sym c.from_vec-commits.ensures.items)
+          (kept_read c.args.number c.args.tree.now c.values.result.now c.in-Some.commits c.in_order.new.commits values c.root-root.ensures.encodable tells c.in_order.ensures.same rise);
+      room = subst (λ n. MOST_COMMITS + 1 ≤ n) (sym (c.from_vec-commits.ensures.capacity ∙ c.in_order.ensures.capacity)) tells.room;
     }
 
 pub returns-then-rises-clause-some : goal.returns-then-rises-clause-some
@@ -38,7 +42,11 @@ returns-then-rises-clause-some c =
     let entries = c.root-root.result.now in
     let alone : finite.keys c.args.tree.now ≡ [] ∷ [] = alone_of entries c.args.tree.now (subkeys_of entries) c.root-root.ensures.node c.root-root.ensures.same c.subkey_count.ensures.has (sym c.subkey_count.ensures.subkeys ∙ c.if-subkey_count-ne0.false) in
     let has = has_read c.args.number c.args.tree.now c.values.result.now c.in-Some.commits c.in_order.new.commits values c.root-root.ensures.encodable tells c.in_order.ensures.same alone rise in
-    (passes c.args.number c.args.tree.now (named_commits c.in_order.new.commits.items) has.0 has.1 c.ranges.number.fits, has.0, has.1)
+    let ringed = ap named_commits (sym c.from_vec-commits.ensures.items) in (
+      passes c.args.number c.args.tree.now (named_commits c.in_order.new.commits.items) has.0 has.1 c.ranges.number.fits,
+      subst (λ (l : List Commit). HasCommits l c.args.tree.now) ringed has.0,
+      subst (AreUpTo c.args.number) ringed has.1,
+    )
 
 pub returns-else-rises-clause-none : goal.returns-else-rises-clause-none
 returns-else-rises-clause-none c =

@@ -15,7 +15,10 @@ pub remove_earlier-requires : goal.remove_earlier-requires
 remove_earlier-requires c = named_rise c.self.inside.commits.items c.self.invariant.are.rise
 
 pub push_last-requires-clause-few : goal.push_last-requires-clause-few
-push_last-requires-clause-few c = subst (λ (xs : List KeptCommit). length xs ≤ MOST_COMMITS) (sym c.remove_earlier.ensures.items) (others_most c.self.inside.commits.items c.args.earlier c.self.invariant.are)
+push_last-requires-clause-few c =
+    let few : length c.remove_earlier.new.commits.items ≤ MOST_COMMITS =
+    subst (λ (xs : List KeptCommit). length xs ≤ MOST_COMMITS) (sym c.remove_earlier.ensures.items) (others_most c.self.inside.commits.items c.args.earlier c.self.invariant.are) in
+    subst (λ n. n ≤ MOST_COMMITS) (sym c.remove_earlier.new.commits.ok.0) few
 
 recorded_is : (c : After-push_last) → named_commits c.push_last.new.commits.items ≡ kept (named_commits c.self.inside.commits.items ++ (c.args.number, unit_name c.args.unit.now) ∷ [])
 recorded_is c =
