@@ -1,17 +1,17 @@
 -- What every step keeps: what was there at the opening, and what is durable. Which events accept a change, and that a
 -- refusal for want of memory changes nothing.
-use Rattle.std.proofs.Common.{◌≡◌, ◌≤◌, inl, inr, ℕ, ◌+◌, ◌==◌, length, Bool, true, false, List, [], ◌∷◌, ◌++◌, Option, cond, refl, sym, ◌∙◌, ap, subst, le_refl, arith}
+use Rattle.std.proofs.Common.{◌≡◌, ◌≤◌, inl, inr, ℕ, ◌==◌, length, Bool, true, false, Option, cond, refl, sym, ◌∙◌, ap, subst, le_refl, arith}
 use Rattle.refusals.specs.declared.refusal.Refusal.{Refusal}
 use Rattle.refusals.specs.declared.refusal.Refusal.TheVariants.{NoMemory}
 use Rattle.store_model.specs.Transactions.{Transaction}
 use Rattle.store_model.specs.Machine.{Machine, is_open}
-use Rattle.store_model.specs.Steps.{Step, StepFails, after_commit, is_fold, may_accept, with_session}
+use Rattle.store_model.specs.Steps.{Step, StepFails, after_commit, is_fold, may_accept}
 use Rattle.store_model.specs.declared.event.Event.{Event}
 use Rattle.store_model.specs.declared.event.Event.TheVariants as event
 use Rattle.store_model.specs.declared.event.Reply.{Reply}
 use Rattle.store_model.specs.declared.event.Reply.TheVariants as reply
 use Rattle.store_model.proofs.TreeCounts.{all_long}
-use Rattle.store_model.proofs.Replies.{done_or, read_or, accepted_or, added_or, begun_or, awaits_or, outcome_or, receipt_or, folded_or, stepped_or}
+use Rattle.store_model.proofs.Replies.{done_or, read_or, accepted_or, added_or, begun_or, awaits_or, outcome_or, committed_as_or, receipt_or, folded_or, stepped_or}
 
 -- the trees, the number and the bounds of the opening are as before, and no durable number falls
 abbrev Stays : Machine → Machine → Type 0
@@ -21,8 +21,9 @@ Stays old new = (new.opened ≡ old.opened) × (new.before ≡ old.before) × (n
 abbrev StaysWide : Machine → Machine → Type 0
 StaysWide old new = (new.bounds ≡ old.bounds) × (length new.opened ≡ length old.opened) × (old.durable ≤ new.durable)
 
-abbrev AcceptsNothing : Machine → Machine → Type 0
-AcceptsNothing old new = new.accepted ≡ old.accepted
+-- no change is accepted, and nothing is committed
+abbrev pub AcceptsNothing : Machine → Machine → Type 0
+AcceptsNothing old new = (new.accepted ≡ old.accepted) × (new.commits ≡ old.commits)
 
 module _ (old new : Machine) where
   -- a state in between has the opening, and what is durable, of the old one
@@ -77,6 +78,7 @@ module _ (old new : Machine) where
   all_stays (event.Rollback session tx) r calm s = done_or (λ r. Stays old new) _ _ r s (λ d. by_mid _ refl refl refl refl d.1) (λ why f. same f.1)
   all_stays (event.Close session tx) r calm s = done_or (λ r. Stays old new) _ _ r s (λ d. by_mid _ refl refl refl refl d.1) (λ why f. same f.1)
   all_stays (event.Outcome session tx) r calm s = outcome_or (λ r. Stays old new) _ _ r s (λ o d. same d.next) (λ why f. same f.1)
+  all_stays (event.OutcomeOf id) r calm s = committed_as_or (λ r. Stays old new) _ _ r s (λ n d. same d.next) (λ why f. same f.1)
   all_stays event.FlushAsk r calm s = awaits_or (λ r. Stays old new) _ _ r s (λ n d. same d.2) (λ why f. same f.1)
   all_stays (event.Acked number) r calm s = receipt_or (λ r. Stays old new) _ _ _ r s (λ n d. same d.2) (λ w. same w.2) (λ why f. same f.1.1)
   all_stays event.Fold r calm s = absurd cc
@@ -98,37 +100,38 @@ module _ (old new : Machine) where
   bounds_stay e r s = widely (all_stays e r refl s)
 
   quiet : new ≡ old → AcceptsNothing old new
-  quiet e = ap (λ (m : Machine). m.accepted) e
+  quiet e = (ap (λ (m : Machine). m.accepted) e, ap (λ (m : Machine). m.commits) e)
 
-  with_or_without : (t : Bool) (mid : Machine) → mid.accepted ≡ old.accepted → new ≡ cond t old mid → AcceptsNothing old new
-  with_or_without true mid accepted e = quiet e
-  with_or_without false mid accepted e = quiet_by mid accepted e
-    where
-      quiet_by : (mid : Machine) → mid.accepted ≡ old.accepted → new ≡ mid → AcceptsNothing old new
-      quiet_by mid accepted e = ap (λ (m : Machine). m.accepted) e ∙ accepted
+  quiet_by : (mid : Machine) → mid.accepted ≡ old.accepted → mid.commits ≡ old.commits → new ≡ mid → AcceptsNothing old new
+  quiet_by mid accepted commits e = (ap (λ (m : Machine). m.accepted) e ∙ accepted, ap (λ (m : Machine). m.commits) e ∙ commits)
+
+  with_or_without : (t : Bool) (mid : Machine) → mid.accepted ≡ old.accepted → mid.commits ≡ old.commits → new ≡ cond t old mid → AcceptsNothing old new
+  with_or_without true mid accepted commits e = quiet e
+  with_or_without false mid accepted commits e = quiet_by mid accepted commits e
 
   fails_quietly : (wanted : Option Refusal) (why : Refusal) → StepFails old wanted why new → AcceptsNothing old new
   fails_quietly wanted why (inl refused) = quiet refused.1
-  fails_quietly wanted why (inr broke) = ap (λ (m : Machine). m.accepted) broke.1.next
+  fails_quietly wanted why (inr broke) = quiet_by _ refl refl broke.1.next
 
-  pub others_accept_nothing : (e : Event) (r : Reply) → may_accept e ≡ false → is_fold e ≡ false → Step old e r new → new.accepted ≡ old.accepted
-  others_accept_nothing (event.StartSession session) r calm stays s = done_or (λ r. AcceptsNothing old new) _ _ r s (λ d. with_or_without (is_open old session) _ refl d.1) (λ why f. quiet f.1)
-  others_accept_nothing (event.EndSession session) r calm stays s = done_or (λ r. AcceptsNothing old new) _ _ r s (λ d. ap (λ (m : Machine). m.accepted) d.next) (λ why f. quiet f.1)
+  pub others_accept_nothing : (e : Event) (r : Reply) → may_accept e ≡ false → is_fold e ≡ false → Step old e r new → AcceptsNothing old new
+  others_accept_nothing (event.StartSession session) r calm stays s = done_or (λ r. AcceptsNothing old new) _ _ r s (λ d. with_or_without (is_open old session) _ refl refl d.1) (λ why f. quiet f.1)
+  others_accept_nothing (event.EndSession session) r calm stays s = done_or (λ r. AcceptsNothing old new) _ _ r s (λ d. quiet_by _ refl refl d.next) (λ why f. quiet f.1)
   others_accept_nothing (event.Read session hive path question) r calm stays s = read_or (λ r. AcceptsNothing old new) _ _ r s (λ v d. quiet d.next) (λ why f. quiet f.1)
   others_accept_nothing (event.Write session moment op) r calm stays s = absurd cc
-  others_accept_nothing (event.Begin session id) r calm stays s = begun_or (λ r. AcceptsNothing old new) _ _ r s (λ t d. ap (λ (m : Machine). m.accepted) d.next) (λ why f. quiet f.1)
+  others_accept_nothing (event.Begin session id) r calm stays s = begun_or (λ r. AcceptsNothing old new) _ _ r s (λ t d. quiet_by _ refl refl d.next) (λ why f. quiet f.1)
   others_accept_nothing (event.TxRead session tx hive path question) r calm stays s = read_or (λ r. AcceptsNothing old new) _ _ r s (λ v d. quiet d.next) (λ why f. quiet f.1)
-  others_accept_nothing (event.TxWrite session tx moment op) r calm stays s = added_or (λ r. AcceptsNothing old new) _ _ _ r s (λ l d. ap (λ (m : Machine). m.accepted) d.1.1) (λ o. quiet o.2) (λ why f. quiet f.1)
+  others_accept_nothing (event.TxWrite session tx moment op) r calm stays s = added_or (λ r. AcceptsNothing old new) _ _ _ r s (λ l d. quiet_by _ refl refl d.1.1) (λ o. quiet o.2) (λ why f. quiet f.1)
   others_accept_nothing (event.CommitAccept session tx moment) r calm stays s = absurd cc
-  others_accept_nothing (event.Rollback session tx) r calm stays s = done_or (λ r. AcceptsNothing old new) _ _ r s (λ d. ap (λ (m : Machine). m.accepted) d.1) (λ why f. quiet f.1)
-  others_accept_nothing (event.Close session tx) r calm stays s = done_or (λ r. AcceptsNothing old new) _ _ r s (λ d. ap (λ (m : Machine). m.accepted) d.1) (λ why f. quiet f.1)
+  others_accept_nothing (event.Rollback session tx) r calm stays s = done_or (λ r. AcceptsNothing old new) _ _ r s (λ d. quiet_by _ refl refl d.1) (λ why f. quiet f.1)
+  others_accept_nothing (event.Close session tx) r calm stays s = done_or (λ r. AcceptsNothing old new) _ _ r s (λ d. quiet_by _ refl refl d.1) (λ why f. quiet f.1)
   others_accept_nothing (event.Outcome session tx) r calm stays s = outcome_or (λ r. AcceptsNothing old new) _ _ r s (λ o d. quiet d.next) (λ why f. quiet f.1)
+  others_accept_nothing (event.OutcomeOf id) r calm stays s = committed_as_or (λ r. AcceptsNothing old new) _ _ r s (λ n d. quiet d.next) (λ why f. quiet f.1)
   others_accept_nothing event.FlushAsk r calm stays s = awaits_or (λ r. AcceptsNothing old new) _ _ r s (λ n d. quiet d.2) (λ why f. quiet f.1)
   others_accept_nothing (event.Acked number) r calm stays s = receipt_or (λ r. AcceptsNothing old new) _ _ _ r s (λ n d. quiet d.2) (λ w. quiet w.2) (λ why f. quiet f.1.1)
   others_accept_nothing event.Fold r calm stays s = absurd cc
-  others_accept_nothing event.JournalStep r calm stays s = stepped_or (λ r. AcceptsNothing old new) _ _ r s (λ p d. ap (λ (m : Machine). m.accepted) d.next) (λ why f. fails_quietly _ why f)
+  others_accept_nothing event.JournalStep r calm stays s = stepped_or (λ r. AcceptsNothing old new) _ _ r s (λ p d. quiet_by _ refl refl d.next) (λ why f. fails_quietly _ why f)
   others_accept_nothing (event.FlusherStep hive) r calm stays s = stepped_or (λ r. AcceptsNothing old new) _ _ r s (λ p d. quiet d.next) (λ why f. fails_quietly _ why f)
-  others_accept_nothing event.TrimStep r calm stays s = stepped_or (λ r. AcceptsNothing old new) _ _ r s (λ p d. ap (λ (m : Machine). m.accepted) d.next) (λ why f. fails_quietly _ why f)
+  others_accept_nothing event.TrimStep r calm stays s = stepped_or (λ r. AcceptsNothing old new) _ _ r s (λ p d. quiet_by _ refl refl d.next) (λ why f. fails_quietly _ why f)
 
   -- the device's failure is another refusal
   no_fault : (wanted : Option Refusal) → StepFails old wanted NoMemory new → new ≡ old
@@ -147,6 +150,7 @@ module _ (old new : Machine) where
   no_memory_changes_nothing (event.Rollback session tx) s = s.1
   no_memory_changes_nothing (event.Close session tx) s = s.1
   no_memory_changes_nothing (event.Outcome session tx) s = s.1
+  no_memory_changes_nothing (event.OutcomeOf id) s = s.1
   no_memory_changes_nothing event.FlushAsk s = s.1
   no_memory_changes_nothing (event.Acked number) s = s.1.1
   no_memory_changes_nothing event.Fold s = s.1

@@ -1,10 +1,10 @@
 -- A store is faulted only by the device, and a refusal about the device comes from a store that is faulted then. No
 -- event but a step is answered that the device failed.
-use Rattle.std.proofs.Common.{◌≡◌, ◌⊎◌, inl, inr, ℕ, ◌==◌, length, Bool, true, false, List, [], ◌∷◌, Option, Some, None, Result, Ok, Err, cond, refl, sym, ◌∙◌, ap, subst}
+use Rattle.std.proofs.Common.{◌≡◌, ◌⊎◌, inl, inr, ℕ, ◌==◌, length, Bool, true, false, List, [], ◌∷◌, Option, Some, None, Result, Ok, Err, cond, refl, sym, ◌∙◌, ap}
 use Rattle.std.specs.Prelude.{slice_get}
 use Rattle.std.proofs.lemmas.Bool.{true≢false}
 use Rattle.refusals.specs.declared.refusal.Refusal.{Refusal}
-use Rattle.refusals.specs.declared.refusal.Refusal.TheVariants.{DiskFault, Faulted, NoMemory, NotFound, HasSubkeys, TooDeep, TooLarge, Fixed, NotActive}
+use Rattle.refusals.specs.declared.refusal.Refusal.TheVariants.{DiskFault, Faulted, NotFound, HasSubkeys, TooDeep, TooLarge, Fixed, NotActive}
 use Rattle.reg_tree.specs.Maps.{TreeMap, row}
 use Rattle.reg_tree.specs.Operations.{hive_of}
 use Rattle.reg_tree.specs.Judgement.{judged, judged_there, legal_after, legal_if, legal}
@@ -15,7 +15,7 @@ use Rattle.reg_tree.specs.declared.op.Op.TheVariants.{CreateKey, DeleteKey, SetV
 use Rattle.reg_tree.specs.declared.op.Legality.{Legality}
 use Rattle.reg_tree.specs.declared.op.Legality.TheVariants.{Legal, Opened}
 use Rattle.store_model.specs.Transactions.{Transaction, TxSlots, missing_refusal, inactive_refusal, view, is_active}
-use Rattle.store_model.specs.Machine.{Machine, trees_now, found_in, first_of, refused_if, refusal_by, fault, closed_refusal, call_refusal, tx_call_refusal, start_refusal, read_refusal, room_refusal, write_refusal, begin_refusal, added_refusal_if, commit_refusal_if, is_open, is_of_device}
+use Rattle.store_model.specs.Machine.{Machine, trees_now, found_in, first_of, refused_if, refusal_by, fault, closed_refusal, call_refusal, tx_call_refusal, start_refusal, read_refusal, room_refusal, write_refusal, begin_refusal, added_refusal_if, commit_refusal_if, is_open, is_of_device, outcome_bytes}
 use Rattle.store_model.specs.Steps.{Step, Run, Refuses, IsRefused, StepFails, no_hive, after_commit, is_step, with_session}
 use Rattle.store_model.specs.declared.handle.Tx.{Tx}
 use Rattle.store_model.specs.declared.event.ReadResult.{ReadResult}
@@ -23,7 +23,7 @@ use Rattle.store_model.specs.declared.event.Event.{Event}
 use Rattle.store_model.specs.declared.event.Event.TheVariants as event
 use Rattle.store_model.specs.declared.event.Reply.{Reply}
 use Rattle.store_model.specs.declared.event.Reply.TheVariants as reply
-use Rattle.store_model.proofs.Replies.{done_or, read_or, accepted_or, added_or, begun_or, awaits_or, outcome_or, receipt_or, folded_or, stepped_or}
+use Rattle.store_model.proofs.Replies.{done_or, read_or, accepted_or, added_or, begun_or, awaits_or, outcome_or, committed_as_or, receipt_or, folded_or, stepped_or}
 
 -- What faults a store
 
@@ -64,6 +64,7 @@ module _ (old new : Machine) where
   faults (event.Rollback session tx) r s = done_or (Faults old new) _ _ r s (λ d. aside reply.Done _ refl d.1) (λ e f. same (reply.Refused e) f.1)
   faults (event.Close session tx) r s = done_or (Faults old new) _ _ r s (λ d. aside reply.Done _ refl d.1) (λ e f. same (reply.Refused e) f.1)
   faults (event.Outcome session tx) r s = outcome_or (Faults old new) _ _ r s (λ o d. same (reply.OutcomeIs o) d.next) (λ e f. same (reply.Refused e) f.1)
+  faults (event.OutcomeOf id) r s = committed_as_or (Faults old new) _ _ r s (λ n d. same (reply.CommittedAs n) d.next) (λ e f. same (reply.Refused e) f.1)
   faults event.FlushAsk r s = awaits_or (Faults old new) _ _ r s (λ n d. same (reply.Awaits n) d.2) (λ e f. same (reply.Refused e) f.1)
   faults (event.Acked number) r s = receipt_or (Faults old new) _ _ _ r s (λ n d. same (reply.Receipt n) d.2) (λ d. same reply.NotYet d.2) (λ e f. same (reply.Refused e) f.1.1)
   faults event.Fold r s = folded_or (Faults old new) _ _ _ r s (λ n d. aside (reply.Folded n) _ refl d.next) (λ d. same reply.NotYet d.2) (λ e f. same (reply.Refused e) f.1)
@@ -200,9 +201,9 @@ module _ (old : Machine) where
   tx_calling : (session : ℕ) (tx : Tx) (hive : ℕ) → Right (tx_call_refusal old session tx hive)
   tx_calling session tx hive = right_first old.faulted _ _ (inactive (found_in old session tx)) (right_if old.faulted _ _ refl)
 
-  adding : (now : List TreeMap) (tx_slots : TxSlots) (slot : ℕ) (op : Op) (o : Option Transaction) → Right (added_refusal_if now tx_slots slot op o)
-  adding now tx_slots slot op None = right_some old.faulted _ refl
-  adding now tx_slots slot op (Some one) = right_first old.faulted (inactive_refusal (Some one)) _ (inactive (Some one)) (by_legality old.faulted (legal (view now one) op) _ (legality (view now one) op) (right_first old.faulted _ _ (right_if old.faulted _ _ refl) (right_if old.faulted _ _ refl)))
+  adding : (long : ℕ) (now : List TreeMap) (tx_slots : TxSlots) (slot : ℕ) (op : Op) (o : Option Transaction) → Right (added_refusal_if long now tx_slots slot op o)
+  adding long now tx_slots slot op None = right_some old.faulted _ refl
+  adding long now tx_slots slot op (Some one) = right_first old.faulted (inactive_refusal (Some one)) _ (inactive (Some one)) (by_legality old.faulted (legal (view now one) op) _ (legality (view now one) op) (right_first old.faulted _ _ (right_if old.faulted _ _ refl) (right_if old.faulted _ _ refl)))
 
   committing : (moment : ℕ) (o : Option Transaction) → Right (commit_refusal_if old moment o)
   committing moment None = right_some old.faulted _ refl
@@ -231,11 +232,12 @@ module _ (old : Machine) where
     non_step (event.Write session moment op) q s = refuses _ (writing session moment op) s
     non_step (event.Begin session id) q s = refuses _ (beginning session) s
     non_step (event.TxRead session tx hive path question) q s = refuses _ (right_first old.faulted _ _ (tx_calling session tx hive) (queries _)) s
-    non_step (event.TxWrite session tx moment op) q s = refuses _ (right_first old.faulted _ _ faulted (right_first old.faulted _ _ (tx_calling session tx (hive_of op)) (adding (trees_now old) old.tx_slots tx.slot op (found_in old session tx)))) s
+    non_step (event.TxWrite session tx moment op) q s = refuses _ (right_first old.faulted _ _ faulted (right_first old.faulted _ _ (tx_calling session tx (hive_of op)) (adding (outcome_bytes old) (trees_now old) old.tx_slots tx.slot op (found_in old session tx)))) s
     non_step (event.CommitAccept session tx moment) q s = refuses _ (right_first old.faulted _ _ faulted (committing moment (found_in old session tx))) s
     non_step (event.Rollback session tx) q s = is_refused _ (inactive _) s
     non_step (event.Close session tx) q s = is_refused _ (missing _) s
     non_step (event.Outcome session tx) q s = is_refused _ (right_first old.faulted _ _ faulted (missing _)) s
+    non_step (event.OutcomeOf id) q s = refuses _ (right_first old.faulted _ _ (right_if old.faulted _ _ refl) (right_if old.faulted _ _ refl)) s
     non_step event.FlushAsk q s = is_refused _ faulted s
     non_step (event.Acked number) q s = is_refused _ faulted s.1
     non_step event.Fold q s = refuses _ faulted s

@@ -20,15 +20,17 @@ use Rattle.conflicts.specs.Holders.{HeldClaim, each_once, holders_of, IsHolder}
 use Rattle.conflicts.specs.TreeOutlines.{judged_if, judged_in, AreCarriedOut, OpsDontConflict}
 use Rattle.slab.specs.Slab.{entries_from}
 use Rattle.store_model.specs.Transactions.{Transaction, TxSlots, SetsSlot, at, view, is_active, holds, is_claimed, fresh_transaction, with_op}
-use Rattle.store_model.specs.Machine.{Machine, trees_now, opened_machine}
+use Rattle.store_model.specs.Machine.{Machine, committed, trees_now, opened_machine}
 use Rattle.store_model.specs.Steps.{Step, Run}
-use Rattle.store_model.specs.Invariant.{HivesAreNamable, IsActiveAt, InvariantHolds, handle_in}
+use Rattle.store_model.specs.Invariant.{HivesAreNamable, IsActiveAt, InvariantHolds, OutcomesFit, handle_in}
 use Rattle.store_model.specs.declared.bounds.StoreBounds.{StoreBounds}
 use Rattle.store_model.specs.declared.handle.Tx.{Tx}
 use Rattle.store_model.specs.declared.event.Event.{Event}
 use Rattle.store_model.specs.declared.event.Reply.{Reply}
-use Rattle.store_model.proofs.AtCommit.{WeightAlone}
-use Rattle.store_model.proofs.Limits.{within_after, history_after, bounds_after, fits_after, within_at_first}
+use Rattle.store_model.proofs.Accepting.{bounds_stay}
+use Rattle.store_model.proofs.AtCommit.{WeightAlone, Within, commit_apart, commit_within}
+use Rattle.store_model.proofs.Limits.{within_after, history_after, fits_after, within_at_first}
+use Rattle.store_model.proofs.Outcomes.{KeptLaws, outcomes_after, outcomes_at_first}
 use Rattle.store_model.proofs.TransactionChanges.{Descends, RemainsIf, Way, Fewer, Wrote, Longer, Accepted, Began, way, put_or_not, put_descends}
 
 -- the laws of trees and of claims, as they are handed in
@@ -37,7 +39,11 @@ pub record Laws : Type 0 where
   pub past : (trees : List TreeMap) (first ops : List Op) (m n k : ℕ) → AreTrees trees → OpsDontConflict first ops → AreCarriedOut trees ops m → AreCarriedOut (applied trees first n) ops k
   pub more : (trees : List TreeMap) (ops : List Op) (op : Op) (m k : ℕ) → AreTrees trees → AreCarriedOut trees ops m → judged_in (applied trees ops m) op ≡ Ok Legal → AreCarriedOut trees (ops ++ op ∷ []) k
   pub light : WeightAlone
+  pub outcomes : KeptLaws
   pub holders : (held : List HeldClaim) (asker : Option ℕ) (claim : Claim) (owner : ℕ) → Contains (holders_of held asker claim) owner ↔ IsHolder held asker claim owner
+
+pub within : Laws → Within
+within laws = commit_within laws.light laws.outcomes.at_commit
 
 -- What is kept of trees and transactions
 
@@ -199,15 +205,16 @@ module _ (laws : Laws) where
       named = named_after (λ q one. holds (claim_of op) one ≡ false) r;
     }
 
-    accepted : (slot moment : ℕ) (taken : Transaction) → new.begun ≡ old.begun → trees_now new ≡ applied (trees_now old) taken.ops moment → IsActiveAt old.tx_slots slot taken →
+    accepted : (slot moment : ℕ) (taken : Transaction) → new.begun ≡ old.begun → trees_now new ≡ applied (trees_now old) (committed old taken) moment → IsActiveAt old.tx_slots slot taken →
         Descends old.tx_slots new.tx_slots → RemainsIf (λ q one. q ≢ slot) old.tx_slots new.tx_slots → Part new
     accepted slot moment taken b t was d r = record {
-      trees = trees_after taken.ops moment t;
+      trees = trees_after (committed old taken) moment t;
       known = known_still old new b d k;
       carried = λ q one a m.
           let s = r q one a in
           subst (λ ts. AreCarriedOut ts one.ops m) (sym t)
-          (laws.past (trees_now old) taken.ops one.ops 0 moment m k.trees (k.apart slot q taken one (λ e. s.1 (sym e)) was s.0) (k.carried q one s.0 0));
+          (laws.past (trees_now old) (committed old taken) one.ops 0 moment m k.trees
+          (commit_apart laws.outcomes.at_commit old taken k one.ops (k.apart slot q taken one (λ e. s.1 (sym e)) was s.0) (k.named q one s.0)) (k.carried q one s.0 0));
       apart = apart_still (λ q one. q ≢ slot) r;
       named = named_after (λ q one. q ≢ slot) r;
     }
@@ -277,15 +284,16 @@ module _ (laws : Laws) where
 
   pub kept_after : (old new : Machine) (e : Event) (r : Reply) → InvariantHolds old → Step old e r new → InvariantHolds new
   kept_after old new e r k s =
-      let part = kept_by old new (handle_in r) k (bounds_after laws.light old new e r k s) (way old new e r s) in
+      let part = kept_by old new (handle_in r) k (bounds_stay old new e r s).0 (way old new e r s) in
       record {
         trees = part.trees;
         known = part.known;
         carried = part.carried;
         apart = part.apart;
         named = part.named;
-        within = within_after laws.light old new e r k s;
-        history = history_after laws.light old new e r k s;
+        within = within_after (within laws) old new e r k s;
+        history = history_after (within laws) old new e r k s;
+        outcomes = outcomes_after laws.outcomes old new e r k s;
       }
 
   pub kept_along : (old new : Machine) (events : List Event) (replies : List Reply) → InvariantHolds old → Run old events replies new → InvariantHolds new
@@ -299,8 +307,9 @@ nobody : (slot : ℕ) (one : Transaction) → at [] slot ≡ Some one → ⊥
 nobody zero one e = cc
 nobody (suc slot) one e = cc
 
-pub kept_at_first : (bounds : StoreBounds) (trees : List TreeMap) (number : ℕ) (journaled : List Element) (failures : ℕ) → AreTrees trees → number ≤ GREATEST_NUMBER → InvariantHolds (opened_machine bounds trees number journaled failures)
-kept_at_first bounds trees number journaled failures are few = record {
+pub kept_at_first : (bounds : StoreBounds) (trees : List TreeMap) (number : ℕ) (journaled : List Element) (failures : ℕ) → AreTrees trees → number ≤ GREATEST_NUMBER → OutcomesFit bounds trees number →
+    InvariantHolds (opened_machine bounds trees number journaled failures)
+kept_at_first bounds trees number journaled failures are few fit = record {
   trees = are;
   known = λ slot one e. absurd (nobody slot one e);
   carried = λ slot one a m. absurd (nobody slot one a.there);
@@ -308,6 +317,7 @@ kept_at_first bounds trees number journaled failures are few = record {
   named = λ slot one a. absurd (nobody slot one a.there);
   within = within_at_first bounds trees number journaled failures few;
   history = tt;
+  outcomes = outcomes_at_first bounds trees number journaled failures fit;
 }
 
 -- the room of the journal along a run
@@ -317,4 +327,4 @@ module _ (laws : Laws) where
   fits_along old new [] (r ∷ replies) k run fits = absurd run
   fits_along old new (e ∷ events) [] k run fits = absurd run
   fits_along old new (e ∷ events) (r ∷ replies) k run fits =
-      fits_along run.0 new events replies (kept_after laws old run.0 e r k run.1) run.2 (fits_after laws.light old run.0 e r k run.1 fits)
+      fits_along run.0 new events replies (kept_after laws old run.0 e r k run.1) run.2 (fits_after (within laws) old run.0 e r k run.1 fits)

@@ -3,8 +3,10 @@ pub mod Replies
 pub mod TreeCounts
 pub mod TransactionChanges
 pub mod Handles
+pub mod Hives
 pub mod AtCommit
 pub mod Limits
 pub mod Failing
+pub mod Outcomes
 pub mod Keeping
 pub mod NonSteps

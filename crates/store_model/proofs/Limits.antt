@@ -15,8 +15,9 @@ use Rattle.reg_tree.specs.Sequences.{after_elements}
 use Rattle.reg_tree.specs.Encodings.{element_encoded_len}
 use Rattle.reg_tree.specs.declared.element.Element.{Element}
 use Rattle.reg_tree.specs.declared.op.Op.{Op}
+use Rattle.commit_outcomes.specs.Commits.{Commit}
 use Rattle.store_model.specs.Transactions.{Transaction, TxSlots, at, with_op, count_held, inactive_refusal}
-use Rattle.store_model.specs.Machine.{Machine, trees_now, last_number, folded, pending, room_of, room_with, is_open, change, committed, commit_change, first_of, refused_if, refusal_by, fault, closed_refusal, call_refusal, opened_machine, start_refusal, room_refusal, commit_refusal, commit_refusal_if}
+use Rattle.store_model.specs.Machine.{Machine, trees_now, last_number, folded, pending, room_of, room_with, is_open, change, committed, commit_ops, commit_change, next_commit, first_of, refused_if, refusal_by, fault, closed_refusal, call_refusal, opened_machine, start_refusal, room_refusal, commit_refusal, commit_refusal_if}
 use Rattle.store_model.specs.Steps.{AcceptsWrite, Begins, CommitsTx, Ends, Journals, Trims, EndsTrim, StepFails, Step, with_session}
 use Rattle.store_model.specs.Invariant.{InvariantHolds, IsWithin, IsActiveAt, AreLegalChanges, AreLegalHistory}
 use Rattle.store_model.specs.declared.bounds.StoreBounds.{StoreBounds}
@@ -26,9 +27,9 @@ use Rattle.store_model.specs.declared.event.Event.{Event}
 use Rattle.store_model.specs.declared.event.Event.TheVariants as event
 use Rattle.store_model.specs.declared.event.Reply.{Reply}
 use Rattle.store_model.specs.declared.event.Reply.TheVariants as reply
-use Rattle.store_model.proofs.AtCommit.{WeightAlone, neither, legal_within}
-use Rattle.store_model.proofs.Replies.{done_or, read_or, accepted_or, added_or, begun_or, awaits_or, outcome_or, receipt_or, folded_or, stepped_or}
-use Rattle.store_model.proofs.TransactionChanges.{Descends, Way, Fewer, Wrote, Longer, Accepted, Began, way, none_first, not_refused, found_at, active_of, put_descends}
+use Rattle.store_model.proofs.AtCommit.{Within, neither}
+use Rattle.store_model.proofs.Replies.{done_or, read_or, accepted_or, added_or, begun_or, awaits_or, outcome_or, committed_as_or, receipt_or, folded_or, stepped_or}
+use Rattle.store_model.proofs.TransactionChanges.{Descends, Way, Fewer, Wrote, Longer, Accepted, Began, way, with_commit, none_first, not_refused, found_at, active_of, put_descends}
 
 -- Room
 
@@ -128,15 +129,23 @@ has_room machine element e =
     let numbers = neither _ _ (not_refused _ HistoryFull parts.0) in
     (below machine.bounds.changes (length machine.accepted) numbers.0, below GREATEST_NUMBER (last_number machine) numbers.1, within MOST_JOURNAL_BYTES (machine.room + room_of element) (not_refused _ JournalFull parts.1))
 
+-- operations, and more of them
+
+pub some_ops : (ops : List Op) → (length ops == 0) ≡ false → 0 < length ops
+some_ops [] e = absurd cc
+some_ops (op ∷ ops) e = omega arith
+
+pub more_ops : (ops more : List Op) → 0 < length ops → 0 < length (ops ++ more)
+more_ops ops more some = omega (arith, some, length-append ops more)
+
 -- What a step leaves of all this
 
 record Leaves (old new : Machine) : Type 0 where
   within : IsWithin new
   history : AreLegalHistory new.opened new.accepted
-  bounds : new.bounds ≡ old.bounds
   fits : old.room ≤ MOST_JOURNAL_BYTES → new.room ≤ MOST_JOURNAL_BYTES
 
-module _ (law : WeightAlone) (old : Machine) (k : InvariantHolds old) where
+module _ (law : Within) (old : Machine) (k : InvariantHolds old) where
   -- sessions and transactions alone
   seats : (new : Machine) (sessions : List ℕ) (tx_slots : TxSlots) (begun : ℕ) → length sessions ≤ MOST_SESSIONS → count_held tx_slots ≤ MOST_TRANSACTIONS →
       new ≡ record old { sessions = sessions; tx_slots = tx_slots; begun = begun } → Leaves old new
@@ -151,7 +160,6 @@ module _ (law : WeightAlone) (old : Machine) (k : InvariantHolds old) where
       room = k.within.room;
     };
     history = k.history;
-    bounds = refl;
     fits = λ fits. fits;
   })
 
@@ -162,10 +170,10 @@ module _ (law : WeightAlone) (old : Machine) (k : InvariantHolds old) where
   places_alone new fewer e = seats new old.sessions new.tx_slots old.begun k.within.sessions (omega (arith, fewer, k.within.held)) e
 
   -- one change more
-  longer : (new : Machine) (element : Element) (tx_slots : TxSlots) → count_held tx_slots ≤ MOST_TRANSACTIONS → 0 < length element.ops →
+  longer : (new : Machine) (element : Element) (commits : List Commit) (tx_slots : TxSlots) → count_held tx_slots ≤ MOST_TRANSACTIONS → 0 < length element.ops →
       AreLegalChanges (trees_now old) element.ops element.moment → room_refusal old (element_encoded_len element) ≡ None →
-      new ≡ record old { accepted = old.accepted ++ element ∷ []; room = old.room + room_of element; tx_slots = tx_slots } → Leaves old new
-  longer new element tx_slots h some l free e =
+      new ≡ record old { accepted = old.accepted ++ element ∷ []; commits = commits; room = old.room + room_of element; tx_slots = tx_slots } → Leaves old new
+  longer new element commits tx_slots h some l free e =
       let r = has_room old element free in
       let more = length-append old.accepted (element ∷ []) in
       let left : drop (old.durable - old.before) (old.accepted ++ element ∷ []) ≡ pending old ++ element ∷ [] = drop-append-le (old.durable - old.before) old.accepted (element ∷ []) (omega (arith, k.within.known, k.within.opened)) in
@@ -180,7 +188,6 @@ module _ (law : WeightAlone) (old : Machine) (k : InvariantHolds old) where
           room = omega (arith, k.within.room, ap room_with left, one_more_room (pending old) element);
         };
         history = history_more old.opened old.accepted element k.history some l;
-        bounds = refl;
         fits = λ fits. r.2;
       })
 
@@ -198,7 +205,6 @@ module _ (law : WeightAlone) (old : Machine) (k : InvariantHolds old) where
       room = enough how;
     };
     history = k.history;
-    bounds = refl;
     fits = fits how;
   })
     where
@@ -225,7 +231,6 @@ module _ (law : WeightAlone) (old : Machine) (k : InvariantHolds old) where
       room = k.within.room;
     };
     history = k.history;
-    bounds = refl;
     fits = λ fits. fits;
   })
 
@@ -258,11 +263,7 @@ module _ (law : WeightAlone) (old : Machine) (k : InvariantHolds old) where
       let f = none_first (fault old) _ a.free in
       let g = none_first (call_refusal old session (hive_of op)) _ f.1 in
       let free : room_refusal old (element_encoded_len (change moment op)) ≡ None = ap (λ j. refusal_by j (room_refusal old (element_encoded_len (change moment op)))) (sym a.is_legal) ∙ g.1 in
-      longer new (change moment op) new.tx_slots (omega (arith, fewer, k.within.held)) (omega arith) (a.is_legal, tt) free a.next
-
-  some_ops : (ops : List Op) → (length ops == 0) ≡ false → 0 < length ops
-  some_ops [] e = absurd cc
-  some_ops (op ∷ ops) e = omega arith
+      longer new (change moment op) old.commits new.tx_slots (omega (arith, fewer, k.within.held)) (omega arith) (a.is_legal, tt) free a.next
 
   commits : (new : Machine) (session : ℕ) (tx : Tx) (moment number : ℕ) → count_held new.tx_slots ≤ count_held old.tx_slots → CommitsTx old session tx moment number new → Leaves old new
   commits new session tx moment number fewer c = by_case (length c.one.ops == 0) refl g.1 c.next
@@ -278,13 +279,13 @@ module _ (law : WeightAlone) (old : Machine) (k : InvariantHolds old) where
 
       by_case : (t : Bool) → (length c.one.ops == 0) ≡ t
           → cond t None (first_of (refused_if (any_outweighs (trees_now old) (committed old c.one) moment) TooLarge) (room_refusal old (element_encoded_len (commit_change old moment c.one)))) ≡ None
-          → new ≡ record (cond t old (record old { accepted = old.accepted ++ commit_change old moment c.one ∷ []; room = old.room + room_of (commit_change old moment c.one) })) { tx_slots = new.tx_slots } → Leaves old new
+          → new ≡ record (cond t old (with_commit old moment c.one)) { tx_slots = new.tx_slots } → Leaves old new
       by_case true t free e = places_alone new fewer e
       by_case false t free e =
           let p = none_first (refused_if (any_outweighs (trees_now old) (committed old c.one) moment) TooLarge) (room_refusal old (element_encoded_len (commit_change old moment c.one))) free in
           let light = not_refused (any_outweighs (trees_now old) (committed old c.one) moment) TooLarge p.0 in
-          longer new (commit_change old moment c.one) new.tx_slots (omega (arith, fewer, k.within.held)) (some_ops c.one.ops t)
-          (legal_within law (trees_now old) c.one.ops moment (k.carried tx.slot c.one active moment) light) p.1 e
+          longer new (commit_change old moment c.one) (old.commits ++ next_commit old c.one ∷ []) new.tx_slots (omega (arith, fewer, k.within.held))
+          (more_ops c.one.ops (commit_ops old c.one) (some_ops c.one.ops t)) (law old tx.slot c.one moment k active light) p.1 e
 
   journals : (new : Machine) (progress : Progress) → Journals old progress new → Leaves old new
   journals new progress j = settles new new.durable new.room j.grows j.within (how j.room) j.next
@@ -313,7 +314,6 @@ module _ (law : WeightAlone) (old : Machine) (k : InvariantHolds old) where
       room = omega (arith, rest_less (old.durable - last_number old) [], k.within.room);
     };
     history = tt;
-    bounds = refl;
     fits = λ fits. fits;
   })
 
@@ -338,6 +338,7 @@ module _ (law : WeightAlone) (old : Machine) (k : InvariantHolds old) where
     leaves (event.Close session tx) r s =
         done_or (λ r. Leaves old new) _ _ r s (λ d. places_alone new (held_after old new None refl (way old new (event.Close session tx) reply.Done d)) d.1) (λ e f. stays new f.1)
     leaves (event.Outcome session tx) r s = outcome_or (λ r. Leaves old new) _ _ r s (λ o d. stays new d.next) (λ e f. stays new f.1)
+    leaves (event.OutcomeOf id) r s = committed_as_or (λ r. Leaves old new) _ _ r s (λ n d. stays new d.next) (λ e f. stays new f.1)
     leaves event.FlushAsk r s = awaits_or (λ r. Leaves old new) _ _ r s (λ n d. stays new d.2) (λ e f. stays new f.1)
     leaves (event.Acked number) r s = receipt_or (λ r. Leaves old new) _ _ _ r s (λ n d. stays new d.2) (λ d. stays new d.2) (λ e f. stays new f.1.1)
     leaves event.Fold r s = folded_or (λ r. Leaves old new) _ _ _ r s (λ n d. folds new d.all_durable d.next) (λ d. stays new d.2) (λ e f. stays new f.1)
@@ -346,15 +347,15 @@ module _ (law : WeightAlone) (old : Machine) (k : InvariantHolds old) where
     leaves event.TrimStep r s = stepped_or (λ r. Leaves old new) _ _ r s (λ p d. trims new p d) (λ e f. fails new _ e f)
 
 -- numbers, slots and room after a step
-pub within_after : WeightAlone → (old new : Machine) (e : Event) (r : Reply) → InvariantHolds old → Step old e r new → IsWithin new
+pub within_after : Within → (old new : Machine) (e : Event) (r : Reply) → InvariantHolds old → Step old e r new → IsWithin new
 within_after law old new e r k s = (leaves law old k new e r s).within
 
 -- the changes that were accepted
-pub history_after : WeightAlone → (old new : Machine) (e : Event) (r : Reply) → InvariantHolds old → Step old e r new → AreLegalHistory new.opened new.accepted
+pub history_after : Within → (old new : Machine) (e : Event) (r : Reply) → InvariantHolds old → Step old e r new → AreLegalHistory new.opened new.accepted
 history_after law old new e r k s = (leaves law old k new e r s).history
 
 -- the room
-pub fits_after : WeightAlone → (old new : Machine) (e : Event) (r : Reply) → InvariantHolds old → Step old e r new → old.room ≤ MOST_JOURNAL_BYTES → new.room ≤ MOST_JOURNAL_BYTES
+pub fits_after : Within → (old new : Machine) (e : Event) (r : Reply) → InvariantHolds old → Step old e r new → old.room ≤ MOST_JOURNAL_BYTES → new.room ≤ MOST_JOURNAL_BYTES
 fits_after law old new e r k s = (leaves law old k new e r s).fits
 
 -- as a store is opened
@@ -368,7 +369,3 @@ within_at_first bounds trees number journaled failures few = record {
   held = omega arith;
   room = omega (arith, rest_less (number - number) []);
 }
-
--- the bounds
-pub bounds_after : WeightAlone → (old new : Machine) (e : Event) (r : Reply) → InvariantHolds old → Step old e r new → new.bounds ≡ old.bounds
-bounds_after law old new e r k s = (leaves law old k new e r s).bounds

@@ -6,22 +6,19 @@ use Rattle.reg_tree.specs.Judgement.{legal, any_outweighs}
 use Rattle.reg_tree.specs.Encodings.{element_encoded_len}
 use Rattle.reg_tree.specs.declared.element.Element.{Element}
 use Rattle.reg_tree.specs.declared.op.Op.{Op}
-use Rattle.store_model.specs.Machine.{Machine, trees_now, is_open, change, committed, commit_change, first_of, refused_if, refusal_by, room_of, room_refusal, commit_refusal, commit_refusal_if, fault, call_refusal}
-use Rattle.store_model.specs.Transactions.{Transaction, inactive_refusal}
+use Rattle.commit_outcomes.specs.Commits.{Commit}
+use Rattle.store_model.specs.Machine.{Machine, trees_now, is_open, change, committed, commit_ops, commit_change, next_commit, first_of, refused_if, refusal_by, room_of, room_refusal, commit_refusal, commit_refusal_if, fault, call_refusal}
+use Rattle.store_model.specs.Transactions.{inactive_refusal}
 use Rattle.store_model.specs.Steps.{Step, AcceptsWrite, CommitsTx, with_session, is_request}
 use Rattle.store_model.specs.Invariant.{InvariantHolds, IsActiveAt, AreLegalChanges, JournalStateStays, AcceptsOneChange}
 use Rattle.store_model.specs.declared.handle.Tx.{Tx}
 use Rattle.store_model.specs.declared.event.Event.{Event}
 use Rattle.store_model.specs.declared.event.Event.TheVariants as event
 use Rattle.store_model.specs.declared.event.Reply.{Reply}
-use Rattle.store_model.proofs.Replies.{done_or, read_or, accepted_or, added_or, begun_or, awaits_or, outcome_or, receipt_or}
-use Rattle.store_model.proofs.Limits.{has_room}
-use Rattle.store_model.proofs.TransactionChanges.{none_first, not_refused, found_at, active_of}
-
--- what is legal within the limit of weight
-abbrev pub Within : Type 0
-Within = (machine : Machine) (slot : ℕ) (one : Transaction) (moment : ℕ) → InvariantHolds machine → IsActiveAt machine.tx_slots slot one →
-    any_outweighs (trees_now machine) (committed machine one) moment ≡ false → AreLegalChanges (trees_now machine) (committed machine one) moment
+use Rattle.store_model.proofs.AtCommit.{Within}
+use Rattle.store_model.proofs.Replies.{done_or, read_or, accepted_or, added_or, begun_or, awaits_or, outcome_or, committed_as_or, receipt_or}
+use Rattle.store_model.proofs.Limits.{has_room, more_ops, some_ops}
+use Rattle.store_model.proofs.TransactionChanges.{with_commit, none_first, not_refused, found_at, active_of}
 
 abbrev NonSteps : Machine → Machine → Type 0
 NonSteps old new = JournalStateStays old new ⊎ AcceptsOneChange old new
@@ -42,9 +39,9 @@ same : (old new : Machine) → new ≡ old → NonSteps old new
 same old new e = aside old new old.sessions old.tx_slots old.begun e
 
 -- one change more
-grown : (old new : Machine) (e : Element) (tx_slots : _) → 0 < length e.ops → AreLegalChanges (trees_now old) e.ops e.moment → room_refusal old (element_encoded_len e) ≡ None
-    → new ≡ record old { accepted = old.accepted ++ e ∷ []; room = old.room + room_of e; tx_slots = tx_slots } → NonSteps old new
-grown old new e tx_slots some legal free is = let room = has_room old e free in inr (record {
+grown : (old new : Machine) (e : Element) (commits : List Commit) (tx_slots : _) → 0 < length e.ops → AreLegalChanges (trees_now old) e.ops e.moment → room_refusal old (element_encoded_len e) ≡ None
+    → new ≡ record old { accepted = old.accepted ++ e ∷ []; commits = commits; room = old.room + room_of e; tx_slots = tx_slots } → NonSteps old new
+grown old new e commits tx_slots some legal free is = let room = has_room old e free in inr (record {
   element = e;
   some = some;
   legal = legal;
@@ -64,11 +61,7 @@ accepts old new session moment op levels number a =
     let f = none_first (fault old) _ a.free in
     let g = none_first (call_refusal old session (hive_of op)) _ f.1 in
     let h : room_refusal old (element_encoded_len (change moment op)) ≡ None = ap (λ j. refusal_by j (room_refusal old (element_encoded_len (change moment op)))) (sym a.is_legal) ∙ g.1 in
-    grown old new (change moment op) new.tx_slots (omega arith) (a.is_legal, tt) h a.next
-
-some_ops : (ops : List Op) → (length ops == 0) ≡ false → 0 < length ops
-some_ops [] e = absurd cc
-some_ops (op ∷ ops) e = omega arith
+    grown old new (change moment op) old.commits new.tx_slots (omega arith) (a.is_legal, tt) h a.next
 
 commits : Within → (old new : Machine) (session : ℕ) (tx : Tx) (moment number : ℕ) → InvariantHolds old → CommitsTx old session tx moment number new → NonSteps old new
 commits within old new session tx moment number k c =
@@ -79,12 +72,12 @@ commits within old new session tx moment number k c =
     made : Element
     made = commit_change old moment c.one
 
-    by_case : (t : Bool) → (length c.one.ops == 0) ≡ t → new ≡ record (cond t old (record old { accepted = old.accepted ++ made ∷ []; room = old.room + room_of made })) { tx_slots = new.tx_slots }
+    by_case : (t : Bool) → (length c.one.ops == 0) ≡ t → new ≡ record (cond t old (with_commit old moment c.one)) { tx_slots = new.tx_slots }
         → cond t None (first_of (refused_if (any_outweighs (trees_now old) (committed old c.one) moment) TooLarge) (room_refusal old (element_encoded_len made))) ≡ None → IsActiveAt old.tx_slots tx.slot c.one → NonSteps old new
     by_case true e n none a = aside old new old.sessions new.tx_slots old.begun n
     by_case false e n none a =
         let h = none_first (refused_if (any_outweighs (trees_now old) (committed old c.one) moment) TooLarge) (room_refusal old (element_encoded_len made)) none in
-        grown old new made new.tx_slots (some_ops c.one.ops e) (within old tx.slot c.one moment k a (not_refused _ TooLarge h.0)) h.1 n
+        grown old new made (old.commits ++ next_commit old c.one ∷ []) new.tx_slots (more_ops c.one.ops (commit_ops old c.one) (some_ops c.one.ops e)) (within old tx.slot c.one moment k a (not_refused _ TooLarge h.0)) h.1 n
 
 session_opened : (old new : Machine) (session : ℕ) → new ≡ with_session old session → NonSteps old new
 session_opened old new session e = by_case (is_open old session) e
@@ -109,6 +102,7 @@ module _ (within : Within) (old new : Machine) (k : InvariantHolds old) where
   non_step (event.Rollback session tx) r q s = done_or Left _ _ r s (λ d. aside old new old.sessions new.tx_slots old.begun d.1) (λ e f. same old new f.1)
   non_step (event.Close session tx) r q s = done_or Left _ _ r s (λ d. aside old new old.sessions new.tx_slots old.begun d.1) (λ e f. same old new f.1)
   non_step (event.Outcome session tx) r q s = outcome_or Left _ _ r s (λ o d. same old new d.next) (λ e f. same old new f.1)
+  non_step (event.OutcomeOf id) r q s = committed_as_or Left _ _ r s (λ n d. same old new d.next) (λ e f. same old new f.1)
   non_step event.FlushAsk r q s = awaits_or Left _ _ r s (λ n d. same old new d.2) (λ e f. same old new f.1)
   non_step (event.Acked number) r q s = receipt_or Left _ _ _ r s (λ n d. same old new d.2) (λ d. same old new d.2) (λ e f. same old new f.1.1)
   non_step event.Fold r q s = absurd cc

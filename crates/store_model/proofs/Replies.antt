@@ -1,7 +1,7 @@
 -- What is so of each answer that an event may have is so of its reply.
 use Rattle.std.proofs.Common.{ℕ, Option}
 use Rattle.refusals.specs.declared.refusal.Refusal.{Refusal}
-use Rattle.store_model.specs.Shapes.{DoneOr, ReadOr, AcceptedOr, AddedOr, BegunOr, AwaitsOr, OutcomeOr, ReceiptOr, FoldedOr, SteppedOr}
+use Rattle.store_model.specs.Shapes.{DoneOr, ReadOr, AcceptedOr, AddedOr, BegunOr, AwaitsOr, OutcomeOr, CommittedAsOr, ReceiptOr, FoldedOr, SteppedOr}
 use Rattle.store_model.specs.declared.handle.Tx.{Tx}
 use Rattle.store_model.specs.declared.handle.Outcome.{Outcome}
 use Rattle.store_model.specs.declared.event.ReadResult.{ReadResult}
@@ -46,6 +46,11 @@ module _ (X : Reply → Type 0) where
   outcome_or D R (reply.OutcomeIs o) s f g = f o s
   outcome_or D R (reply.Refused e) s f g = g e s
   outcome_or D R _ s f g = absurd s
+
+  pub committed_as_or : (D : ℕ → Type 0) (R : Refusal → Type 0) (r : Reply) → CommittedAsOr D R r → ((n : ℕ) → D n → X (reply.CommittedAs n)) → ((e : Refusal) → R e → X (reply.Refused e)) → X r
+  committed_as_or D R (reply.CommittedAs n) s f g = f n s
+  committed_as_or D R (reply.Refused e) s f g = g e s
+  committed_as_or D R _ s f g = absurd s
 
   pub receipt_or : (D : ℕ → Type 0) (W : Type 0) (R : Refusal → Type 0) (r : Reply) → ReceiptOr D W R r → ((n : ℕ) → D n → X (reply.Receipt n)) → (W → X reply.NotYet) → ((e : Refusal) → R e → X (reply.Refused e)) → X r
   receipt_or D W R (reply.Receipt n) s f h g = f n s

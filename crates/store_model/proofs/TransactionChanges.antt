@@ -15,11 +15,11 @@ use Rattle.reg_tree.specs.declared.op.Op.{Op}
 use Rattle.reg_tree.specs.declared.op.Legality.TheVariants.{Legal}
 use Rattle.conflicts.specs.Claims.{claim_of}
 use Rattle.store_model.specs.Transactions.{Transaction, TxSlots, SetsSlot, EachSlotBecomes, at, own_if, view, is_active, holds, is_claimed, fresh_transaction, ended, with_op, rolled_back_by, gone_with, inactive_refusal}
-use Rattle.store_model.specs.Machine.{Machine, trees_now, is_open, found_in, change, committed, commit_change, first_of, refused_if, refusal_by, too_long, added_refusal, commit_refusal, commit_refusal_if, fault, unnamed_refusal, room_of}
+use Rattle.store_model.specs.Machine.{Machine, trees_now, is_open, found_in, change, committed, commit_change, next_commit, outcome_bytes, first_of, refused_if, refusal_by, too_long, added_refusal, commit_refusal, commit_refusal_if, fault, unnamed_refusal, room_of}
 use Rattle.store_model.specs.Acts.{AddsOp, EndsTx, ClosesTx}
-use Rattle.store_model.specs.Steps.{AcceptsWrite, Begins, CommitsTx, Ends, Step, StepFails, after_commit, with_session}
+use Rattle.store_model.specs.Steps.{AcceptsWrite, Begins, CommitsTx, Ends, Step, StepFails, with_session}
 use Rattle.store_model.specs.Invariant.{IsActiveAt, handle_in}
-use Rattle.store_model.proofs.Replies.{done_or, read_or, accepted_or, added_or, begun_or, awaits_or, outcome_or, receipt_or, folded_or, stepped_or}
+use Rattle.store_model.proofs.Replies.{done_or, read_or, accepted_or, added_or, begun_or, awaits_or, outcome_or, committed_as_or, receipt_or, folded_or, stepped_or}
 use Rattle.store_model.specs.declared.handle.Tx.{Tx}
 use Rattle.store_model.specs.declared.handle.Outcome.{Outcome}
 use Rattle.store_model.specs.declared.handle.Outcome.TheVariants.{Committed, RolledBack}
@@ -142,7 +142,7 @@ pub data Way (old new : Machine) : Option Tx → Type 0 where
   Longer : (slot moment : ℕ) (op : Op) (one : Transaction) → new.begun ≡ old.begun → trees_now new ≡ trees_now old → IsActiveAt old.tx_slots slot one →
       legal (view (trees_now old) one) op ≡ Ok Legal → is_claimed old.tx_slots slot (claim_of op) ≡ false → hive_of op < old.bounds.hives →
       SetsSlot old.tx_slots new.tx_slots slot (Some (with_op one op moment)) → Way old new None
-  Accepted : (slot moment : ℕ) (one : Transaction) → new.begun ≡ old.begun → trees_now new ≡ applied (trees_now old) one.ops moment → IsActiveAt old.tx_slots slot one →
+  Accepted : (slot moment : ℕ) (one : Transaction) → new.begun ≡ old.begun → trees_now new ≡ applied (trees_now old) (committed old one) moment → IsActiveAt old.tx_slots slot one →
       Descends old.tx_slots new.tx_slots → RemainsIf (λ q x. q ≢ slot) old.tx_slots new.tx_slots → Way old new None
   Began : (tx : Tx) (session : ℕ) (id : List ℕ) → tx.generation ≡ old.begun + 1 → new.begun ≡ tx.generation → trees_now new ≡ trees_now old →
       SetsSlot old.tx_slots new.tx_slots tx.slot (Some (fresh_transaction session id tx.generation)) → Way old new (Some tx)
@@ -162,7 +162,7 @@ ends old new session e = Fewer (ap (λ (m : Machine). m.begun) e.next) (ap trees
     (becomes_remains (gone_with session) (λ q one. ⊤) old.tx_slots new.tx_slots e.gone (λ q x one m a. (stayed (x.session == session) x one m, tt)))
 
 -- the trees after one change more
-after_one_more : (trees : List TreeMap) (elements : List Element) (element : Element) → after_elements trees (elements ++ element ∷ []) ≡ applied (after_elements trees elements) element.ops element.moment
+pub after_one_more : (trees : List TreeMap) (elements : List Element) (element : Element) → after_elements trees (elements ++ element ∷ []) ≡ applied (after_elements trees elements) element.ops element.moment
 after_one_more trees [] element = refl
 after_one_more trees (first ∷ elements) element = after_one_more (applied trees first.ops first.moment) elements element
 
@@ -177,18 +177,18 @@ begins : (old new : Machine) (session : ℕ) (id : List ℕ) (tx : Tx) → Begin
 begins old new session id tx b = Began tx session id b.starts.numbered (ap (λ (m : Machine). m.begun) b.next ∙ sym b.starts.numbered) (ap trees_now b.next) b.starts.put
 
 -- a hive that calls may name
-named_hive : (old : Machine) (hive : ℕ) → first_of (fault old) (unnamed_refusal old hive) ≡ None → hive < old.bounds.hives
+pub named_hive : (old : Machine) (hive : ℕ) → first_of (fault old) (unnamed_refusal old hive) ≡ None → hive < old.bounds.hives
 named_hive old hive e = below old.bounds.hives hive (not_refused (nat_le old.bounds.hives hive) NotFound (none_first (fault old) (unnamed_refusal old hive) e).1)
   where
     below : (n m : ℕ) → nat_le n m ≡ false → m < n
     below n m e = grind (arith, nat_tests)
 
-adds : (old new : Machine) (session : ℕ) (tx : Tx) (moment : ℕ) (op : Op) (levels : Option ℕ) → first_of (fault old) (unnamed_refusal old (hive_of op)) ≡ None → AddsOp (trees_now old) old.tx_slots (found_in old session tx) tx.slot moment op levels new.tx_slots → new ≡ record old { tx_slots = new.tx_slots } → Way old new None
+adds : (old new : Machine) (session : ℕ) (tx : Tx) (moment : ℕ) (op : Op) (levels : Option ℕ) → first_of (fault old) (unnamed_refusal old (hive_of op)) ≡ None → AddsOp (outcome_bytes old) (trees_now old) old.tx_slots (found_in old session tx) tx.slot moment op levels new.tx_slots → new ≡ record old { tx_slots = new.tx_slots } → Way old new None
 adds old new session tx moment op levels named a next =
-    let f = none_first (inactive_refusal (Some a.one)) (added_refusal (trees_now old) old.tx_slots tx.slot op a.one) a.free in
-    let further : Option Refusal = first_of (refused_if (too_long a.one op) TooLarge) (refused_if (is_claimed old.tx_slots tx.slot (claim_of op)) Conflict) in
+    let f = none_first (inactive_refusal (Some a.one)) (added_refusal (outcome_bytes old) (trees_now old) old.tx_slots tx.slot op a.one) a.free in
+    let further : Option Refusal = first_of (refused_if (too_long (outcome_bytes old) a.one op) TooLarge) (refused_if (is_claimed old.tx_slots tx.slot (claim_of op)) Conflict) in
     let g : further ≡ None = ap (λ j. refusal_by j further) (sym a.is_legal) ∙ f.1 in
-    let h = none_first (refused_if (too_long a.one op) TooLarge) (refused_if (is_claimed old.tx_slots tx.slot (claim_of op)) Conflict) g in
+    let h = none_first (refused_if (too_long (outcome_bytes old) a.one op) TooLarge) (refused_if (is_claimed old.tx_slots tx.slot (claim_of op)) Conflict) g in
     Longer tx.slot moment op a.one (ap (λ (m : Machine). m.begun) next) (ap trees_now next)
     (record { there = (found_at old session tx a.one a.found).0; active = active_of a.one f.0 }) a.is_legal
     (not_refused (is_claimed old.tx_slots tx.slot (claim_of op)) Conflict h.1) (named_hive old (hive_of op) named) a.put
@@ -203,34 +203,35 @@ closes old new session tx c next = Fewer (ap (λ (m : Machine). m.begun) next) (
     (put_descends old.tx_slots new.tx_slots tx.slot None c.put (λ one e. absurd cc))
     (λ q one a. ((put_remains old.tx_slots new.tx_slots tx.slot None c.put (λ one e. absurd cc) q one a).0, tt))
 
-none_of : (ops : List Op) → length ops ≡ 0 → ops ≡ []
-none_of [] e = refl
-none_of (op ∷ ops) e = absurd (omega (arith, e))
+-- the state after a commit of some operations
+abbrev pub with_commit : Machine → ℕ → Transaction → Machine
+with_commit old moment one = record old {
+  accepted = old.accepted ++ commit_change old moment one ∷ [];
+  commits = old.commits ++ next_commit old one ∷ [];
+  room = old.room + room_of (commit_change old moment one);
+}
 
-after_commit_trees : (old : Machine) (moment : ℕ) (one : Transaction) → trees_now (after_commit old moment one) ≡ applied (trees_now old) (committed old one) moment
-after_commit_trees old moment one = by_case (length one.ops == 0) refl
-  where
-    by_case : (t : Bool) → (length one.ops == 0) ≡ t → trees_now (cond t old (record old { accepted = old.accepted ++ commit_change old moment one ∷ []; room = old.room + room_of (commit_change old moment one) })) ≡ applied (trees_now old) (committed old one) moment
-    by_case true e = sym (ap (λ ops. applied (trees_now old) ops moment) (none_of one.ops (eqb-true (length one.ops) 0 e)))
-    by_case false e = after_one_more old.opened old.accepted (commit_change old moment one)
-
-after_commit_begun : (old : Machine) (moment : ℕ) (one : Transaction) → (after_commit old moment one).begun ≡ old.begun
-after_commit_begun old moment one = by_case (length one.ops == 0)
-  where
-    by_case : (t : Bool) → (cond t old (record old { accepted = old.accepted ++ commit_change old moment one ∷ []; room = old.room + room_of (commit_change old moment one) })).begun ≡ old.begun
-    by_case true = refl
-    by_case false = refl
-
+-- a commit without operations leaves the trees
 commits : (old new : Machine) (session : ℕ) (tx : Tx) (moment number : ℕ) → CommitsTx old session tx moment number new → Way old new None
-commits old new session tx moment number c =
-    let f = none_first (fault old) (commit_refusal_if old moment (Some c.one)) c.free in
-    let g = none_first (inactive_refusal (Some c.one)) (commit_refusal old moment c.one) f.1 in
-    let there = (found_at old session tx c.one c.found).0 in
-    Accepted tx.slot moment c.one (ap (λ (m : Machine). m.begun) c.next ∙ after_commit_begun old moment c.one)
-    (ap trees_now c.next ∙ after_commit_trees old moment c.one)
-    (record { there = there; active = active_of c.one g.0 })
-    (ended_descends old.tx_slots new.tx_slots tx.slot Committed c.one there c.put)
-    (ended_remains old.tx_slots new.tx_slots tx.slot Committed c.one refl c.put)
+commits old new session tx moment number c = by_case (length c.one.ops == 0) c.next
+  where
+    there : at old.tx_slots tx.slot ≡ Some c.one
+    there = (found_at old session tx c.one c.found).0
+
+    active : IsActiveAt old.tx_slots tx.slot c.one
+    active =
+        let f = none_first (fault old) (commit_refusal_if old moment (Some c.one)) c.free in
+        record { there = there; active = active_of c.one (none_first (inactive_refusal (Some c.one)) (commit_refusal old moment c.one) f.1).0 }
+
+    descends : Descends old.tx_slots new.tx_slots
+    descends = ended_descends old.tx_slots new.tx_slots tx.slot Committed c.one there c.put
+
+    remains : RemainsIf (λ q x. q ≢ tx.slot) old.tx_slots new.tx_slots
+    remains = ended_remains old.tx_slots new.tx_slots tx.slot Committed c.one refl c.put
+
+    by_case : (t : Bool) → new ≡ record (cond t old (with_commit old moment c.one)) { tx_slots = new.tx_slots } → Way old new None
+    by_case true e = Fewer (ap (λ (m : Machine). m.begun) e) (ap trees_now e) descends (λ q one a. ((remains q one a).0, tt))
+    by_case false e = Accepted tx.slot moment c.one (ap (λ (m : Machine). m.begun) e) (ap trees_now e ∙ after_one_more old.opened old.accepted (commit_change old moment c.one)) active descends remains
 
 step_fails : (old new : Machine) (wanted : Option Refusal) (r : Refusal) → StepFails old wanted r new → Way old new None
 step_fails old new wanted r (inl h) = same old new h.1
@@ -257,6 +258,7 @@ way old new (event.CommitAccept session tx moment) r s = awaits_or (λ r. Way ol
 way old new (event.Rollback session tx) r s = done_or (λ r. Way old new (handle_in r)) _ _ r s (λ d. finishes old new session tx d.0 d.1) (λ e f. same old new f.1)
 way old new (event.Close session tx) r s = done_or (λ r. Way old new (handle_in r)) _ _ r s (λ d. closes old new session tx d.0 d.1) (λ e f. same old new f.1)
 way old new (event.Outcome session tx) r s = outcome_or (λ r. Way old new (handle_in r)) _ _ r s (λ o d. same old new d.next) (λ e f. same old new f.1)
+way old new (event.OutcomeOf id) r s = committed_as_or (λ r. Way old new (handle_in r)) _ _ r s (λ n d. same old new d.next) (λ e f. same old new f.1)
 way old new event.FlushAsk r s = awaits_or (λ r. Way old new (handle_in r)) _ _ r s (λ n d. same old new d.2) (λ e f. same old new f.1)
 way old new (event.Acked number) r s = receipt_or (λ r. Way old new (handle_in r)) _ _ _ r s (λ n d. same old new d.2) (λ d. same old new d.2) (λ e f. same old new f.1.1)
 way old new event.Fold r s = folded_or (λ r. Way old new (handle_in r)) _ _ _ r s (λ n d. no_change old new (ap (λ (m : Machine). m.begun) d.next) (ap trees_now d.next) (ap (λ (m : Machine). m.tx_slots) d.next)) (λ d. same old new d.2) (λ e f. same old new f.1)

@@ -1,5 +1,5 @@
 -- What every state of the machine keeps: what is known of the transactions that are kept, and of handles.
-use Rattle.std.specs.Prelude.{◌≡◌, ◌≢◌, ◌⊎◌, ℕ, ◌+◌, ◌<◌, ◌≤◌, true, length, List, [], ◌∷◌, ◌++◌, map, filter_map, Option, Some, None, Ok, Err, ⊤}
+use Rattle.std.specs.Prelude.{◌≡◌, ◌≢◌, ◌⊎◌, ℕ, ◌+◌, ◌<◌, ◌≤◌, nat_lt, true, length, List, [], ◌∷◌, ◌++◌, map, filter_map, Option, Some, None, Ok, Err, ⊤}
 use Rattle.std.specs.List.{All}
 use Rattle.refusals.specs.declared.refusal.Refusal.TheVariants.{TooLarge}
 use Rattle.refusals.specs.declared.limits.TheConstants.{GREATEST_NUMBER, MOST_JOURNAL_BYTES, MOST_SESSIONS, MOST_TRANSACTIONS}
@@ -12,7 +12,10 @@ use Rattle.reg_tree.specs.declared.op.Op.{Op}
 use Rattle.reg_tree.specs.declared.op.Legality.TheVariants.{Legal}
 use Rattle.conflicts.specs.TreeOutlines.{AreCarriedOut, OpsDontConflict}
 use Rattle.store_model.specs.Transactions.{Transaction, TxSlots, at, is_active, count_held}
-use Rattle.store_model.specs.Machine.{Machine, trees_now, last_number, pending, room_of, room_with}
+use Rattle.commit_outcomes.specs.Commits.{Commit, AreUpTo, kept}
+use Rattle.commit_outcomes.specs.Trees.{HasCommits}
+use Rattle.store_model.specs.declared.bounds.StoreBounds.{StoreBounds}
+use Rattle.store_model.specs.Machine.{Machine, commits_to, has_outcomes, outcome_tree, trees_at, trees_now, last_number, pending, room_of, room_with}
 use Rattle.store_model.specs.declared.handle.Tx.{Tx}
 use Rattle.store_model.specs.declared.event.Reply.{Reply}
 use Rattle.store_model.specs.declared.event.Reply.TheVariants as reply
@@ -51,10 +54,28 @@ AreLegalHistory trees (element ∷ elements) =
 abbrev pub HivesAreNamable : ℕ → List Op → Type 0
 HivesAreNamable hives ops = All (λ op. hive_of op < hives) ops
 
+-- The tree of outcomes has the commits that are kept: of those that it had at the opening, whose numbers are up to the
+-- opening's, and those of the history. So it was after each change since the opening, with the commits up to then.
+pub record KeepsOutcomes (machine : Machine) : Type 0 where
+  pub before : List Commit
+  pub opened : HasCommits before (outcome_tree machine.bounds machine.opened)
+  pub up_to : AreUpTo machine.before before
+  pub now : HasCommits (kept (before ++ machine.commits)) (outcome_tree machine.bounds (trees_now machine))
+  pub numbers : AreUpTo (last_number machine) (kept (before ++ machine.commits))
+  pub since : AreUpTo (last_number machine) machine.commits
+  pub each : (number : ℕ) → machine.before ≤ number → number ≤ last_number machine →
+      HasCommits (kept (before ++ commits_to number machine.commits)) (outcome_tree machine.bounds (trees_at machine number))
+
+-- Trees at a number may be opened within bounds: if there is a tree of outcomes, it has commits up to the number.
+abbrev pub OutcomesFit : StoreBounds → List TreeMap → ℕ → Type 0
+OutcomesFit bounds trees number =
+    nat_lt bounds.hives (length trees) ≡ true → (commits : List Commit) × HasCommits commits (outcome_tree bounds trees) × AreUpTo number commits
+
 -- What every state keeps: the trees of now are trees; no transaction's number is above how many were begun; the
 -- operations of an active transaction may be carried out in turn on the trees of now, at whatever moment; no claims of
 -- two active transactions conflict; active transactions write to no hive but those that calls may name; numbers, slots
--- and room are within their limits; and each accepted change was legal.
+-- and room are within their limits; each accepted change was legal; and a store that keeps outcomes has those of the
+-- commits that are kept.
 pub record InvariantHolds (machine : Machine) : Type 0 where
   pub trees : AreTrees (trees_now machine)
   pub known : (slot : ℕ) (one : Transaction) → at machine.tx_slots slot ≡ Some one → one.generation ≤ machine.begun
@@ -63,6 +84,7 @@ pub record InvariantHolds (machine : Machine) : Type 0 where
   pub named : (slot : ℕ) (one : Transaction) → IsActiveAt machine.tx_slots slot one → HivesAreNamable machine.bounds.hives one.ops
   pub within : IsWithin machine
   pub history : AreLegalHistory machine.opened machine.accepted
+  pub outcomes : has_outcomes machine ≡ true → KeepsOutcomes machine
 
 -- each operation, on the trees after those before it, is legal, or refused for weight alone
 abbrev pub AreLegalButForWeight : List TreeMap → List Op → ℕ → Type 0

@@ -1,10 +1,10 @@
 -- The machine: the state of a store, and why it refuses an event. It knows no disk.
-use Rattle.std.specs.Prelude.{ℕ, ◌+◌, ◌-◌, ◌^◌, ◌==◌, ◌||◌, ◌&&◌, not, nat_lt, nat_le, Bool, true, false, if◌then◌else◌, List, [], ◌∷◌, ◌++◌, length, drop, sum_by, replicate, Option, Some, None, Result, Ok, Err}
-use Rattle.std.specs.List.{list_any}
+use Rattle.std.specs.Prelude.{ℕ, ◌+◌, ◌-◌, ◌^◌, ◌==◌, ◌||◌, ◌&&◌, not, nat_lt, nat_le, Bool, true, false, if◌then◌else◌, List, [], ◌∷◌, ◌++◌, length, take, drop, sum_by, replicate, Option, Some, None, is_some, Result, Ok, Err, slice_index_or}
+use Rattle.std.specs.List.{filter, list_any}
 use Rattle.std.specs.Option.{option_map}
 use Rattle.reg_names.specs.Names.{folded_path}
 use Rattle.refusals.specs.declared.refusal.Refusal.{Refusal}
-use Rattle.refusals.specs.declared.refusal.Refusal.TheVariants.{NotFound, TooLarge, NoSuchHandle, NoSeat, JournalFull, HistoryFull, Faulted}
+use Rattle.refusals.specs.declared.refusal.Refusal.TheVariants.{NotFound, TooLarge, NoSuchHandle, NoSeat, JournalFull, HistoryFull, Faulted, Unsupported}
 use Rattle.refusals.specs.declared.refusal.Refusal.TheVariants as refusal
 use Rattle.refusals.specs.declared.limits.TheConstants.{MOST_JOURNAL_BYTES, MOST_HISTORY, GREATEST_NUMBER, MOST_ELEMENT_BYTES, MOST_SESSIONS, MOST_TRANSACTIONS}
 use Rattle.reg_tree.specs.Maps.{TreeMap}
@@ -20,8 +20,13 @@ use Rattle.reg_tree.specs.declared.op.Op.{Op}
 use Rattle.reg_tree.specs.declared.op.Legality.{Legality}
 use Rattle.reg_tree.specs.declared.op.Legality.TheVariants.{Legal, Opened}
 use Rattle.conflicts.specs.Claims.{claim_of}
+use Rattle.commit_outcomes.specs.Units.{unit_name}
+use Rattle.commit_outcomes.specs.Commits.{Commit}
+use Rattle.commit_outcomes.specs.Trees.{number_in}
+use Rattle.commit_outcomes.specs.Operations.{outcome_ops}
 use Rattle.store_model.specs.Transactions.{Transaction, TxSlots, is_claimed, view, own, count_held, inactive_refusal}
 use Rattle.store_model.specs.declared.bounds.StoreBounds.{StoreBounds}
+use Rattle.store_model.specs.declared.room.TheConstants.{MOST_OUTCOME_BYTES}
 use Rattle.store_model.specs.declared.handle.Tx.{Tx}
 use Rattle.store_model.specs.declared.event.Question.{Question}
 use Rattle.store_model.specs.declared.event.Question.TheVariants.{ValueOf, ValueAt, KeyAt, KeysOf, ValuesOf, InfoOf}
@@ -29,14 +34,15 @@ use Rattle.store_model.specs.declared.event.ReadResult.{ReadResult}
 use Rattle.store_model.specs.declared.event.ReadResult.TheVariants as found
 
 -- the trees as the store was opened or its history was folded last, the number of the last change before that, and the
--- history, which is the changes accepted since; the sessions that are open, in the order in which they were opened; the
--- transaction in each slot, and how many were begun; the number up to which changes are durable; the room that the
--- journal has used; how many calls of the device have failed, and whether the store is faulted by one; and how many
--- changes the history has at most, and which hives calls may name
+-- history, which is the changes accepted since, with the commits among them in their order; the sessions that are open,
+-- in the order in which they were opened; the transaction in each slot, and how many were begun; the number up to which
+-- changes are durable; the room that the journal has used; how many calls of the device have failed, and whether the
+-- store is faulted by one; and how many changes the history has at most, and which hives calls may name
 pub record Machine : Type 0 where
   pub opened : List TreeMap
   pub before : ℕ
   pub accepted : List Element
+  pub commits : List Commit
   pub sessions : List ℕ
   pub tx_slots : TxSlots
   pub begun : ℕ
@@ -73,6 +79,7 @@ opened_machine bounds trees number journaled failures =
       opened = trees;
       before = number;
       accepted = [];
+      commits = [];
       sessions = [];
       tx_slots = [];
       begun = 0;
@@ -83,13 +90,22 @@ opened_machine bounds trees number journaled failures =
       bounds = bounds;
     }
 
--- a store of new hives, each of which calls may name within these bounds; its journal is empty
+-- a store of new hives, each of which calls may name within these bounds, and of one more for outcomes; its journal is
+-- empty
 abbrev pub fresh_machine : StoreBounds → Machine
-fresh_machine bounds = opened_machine bounds (replicate bounds.hives fresh_tree) 0 [] 0
+fresh_machine bounds = opened_machine bounds (replicate (bounds.hives + 1) fresh_tree) 0 [] 0
 
 -- the trees after all accepted changes
 abbrev pub trees_now : Machine → List TreeMap
 trees_now machine = after_elements machine.opened machine.accepted
+
+-- the trees of the hives that calls name, after all accepted changes
+abbrev pub named_trees : Machine → List TreeMap
+named_trees machine = take machine.bounds.hives (trees_now machine)
+
+-- the trees after the change of a number, which is not below the opening's
+abbrev pub trees_at : Machine → ℕ → List TreeMap
+trees_at machine number = after_elements machine.opened (take (number - machine.before) machine.accepted)
 
 -- the number of the last accepted change
 abbrev pub last_number : Machine → ℕ
@@ -101,7 +117,7 @@ with_history changes machine = record machine { bounds = bounds_with changes mac
 
 -- the store with its history folded, as if it had been opened on the trees of now after the last accepted change
 abbrev pub folded : Machine → Machine
-folded machine = record machine { opened = trees_now machine; before = last_number machine; accepted = [] }
+folded machine = record machine { opened = trees_now machine; before = last_number machine; accepted = []; commits = [] }
 
 -- the changes that are not durable yet
 abbrev pub pending : Machine → List Element
@@ -119,9 +135,35 @@ found_in machine session tx = if is_open machine session then own machine.tx_slo
 abbrev pub change : ℕ → Op → Element
 change moment op = record { moment = moment; ops = op ∷ [] }
 
--- the operations of the change that a commit makes of a transaction: the transaction's operations, in their order
+-- whether a store keeps the outcomes of commits: it has one hive more than calls may name
+abbrev pub has_outcomes : Machine → Bool
+has_outcomes machine = nat_lt machine.bounds.hives (length machine.opened)
+
+-- the tree of outcomes: that of the hive after those that calls may name
+abbrev pub outcome_tree : StoreBounds → List TreeMap → TreeMap
+outcome_tree bounds trees = slice_index_or trees bounds.hives fresh_tree
+
+-- the commits whose numbers are up to this
+abbrev pub commits_to : ℕ → List Commit → List Commit
+commits_to number commits = filter (λ c. nat_le c.0 number) commits
+
+-- the commit that is next, of a transaction's unit of work
+abbrev pub next_commit : Machine → Transaction → Commit
+next_commit machine one = (last_number machine + 1, unit_name one.id)
+
+-- what a commit does to the tree of outcomes, if there is one
+abbrev pub commit_ops : Machine → Transaction → List Op
+commit_ops machine one =
+    if has_outcomes machine then outcome_ops machine.bounds.hives (outcome_tree machine.bounds (trees_now machine)) (next_commit machine one) else []
+
+-- the operations of the change that a commit makes of a transaction: the transaction's operations in their order, and
+-- then what the commit does to the tree of outcomes
 abbrev pub committed : Machine → Transaction → List Op
-committed machine one = one.ops
+committed machine one = one.ops ++ commit_ops machine one
+
+-- how many bytes of a change are set aside for what a commit does to the tree of outcomes
+abbrev pub outcome_bytes : Machine → ℕ
+outcome_bytes machine = if has_outcomes machine then MOST_OUTCOME_BYTES else 0
 
 -- the change that a commit makes of a transaction
 abbrev pub commit_change : Machine → ℕ → Transaction → Element
@@ -212,19 +254,19 @@ abbrev pub seen : List TreeMap → ℕ → List (List ℕ) → Question → Opti
 seen now hive path question None = None
 seen now hive path question (Some one) = looked_up (view now one) hive path question
 
--- a change of one more operation is too long
-abbrev pub too_long : Transaction → Op → Bool
-too_long one op = nat_lt MOST_ELEMENT_BYTES (element_encoded_len (record { moment = one.moment; ops = one.ops ++ op ∷ [] }))
+-- a change of one more operation is too long, with as many bytes as are set aside
+abbrev pub too_long : ℕ → Transaction → Op → Bool
+too_long aside one op = nat_lt MOST_ELEMENT_BYTES (element_encoded_len (record { moment = one.moment; ops = one.ops ++ op ∷ [] }) + aside)
 
 -- why an operation is not added to an active transaction: it is not legal in its view, makes its change too long, or
 -- another active transaction's claim conflicts
-abbrev pub added_refusal : List TreeMap → TxSlots → ℕ → Op → Transaction → Option Refusal
-added_refusal now tx_slots slot op one =
-    refusal_by (legal (view now one) op) (first_of (refused_if (too_long one op) TooLarge) (refused_if (is_claimed tx_slots slot (claim_of op)) refusal.Conflict))
+abbrev pub added_refusal : ℕ → List TreeMap → TxSlots → ℕ → Op → Transaction → Option Refusal
+added_refusal aside now tx_slots slot op one =
+    refusal_by (legal (view now one) op) (first_of (refused_if (too_long aside one op) TooLarge) (refused_if (is_claimed tx_slots slot (claim_of op)) refusal.Conflict))
 
-abbrev pub added_refusal_if : List TreeMap → TxSlots → ℕ → Op → Option Transaction → Option Refusal
-added_refusal_if now tx_slots slot op None = Some NoSuchHandle
-added_refusal_if now tx_slots slot op (Some one) = first_of (inactive_refusal (Some one)) (added_refusal now tx_slots slot op one)
+abbrev pub added_refusal_if : ℕ → List TreeMap → TxSlots → ℕ → Op → Option Transaction → Option Refusal
+added_refusal_if aside now tx_slots slot op None = Some NoSuchHandle
+added_refusal_if aside now tx_slots slot op (Some one) = first_of (inactive_refusal (Some one)) (added_refusal aside now tx_slots slot op one)
 
 -- why the change that a commit makes of an active transaction is not accepted, if the transaction has operations
 abbrev pub commit_refusal : Machine → ℕ → Transaction → Option Refusal
@@ -235,3 +277,12 @@ commit_refusal machine moment one =
 abbrev pub commit_refusal_if : Machine → ℕ → Option Transaction → Option Refusal
 commit_refusal_if machine moment None = Some NoSuchHandle
 commit_refusal_if machine moment (Some one) = first_of (inactive_refusal (Some one)) (commit_refusal machine moment one)
+
+-- the number of a unit's commit in the tree of outcomes of now
+abbrev pub outcome_of : Machine → List ℕ → Option ℕ
+outcome_of machine id = number_in (outcome_tree machine.bounds (trees_now machine)) id
+
+-- why the outcome of a unit is not told: the store keeps none, or has no commit of the unit
+abbrev pub outcome_refusal : Machine → List ℕ → Option Refusal
+outcome_refusal machine id =
+    first_of (refused_if (not (has_outcomes machine)) Unsupported) (refused_if (not (is_some (outcome_of machine id))) NotFound)

@@ -52,6 +52,12 @@ OutcomeOr stands refused (reply.OutcomeIs outcome) = stands outcome
 OutcomeOr stands refused (reply.Refused refusal) = refused refusal
 OutcomeOr stands refused _ = ⊥
 
+-- only the number of a commit, or refused
+abbrev pub CommittedAsOr : (ℕ → Type 0) → (Refusal → Type 0) → Reply → Type 0
+CommittedAsOr committed refused (reply.CommittedAs number) = committed number
+CommittedAsOr committed refused (reply.Refused refusal) = refused refusal
+CommittedAsOr committed refused _ = ⊥
+
 -- only a receipt, not yet, or refused
 abbrev pub ReceiptOr : (ℕ → Type 0) → Type 0 → (Refusal → Type 0) → Reply → Type 0
 ReceiptOr receipt waits refused (reply.Receipt number) = receipt number

@@ -10,9 +10,9 @@ use Rattle.reg_tree.specs.declared.op.Op.{Op}
 use Rattle.reg_tree.specs.declared.op.Legality.TheVariants.{Legal, Opened}
 use Rattle.conflicts.specs.Claims.{claim_of}
 use Rattle.store_model.specs.Transactions.{Transaction, SetsSlot, EachSlotBecomes, ended, rolled_back_by, gone_with, missing_refusal, inactive_refusal}
-use Rattle.store_model.specs.Machine.{Machine, trees_now, last_number, folded, pending, room_with, room_of, is_open, found_in, change, commit_change, first_of, fault, closed_refusal, unnamed_refusal, call_refusal, tx_call_refusal, start_refusal, looked_up, read_refusal, write_refusal, begin_refusal, seen, added_refusal_if, commit_refusal_if}
+use Rattle.store_model.specs.Machine.{Machine, trees_now, last_number, folded, pending, room_with, room_of, is_open, found_in, change, commit_change, next_commit, outcome_bytes, has_outcomes, outcome_of, outcome_refusal, first_of, fault, closed_refusal, unnamed_refusal, call_refusal, tx_call_refusal, start_refusal, looked_up, read_refusal, write_refusal, begin_refusal, seen, added_refusal_if, commit_refusal_if}
 use Rattle.store_model.specs.Acts.{StartsTx, AddsOp, OpensKey, EndsTx, ClosesTx}
-use Rattle.store_model.specs.Shapes.{DoneOr, ReadOr, AcceptedOr, AddedOr, BegunOr, AwaitsOr, OutcomeOr, ReceiptOr, FoldedOr, SteppedOr}
+use Rattle.store_model.specs.Shapes.{DoneOr, ReadOr, AcceptedOr, AddedOr, BegunOr, AwaitsOr, OutcomeOr, CommittedAsOr, ReceiptOr, FoldedOr, SteppedOr}
 use Rattle.store_model.specs.declared.handle.Tx.{Tx}
 use Rattle.store_model.specs.declared.handle.Outcome.{Outcome}
 use Rattle.store_model.specs.declared.handle.Outcome.TheVariants.{Committed, RolledBack}
@@ -77,7 +77,7 @@ ChangesSlots old act new = act × (new ≡ record old { tx_slots = new.tx_slots 
 abbrev pub after_commit : Machine → ℕ → Transaction → Machine
 after_commit old moment one =
     if length one.ops == 0 then old
-    else record old { accepted = old.accepted ++ commit_change old moment one ∷ []; room = old.room + room_of (commit_change old moment one) }
+    else record old { accepted = old.accepted ++ commit_change old moment one ∷ []; commits = old.commits ++ next_commit old one ∷ []; room = old.room + room_of (commit_change old moment one) }
 
 pub record CommitsTx (old : Machine) (session : ℕ) (tx : Tx) (moment number : ℕ) (new : Machine) : Type 0 where
   pub one : Transaction
@@ -93,6 +93,12 @@ pub record OutcomeIs (old : Machine) (session : ℕ) (tx : Tx) (outcome : Outcom
   pub found : found_in old session tx ≡ Some one
   pub free : fault old ≡ None
   pub told : outcome ≡ one.outcome
+  pub next : new ≡ old
+
+-- the answer is the number of a unit's commit that the store keeps
+pub record CommitIs (old : Machine) (id : List ℕ) (number : ℕ) (new : Machine) : Type 0 where
+  pub keeps : has_outcomes old ≡ true
+  pub told : outcome_of old id ≡ Some number
   pub next : new ≡ old
 
 -- each accepted change is durable, and the history is folded: the trees of now are those of the opening, and no change
@@ -199,9 +205,9 @@ Step old (event.TxRead session tx hive path question) reply new =
     ReadOr (λ found. AnswersRead old (tx_call_refusal old session tx hive) (seen (trees_now old) hive path question (found_in old session tx)) found new)
     (λ r. Refuses old (first_of (tx_call_refusal old session tx hive) (read_refusal (seen (trees_now old) hive path question (found_in old session tx)))) r new) reply
 Step old (event.TxWrite session tx moment op) reply new =
-    AddedOr (λ levels. (first_of (fault old) (unnamed_refusal old (hive_of op)) ≡ None) × ChangesSlots old (AddsOp (trees_now old) old.tx_slots (found_in old session tx) tx.slot moment op levels new.tx_slots) new)
-    ((first_of (fault old) (unnamed_refusal old (hive_of op)) ≡ None) × OpensKey (trees_now old) old.tx_slots (found_in old session tx) tx.slot op × (new ≡ old))
-    (λ r. Refuses old (first_of (fault old) (first_of (tx_call_refusal old session tx (hive_of op)) (added_refusal_if (trees_now old) old.tx_slots tx.slot op (found_in old session tx)))) r new) reply
+    AddedOr (λ levels. (first_of (fault old) (unnamed_refusal old (hive_of op)) ≡ None) × ChangesSlots old (AddsOp (outcome_bytes old) (trees_now old) old.tx_slots (found_in old session tx) tx.slot moment op levels new.tx_slots) new)
+    ((first_of (fault old) (unnamed_refusal old (hive_of op)) ≡ None) × OpensKey (outcome_bytes old) (trees_now old) old.tx_slots (found_in old session tx) tx.slot op × (new ≡ old))
+    (λ r. Refuses old (first_of (fault old) (first_of (tx_call_refusal old session tx (hive_of op)) (added_refusal_if (outcome_bytes old) (trees_now old) old.tx_slots tx.slot op (found_in old session tx)))) r new) reply
 -- a transaction ends, and is dropped
 Step old (event.CommitAccept session tx moment) reply new =
     AwaitsOr (λ number. CommitsTx old session tx moment number new)
@@ -213,6 +219,9 @@ Step old (event.Close session tx) reply new =
 Step old (event.Outcome session tx) reply new =
     OutcomeOr (λ outcome. OutcomeIs old session tx outcome new)
     (λ r. IsRefused old (first_of (fault old) (missing_refusal (found_in old session tx))) r new) reply
+-- a unit's commit is told as long as the store keeps it, to whoever asks
+Step old (event.OutcomeOf id) reply new =
+    CommittedAsOr (λ number. CommitIs old id number new) (λ r. Refuses old (outcome_refusal old id) r new) reply
 -- what is accepted becomes durable in time, and then there is a receipt of it
 Step old event.FlushAsk reply new =
     AwaitsOr (λ number. (fault old ≡ None) × (number ≡ last_number old) × (new ≡ old)) (λ r. IsRefused old (fault old) r new) reply

@@ -1,6 +1,6 @@
 //! What bounds one store, beside the limits that all stores have.
 ghost use Rattle.std.specs.Prelude.{◌≡◌};
-ghost use Rattle.store_model.specs.Machine.{bounds_of};
+ghost use Rattle.store_model.specs.Machine.{bounds_for, bounds_of};
 
 use refusals::limits::MOST_HISTORY;
 use reg_tree::Trees;
@@ -15,13 +15,20 @@ pub struct StoreBounds {
 }
 
 impl StoreBounds {
+    /// The bounds of a store whose calls name this many hives: 1,048,576 changes are accepted.
+    pub fn for_hives(hives: usize) -> StoreBounds
+        ensures { result ≡ bounds_for hives }
+    {
+        StoreBounds {
+            changes: MOST_HISTORY,
+            hives,
+        }
+    }
+
     /// The bounds of a store whose calls name each of these trees: 1,048,576 changes are accepted.
     pub fn of(trees: &Trees) -> StoreBounds
         ensures { result ≡ bounds_of trees.now }
     {
-        StoreBounds {
-            changes: MOST_HISTORY,
-            hives: trees.len(),
-        }
+        StoreBounds::for_hives(trees.len())
     }
 }

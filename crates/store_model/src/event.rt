@@ -156,6 +156,11 @@ pub enum Event {
         /// The transaction.
         tx: Tx,
     },
+    /// Asks which change a unit of work committed as, also before the store was opened.
+    OutcomeOf {
+        /// The unit of work.
+        id: Uuid,
+    },
     /// Asks which change a flush has to wait for.
     FlushAsk,
     /// Asks whether the change of a number is durable.
@@ -215,6 +220,11 @@ pub enum Reply {
     OutcomeIs {
         /// The outcome.
         outcome: Outcome,
+    },
+    /// A unit of work has committed.
+    CommittedAs {
+        /// The number of its last commit's change.
+        number: u64,
     },
     /// A change is durable, and each before it.
     Receipt {

@@ -2,19 +2,24 @@
 //!
 //! They have no code of their own: each is the contract of a function that does nothing, for crates that keep a store
 //! by the machine.
-ghost use Rattle.std.specs.Prelude.{◌≡◌, ◌≤◌, ◌⊎◌, ℕ, [], true, false, length, List, Some, None};
+ghost use Rattle.std.specs.Prelude.{◌≡◌, ◌↔◌, ◌≤◌, ◌⊎◌, ◌++◌, ◌+◌, Contains, ℕ, [], true, false, length, replicate, List, Some, None};
 ghost use Rattle.std.specs.List.Sorted.{IsStrictlySortedBy};
 ghost use Rattle.std.specs.Ordering.{nat_cmp};
 ghost use Rattle.refusals.specs.declared.limits.TheConstants.{GREATEST_NUMBER, MOST_JOURNAL_BYTES};
 ghost use Rattle.refusals.specs.declared.refusal.Refusal.TheVariants.{DiskFault, NoMemory};
 ghost use Rattle.reg_tree.specs.Maps.{TreeMap};
+ghost use Rattle.reg_tree.specs.Fresh.{fresh_tree};
+ghost use Rattle.reg_tree.specs.Encodings.{element_encoded_len};
 ghost use Rattle.reg_tree.specs.declared.element.Element.{Element};
 ghost use Rattle.reg_tree.specs.Judgement.{any_outweighs};
 ghost use Rattle.reg_tree.specs.Sequences.{AreTrees, AreLegal};
 ghost use Rattle.store_model.specs.Transactions.{Transaction, own};
-ghost use Rattle.store_model.specs.Machine.{Machine, committed, last_number, opened_machine, trees_now, found_in};
+ghost use Rattle.store_model.specs.Machine.{Machine, commit_change, commits_to, committed, has_outcomes, outcome_bytes, outcome_of, outcome_tree, last_number, opened_machine, trees_at, trees_now, found_in};
+ghost use Rattle.commit_outcomes.specs.Units.{unit_name};
+ghost use Rattle.commit_outcomes.specs.Commits.{Commit, AreUpTo, kept};
+ghost use Rattle.commit_outcomes.specs.Trees.{HasCommits};
 ghost use Rattle.store_model.specs.Steps.{Step, Run, is_fold, is_request, is_step, may_accept};
-ghost use Rattle.store_model.specs.Invariant.{InvariantHolds, IsActiveAt, AreLegalButForWeight, AreLegalChanges, IsCounted, IsGone, JournalStateStays, AcceptsOneChange, handle_in, numbers_given};
+ghost use Rattle.store_model.specs.Invariant.{InvariantHolds, OutcomesFit, IsActiveAt, AreLegalButForWeight, AreLegalChanges, IsCounted, IsGone, JournalStateStays, AcceptsOneChange, handle_in, numbers_given};
 ghost use Rattle.store_model.specs.declared.bounds.StoreBounds.{StoreBounds};
 ghost use Rattle.store_model.specs.declared.handle.Tx.{Tx};
 ghost use Rattle.store_model.specs.declared.event.Event.{Event};
@@ -29,15 +34,17 @@ ghost use Rattle.store_model.specs.declared.event.Reply.TheVariants as reply;
 /// transactions write to no hive but those that calls may name. What was there at the opening is durable, and nothing
 /// is durable that was not accepted. Numbers, changes, sessions and transactions are within their limits. The journal's
 /// room is at least what the changes need that are not durable yet. Each accepted change was legal on the trees on
-/// which it was accepted, and each of its operations changed something.
+/// which it was accepted, and each of its operations changed something. A store that keeps outcomes has those of the
+/// commits that are kept.
 ///
-/// - `begins`: it is so as a store is opened on trees, whatever its bounds are and its journal encodes.
+/// - `begins`: it is so as a store is opened on trees, whatever its bounds are and its journal encodes, if a tree of
+///   outcomes has commits up to the number.
 /// - `step`, `run`: each step keeps it, and so does every run.
 /// - `room`, `room_run`: the journal's room stays within its limit, if it was so at the opening.
 pub fn steps_keep_invariant()
     ensures begins { (bounds : StoreBounds) (trees : List TreeMap) (number : ℕ)
         (journaled : List Element) (failures : ℕ) →
-        AreTrees trees → number ≤ GREATEST_NUMBER →
+        AreTrees trees → number ≤ GREATEST_NUMBER → OutcomesFit bounds trees number →
         InvariantHolds (opened_machine bounds trees number journaled failures) }
     ensures step { (old new : Machine) (event : Event) (reply : Reply) → InvariantHolds old →
         Step old event reply new →
@@ -56,6 +63,9 @@ pub fn steps_keep_invariant()
     conflicts::laws::stay_legal();
     conflicts::laws::one_more();
     conflicts::laws::holders_are_exact();
+    commit_outcomes::laws::units_have_names();
+    commit_outcomes::laws::commits_are_kept();
+    commit_outcomes::laws::kept_in_turn();
 }
 
 /// Only a step may be answered that the device failed: every other event makes no call of the device.
@@ -110,14 +120,15 @@ pub fn no_memory_changes_nothing()
 /// At a commit no operation is illegal but for weight: others may have changed the trees since it was written, but
 /// nothing that its claim guards.
 ///
-/// - `but_for_weight`: each operation of an active transaction, carried out in turn on the trees of now at whatever
-///   moment, is legal or refused for weight alone.
-/// - `within`, `in_order`: if none takes a tree over the limit of weight, each is legal, and so is the change that a
-///   commit makes of them.
+/// - `but_for_weight`: each operation of the change that a commit makes of an active transaction, carried out in turn on
+///   the trees of now at whatever moment, is legal or refused for weight alone.
+/// - `within`, `in_order`: if none takes a tree over the limit of weight, each is legal.
+/// - `short`: this change is longer than one of the transaction's operations alone by no more than the bytes that are
+///   set aside for its outcome.
 pub fn commits_stay_legal()
     ensures but_for_weight { (machine : Machine) (slot : ℕ) (one : Transaction) → InvariantHolds machine →
         IsActiveAt machine.tx_slots slot one →
-        (moment : ℕ) → AreLegalButForWeight (trees_now machine) one.ops moment }
+        (moment : ℕ) → AreLegalButForWeight (trees_now machine) (committed machine one) moment }
     ensures within { (machine : Machine) (slot : ℕ) (one : Transaction) (moment : ℕ) →
         InvariantHolds machine → IsActiveAt machine.tx_slots slot one →
         any_outweighs (trees_now machine) (committed machine one) moment ≡ false →
@@ -126,9 +137,44 @@ pub fn commits_stay_legal()
         InvariantHolds machine → IsActiveAt machine.tx_slots slot one →
         any_outweighs (trees_now machine) (committed machine one) moment ≡ false →
         AreLegal (trees_now machine) (committed machine one) moment }
+    ensures short { (machine : Machine) (one : Transaction) (moment : ℕ) → InvariantHolds machine →
+        element_encoded_len (commit_change machine moment one)
+        ≤ element_encoded_len (record { moment = moment; ops = one.ops }) + outcome_bytes machine }
 {
     conflicts::laws::but_for_weight();
     reg_tree::laws::weight_alone_refuses();
+    commit_outcomes::laws::units_have_names();
+    commit_outcomes::laws::commits_are_kept();
+}
+
+/// The tree of outcomes has the commits that are kept: of those that it had at the opening and those of the history, the
+/// last one of each unit of work, and of these the last 4,096.
+///
+/// - `now`: it has those of all changes.
+/// - `told`: the number of a unit's commit is found exactly if the commit is one of them.
+/// - `each`: after each change since the opening it had those up to then.
+/// - `fit`: the trees after each of these changes may be opened.
+/// - `fresh`: so may those of a new store.
+pub fn outcomes_are_kept()
+    ensures now { (machine : Machine) (before : List Commit) → InvariantHolds machine → has_outcomes machine ≡ true →
+        HasCommits before (outcome_tree machine.bounds machine.opened) → AreUpTo machine.before before →
+        HasCommits (kept (before ++ machine.commits)) (outcome_tree machine.bounds (trees_now machine)) }
+    ensures told { (machine : Machine) (before : List Commit) (id : List ℕ) (number : ℕ) → InvariantHolds machine →
+        has_outcomes machine ≡ true → HasCommits before (outcome_tree machine.bounds machine.opened) →
+        AreUpTo machine.before before →
+        (outcome_of machine id ≡ Some number)
+        ↔ Contains (kept (before ++ machine.commits)) (number, unit_name id) }
+    ensures each { (machine : Machine) (before : List Commit) (number : ℕ) → InvariantHolds machine →
+        has_outcomes machine ≡ true → HasCommits before (outcome_tree machine.bounds machine.opened) →
+        AreUpTo machine.before before → machine.before ≤ number → number ≤ last_number machine →
+        HasCommits (kept (before ++ commits_to number machine.commits))
+        (outcome_tree machine.bounds (trees_at machine number)) }
+    ensures fit { (machine : Machine) (number : ℕ) → InvariantHolds machine → machine.before ≤ number →
+        number ≤ last_number machine → OutcomesFit machine.bounds (trees_at machine number) number }
+    ensures fresh { (bounds : StoreBounds) →
+        OutcomesFit bounds (replicate (bounds.hives + 1) fresh_tree) 0 }
+{
+    commit_outcomes::laws::trees_have_commits();
 }
 
 /// No handle is given twice, and one that was closed answers nothing for good.
