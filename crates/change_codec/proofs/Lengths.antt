@@ -60,3 +60,8 @@ some_bytes op = omega (arith, op_length op, of_op op)
 pub as_many : (ops : List Op) → length ops ≤ ops_encoded_len ops
 as_many [] = omega arith
 as_many (op ∷ ops) = omega (arith, some_bytes op, as_many ops, sum_by-cons op_encoded_len op ops)
+
+-- operations in two parts
+pub ops_in_two : (ops more : List Op) → ops_encoded_len (ops ++ more) ≡ ops_encoded_len ops + ops_encoded_len more
+ops_in_two [] more = omega arith
+ops_in_two (op ∷ ops) more = omega (arith, ops_in_two ops more, sum_by-cons op_encoded_len op ops, sum_by-cons op_encoded_len op (ops ++ more))

@@ -35,7 +35,3 @@ is_legal (Err refusal) = false
 -- it is legal there. More is not asked of a tree.
 unfoldable pub tree_rules : law.Rules TreeMap TimedOp
 tree_rules = record { apply = λ o t. changed t o.1 o.0; legal = λ o t. is_legal (legal_in t o.1); allows = λ i n t. true }
-
--- the same of a store whose calls name this many hives, and each tree of it is allowed
-abbrev pub rules : ℕ → law.Rules TreeMap TimedOp
-rules named = tree_rules

@@ -1,5 +1,5 @@
 //! An accepted change as it is kept until it is applied: by its encoding.
-ghost use Rattle.std.specs.Prelude.{◌≡◌, ◌==◌, ◌+◌, ◌<◌, ◌≤◌, ◌^◌, ℕ, length, take, filter, Some, None, IfOk, MatchResult};
+ghost use Rattle.std.specs.Prelude.{◌≡◌, ◌==◌, ◌+◌, ◌<◌, ◌≤◌, ◌^◌, ◌++◌, ℕ, length, take, filter, Some, None, IfOk, MatchResult};
 ghost use Rattle.std.specs.List.{AllByRecursion, list_any};
 ghost use Rattle.refusals.specs.Answers.{RefusedFor};
 ghost use Rattle.refusals.specs.declared.refusal.Refusal.TheVariants.{JournalDamaged};
@@ -72,24 +72,28 @@ impl EncodedChange {
             alloc,
             element.moment,
             element.ops.list(),
+            &[],
             element.text_len(),
         )
     }
 
-    /// The encoding of the change that these operations make at a moment: `len` bytes, which the caller counted.
+    /// The encoding of the change that these operations, and some more after them, make at a moment: `len` bytes, which
+    /// the caller counted.
     pub fn of_ops(
         alloc: Global,
         moment: u64,
         ops: &[Op],
+        more: &[Op],
         len: u64,
     ) -> Result<EncodedChange, AllocError>
         requires some { 0 < length ops.now }
-        requires len { len ≡ 16 + ops_encoded_len ops.now }
+        requires len { len ≡ 16 + ops_encoded_len (ops.now ++ more.now) }
         requires short { len < 2 ^ 32 }
-        ensures { IfOk result (λ encoding. encoding ≡ record { moment = moment; ops = ops.now }) }
+        ensures { IfOk result (λ encoding. encoding
+            ≡ record { moment = moment; ops = ops.now ++ more.now }) }
     {
         let mut bytes = Vec::with_capacity(alloc, len as usize)?;
-        write_change(moment, ops, len as u32, &mut bytes)?;
+        write_change(moment, ops, more, len as u32, &mut bytes)?;
         Ok(EncodedChange::kept(bytes))
     }
 

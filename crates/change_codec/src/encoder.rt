@@ -23,28 +23,31 @@ pub fn write(element: &Element, bytes: &mut Vec<u8>) -> Result<(), AllocError>
         AllByRecursion (λ op. hive_of op < hives) element.now.ops → Fits hives element.now) }
 {
     let len = element.text_len() as u32;
-    write_change(element.moment, element.ops.list(), len, bytes)
+    write_change(element.moment, element.ops.list(), &[], len, bytes)
 }
 
-/// Appends the encoding of the change that these operations make at a moment: `len` bytes.
+/// Appends the encoding of the change that these operations, and some more after them, make at a moment: `len` bytes.
 pub(crate) fn write_change(
     moment: u64,
     ops: &[Op],
+    more: &[Op],
     len: u32,
     bytes: &mut Vec<u8>,
 ) -> Result<(), AllocError>
     requires some { 0 < length ops.now }
-    requires len { len ≡ 16 + ops_encoded_len ops.now }
+    requires len { len ≡ 16 + ops_encoded_len (ops.now ++ more.now) }
     ensures encoding { OnOk result (bytes.new.items
-        ≡ bytes.old.items ++ element_bytes (record { moment = moment; ops = ops.now })) }
-    ensures fits { OnOk result ((hives : ℕ) → AllByRecursion (λ op. hive_of op < hives) ops.now →
-        Fits hives (record { moment = moment; ops = ops.now })) }
-    ensures all { OnOk result (Fits 256 (record { moment = moment; ops = ops.now })) }
+        ≡ bytes.old.items ++ element_bytes (record { moment = moment; ops = ops.now ++ more.now })) }
+    ensures fits { OnOk result ((hives : ℕ) →
+        AllByRecursion (λ op. hive_of op < hives) (ops.now ++ more.now) →
+        Fits hives (record { moment = moment; ops = ops.now ++ more.now })) }
+    ensures all { OnOk result (Fits 256 (record { moment = moment; ops = ops.now ++ more.now })) }
 {
     put_u32(bytes, len)?;
     put_u64(bytes, moment)?;
-    put_u32(bytes, ops.len() as u32)?;
-    write_ops(ops, bytes)
+    put_u32(bytes, (ops.len() + more.len()) as u32)?;
+    write_ops(ops, bytes)?;
+    write_ops(more, bytes)
 }
 
 /// Appends the encodings of operations.
