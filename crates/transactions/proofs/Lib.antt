@@ -10,3 +10,5 @@ mod ShortOnes
 mod TimesAsRead
 mod Looks
 mod Views
+pub mod Outcomes
+mod OtherTrees

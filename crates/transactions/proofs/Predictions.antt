@@ -11,8 +11,8 @@ use Rattle.reg_tree.specs.declared.element.Element.{Element}
 use Rattle.reg_tree.specs.declared.op.Op.{Op}
 use Rattle.reg_tree.specs.declared.op.Legality.{Legality}
 use Rattle.reg_tree.specs.declared.op.Legality.TheVariants.{Legal, Opened}
-use Rattle.store_model.specs.Transactions.{Transaction, own}
-use Rattle.store_model.specs.Machine.{Machine, change, commit_change, commit_refusal_if, fault, first_of, refusal_by, refused_if, room_of, room_refusal, trees_now}
+use Rattle.store_model.specs.Transactions.{inactive_refusal, Transaction, own}
+use Rattle.store_model.specs.Machine.{Machine, change, commit_change, commit_refusal, commit_refusal_if, next_commit, fault, first_of, refusal_by, refused_if, room_of, room_refusal, trees_now}
 use Rattle.store_model.specs.Steps.{Step}
 use Rattle.store_model.specs.declared.event.Event.{Event}
 use Rattle.store_model.specs.declared.event.Event.TheVariants as event
@@ -26,7 +26,7 @@ use Rattle.transactions.specs.declared.prepared.ReadyWrite.{ReadyWrite}
 use Rattle.transactions.specs.declared.prepared.ReadyCommit.{ReadyCommit}
 use Rattle.transactions.specs.declared.prepared.Ready.{Ready}
 use Rattle.transactions.specs.declared.prepared.Ready.TheVariants as ready
-use Rattle.transactions.proofs.Stored.{found, may_write, pending_refusal, second}
+use Rattle.transactions.proofs.Stored.{found, may_write, commit_free, second}
 
 -- a list is not the same with one more
 not_longer : (l : List Element) (e : Element) → l ≡ l ++ e ∷ [] → ⊥
@@ -46,8 +46,7 @@ commit_foretold m made r = (
     r.one,
     found m made.session made.tx r.there ∙ r.found,
     second (fault m) (commit_refusal_if m made.moment (Some r.one)) None r.free
-        (pending_refusal m made.moment (Some r.one) r.one.ops (element_encoded_len (commit_change m made.moment r.one)) None (record { active = r.active; given = refl; long = λ moment. refl }) r.some
-        (second _ (room_refusal m (element_encoded_len (commit_change m made.moment r.one))) None (ap (λ x. refused_if x TooLarge) r.light) r.roomy)),
+        (second (inactive_refusal (Some r.one)) (commit_refusal m made.moment r.one) None r.active (commit_free m made.moment r.one r.some r.light r.roomy)),
     r.some,
     r.element,
   ),
@@ -90,7 +89,7 @@ commit_told m session moment tx answer step never_no_memory element (one, there,
       | inr hungry ↦ fine (ap reply.Refused hungry)
     ]) never_no_memory
   where
-    by_test : (t : Transaction) (b : Bool) → b ≡ false → m.accepted ≡ (cond b m (record m { accepted = m.accepted ++ commit_change m moment t ∷ []; room = m.room + room_of (commit_change m moment t) })).accepted → ⊥
+    by_test : (t : Transaction) (b : Bool) → b ≡ false → m.accepted ≡ (cond b m (record m { accepted = m.accepted ++ commit_change m moment t ∷ []; commits = m.commits ++ next_commit m t ∷ []; room = m.room + room_of (commit_change m moment t) })).accepted → ⊥
     by_test t true off e = true≢false off
     by_test t false off e = not_longer m.accepted (commit_change m moment t) e
 

@@ -1,7 +1,7 @@
 -- What a store in memory answers, and what it shows after each change.
 use Rattle.std.proofs.Common.{◌≡◌, ◌⊎◌, inl, inr, ℕ, ◌+◌, ◌-◌, ◌^◌, ◌<◌, ◌≤◌, ◌==◌, ◌&&◌, min, Bool, true, false, not, cond, List, [], ◌∷◌, ◌++◌, length, Option, Some, None, Result, Ok, Err, refl, sym, ◌∙◌, ap, subst, arith}
 use Rattle.std.specs.Prelude.{IsErrAnd, IfSome, ◌||◌, nat_le, nat_lt, is_some, slice_get}
-use Rattle.std.specs.Option.{option_and_then}
+use Rattle.std.specs.Option.{option_and_then, option_map}
 use Rattle.std.specs.List.{list_any}
 use Rattle.std.proofs.lemmas.Bool.Decides.{nat_tests}
 use Rattle.std.proofs.lemmas.Bool.{leb-false}
@@ -14,7 +14,7 @@ use Rattle.reg_tree.specs.Maps.{TreeMap}
 use Rattle.reg_tree.specs.Fresh.{fresh_tree}
 use Rattle.reg_tree.specs.Operations.{hive_of}
 use Rattle.reg_tree.specs.Encodings.{op_encoded_len, element_encoded_len, ops_encoded_len}
-use Rattle.reg_tree.specs.Judgement.{legal, applied, applied_one, any_outweighs}
+use Rattle.reg_tree.specs.Judgement.{legal, applied, applied_one, outweighs, any_outweighs}
 use Rattle.reg_tree.specs.TreeLists.{levels_made}
 use Rattle.reg_tree.specs.Sequences.{after_elements}
 use Rattle.reg_tree.specs.declared.element.Element.{Element}
@@ -22,7 +22,10 @@ use Rattle.reg_tree.specs.declared.op.Op.{Op}
 use Rattle.reg_tree.specs.declared.op.Legality.TheVariants.{Legal}
 use Rattle.conflicts.specs.Skeleton.{Claim}
 use Rattle.conflicts.specs.Claims.{claim_of, meets}
-use Rattle.store_model.specs.Machine.{Machine, trees_now, last_number, is_open, found_in, change, committed, commit_change, first_of, refused_if, fault, closed_refusal, unnamed_refusal, call_refusal, tx_call_refusal, commit_refusal, looked_up, read_refusal, refusal_by, room_of, room_refusal, write_refusal, commit_refusal_if}
+use Rattle.commit_outcomes.specs.Commits.{Commit}
+use Rattle.store_model.specs.Invariant.{HivesAreNamable}
+use Rattle.store_model.proofs.Hives.{applied_on}
+use Rattle.store_model.specs.Machine.{Machine, trees_now, last_number, is_open, found_in, change, committed, commit_change, next_commit, outcome_of, first_of, refused_if, fault, closed_refusal, unnamed_refusal, call_refusal, tx_call_refusal, commit_refusal, looked_up, read_refusal, refusal_by, room_of, room_refusal, write_refusal, commit_refusal_if}
 use Rattle.store_model.specs.Steps.{Step, AcceptsWrite, CommitsTx, Flushes, Journals, Trims, StepFails, no_hive}
 use Rattle.disk_model.specs.declared.progress.Progress.TheVariants.{Done, Idle}
 use Rattle.store_model.specs.Transactions.{Transaction, SetsSlot, at, own, is_active, ended, rolled_back_by, missing_refusal, inactive_refusal}
@@ -38,8 +41,9 @@ use Rattle.transactions.specs.Tables.{Table, EndsWith, IsPending, IsPendingOf, h
 use Rattle.transactions.specs.Histories.{IsShort}
 use Rattle.transactions.specs.Stores.{Answers, TableMatchesMachine, store_of}
 use Rattle.transactions.specs.Entries.{AreRebased}
-use Rattle.transactions.specs.Prepared.{IsReadyCommit, PreparesEvent, JudgesWrite, PreparesWrite}
+use Rattle.transactions.specs.Prepared.{IsJudgedCommit, IsReadyCommit, unit_ops, unit_refusal, PreparesEvent, JudgesWrite, PreparesWrite}
 use Rattle.transactions.specs.declared.prepared.Ready.{Ready}
+use Rattle.transactions.specs.declared.prepared.JudgedCommit.{JudgedCommit}
 use Rattle.transactions.specs.declared.prepared.JudgedWrite.{JudgedWrite}
 use Rattle.transactions.specs.declared.prepared.ReadyCommit.{ReadyCommit}
 use Rattle.transactions.specs.declared.prepared.ReadyWrite.{ReadyWrite}
@@ -171,7 +175,7 @@ crowded_write m session moment op trees res why long f o n e l c r h =
     (inl (may_write m session moment op (Some why) f o n (ap (λ x. refusal_by x (room_refusal m (element_encoded_len (change moment op)))) (ap (λ t. legal t op) (sym e) ∙ l) ∙ sym (capped m (element_encoded_len (change moment op)) long c) ∙ r)), refl)
 
 -- the accepted changes with one more, and the trees after them
-after_one_more : (trees : List TreeMap) (elements : List Element) (element : Element) → after_elements trees (elements ++ element ∷ []) ≡ applied (after_elements trees elements) element.ops element.moment
+pub after_one_more : (trees : List TreeMap) (elements : List Element) (element : Element) → after_elements trees (elements ++ element ∷ []) ≡ applied (after_elements trees elements) element.ops element.moment
 after_one_more trees [] element = refl
 after_one_more trees (before ∷ elements) element = after_one_more (applied trees before.ops before.moment) elements element
 
@@ -194,10 +198,13 @@ not_last false false room e = refl
 pub below_greatest : (m : Machine) (long number : ℕ) → number ≡ last_number m → room_refusal m long ≡ None → number < 2 ^ 64 - 1
 below_greatest m long number is e = omega (arith, is, leb-false GREATEST_NUMBER (last_number m) (not_last (nat_le m.bounds.changes (length m.accepted)) (nat_le GREATEST_NUMBER (last_number m)) _ e))
 
+pub below_limit : (m : Machine) (long : ℕ) → room_refusal m long ≡ None → last_number m + 1 ≤ GREATEST_NUMBER
+below_limit m long e = omega (arith, leb-false GREATEST_NUMBER (last_number m) (not_last (nat_le m.bounds.changes (length m.accepted)) (nat_le GREATEST_NUMBER (last_number m)) _ e))
+
 -- a table with one change more matches the store with one change more
-pub tied_more : (o : List TreeMap) (n : ℕ) (a b : List Element) (s : List ℕ) (t u : Table) (d r q : ℕ) (f : Bool) (w : StoreBounds) (element : Element) → TableMatchesMachine t (store_of o n a s t d r f w) → length a < w.changes →
-    b ≡ a ++ element ∷ [] → u.trees ≡ applied t.trees element.ops element.moment → u.number ≡ t.number + 1 → TableMatchesMachine u (store_of o n b s u d q f w)
-tied_more o n a b s t u d r q f w element i below grown trees number =
+pub tied_more : (o : List TreeMap) (n : ℕ) (a b : List Element) (k l : List Commit) (s : List ℕ) (t u : Table) (d r q : ℕ) (f : Bool) (w : StoreBounds) (element : Element) → TableMatchesMachine t (store_of o n a k s t d r f w) → length a < w.changes →
+    b ≡ a ++ element ∷ [] → u.trees ≡ applied t.trees element.ops element.moment → u.number ≡ t.number + 1 → u.hives ≡ t.hives → u.aside ≡ t.aside → TableMatchesMachine u (store_of o n b l s u d q f w)
+tied_more o n a b k l s t u d r q f w element i below grown trees number hives aside =
     let long : length b ≡ length a + 1 = ap length grown ∙ length-append a (element ∷ []) in
     let old_number = i.number in
     let old_durable = i.durable in
@@ -206,6 +213,8 @@ tied_more o n a b s t u d r q f w element i below grown trees number =
       number = omega (arith, number, old_number, long);
       durable = omega (arith, old_durable, long);
       few = omega (arith, below, long);
+      hives = hives ∙ i.hives;
+      aside = aside ∙ i.aside;
     }
 
 -- the transactions that are listed as holders are those that are rolled back by it
@@ -217,14 +226,14 @@ roll : (claim : Claim) (content : Option Transaction) → rolled_back_if (holds_
 roll claim None = refl
 roll claim (Some one) = roll_by (is_active one) (list_any (λ op. meets claim (claim_of op)) one.ops) (ended RolledBack one) one
 
-module _ (o : List TreeMap) (n : ℕ) (a b : List Element) (s : List ℕ) (t u v : Table) (d r q : ℕ) (faulted : Bool) (w : StoreBounds) (free : fault (store_of o n a s t d r faulted w) ≡ None) where
-  pub accepts : (session moment number : ℕ) (op : Op) (levels : Option ℕ) (trees : List TreeMap) (listed : List ℕ) → TableMatchesMachine t (store_of o n a s t d r faulted w) → is_open (store_of o n a s t d r faulted w) session ≡ true → unnamed_refusal (store_of o n a s t d r faulted w) (hive_of op) ≡ None →
-      legal t.trees op ≡ Ok Legal → room_refusal (store_of o n a s t d r faulted w) (element_encoded_len (change moment op)) ≡ None → levels ≡ levels_made t.trees op → number ≡ v.number →
+module _ (o : List TreeMap) (n : ℕ) (a b : List Element) (k : List Commit) (s : List ℕ) (t u v : Table) (d r q : ℕ) (faulted : Bool) (w : StoreBounds) (free : fault (store_of o n a k s t d r faulted w) ≡ None) where
+  pub accepts : (session moment number : ℕ) (op : Op) (levels : Option ℕ) (trees : List TreeMap) (listed : List ℕ) → TableMatchesMachine t (store_of o n a k s t d r faulted w) → is_open (store_of o n a k s t d r faulted w) session ≡ true → unnamed_refusal (store_of o n a k s t d r faulted w) (hive_of op) ≡ None →
+      legal t.trees op ≡ Ok Legal → room_refusal (store_of o n a k s t d r faulted w) (element_encoded_len (change moment op)) ≡ None → levels ≡ levels_made t.trees op → number ≡ v.number →
       b ≡ a ++ change moment op ∷ [] → q ≡ r + room_of (change moment op) → u ≡ record t { trees = trees; number = t.number + 1 } → v ≡ record u { tx_slots = v.tx_slots } →
       ((slot : ℕ) → at v.tx_slots slot ≡ rolled_back_if (is_listed listed slot) (at u.tx_slots slot)) → ((slot : ℕ) → is_listed listed slot ≡ holds_if (claim_of op) (at t.tx_slots slot)) →
-      AcceptsWrite (store_of o n a s t d r faulted w) session moment op levels number (store_of o n b s v d q faulted w)
+      AcceptsWrite (store_of o n a k s t d r faulted w) session moment op levels number (store_of o n b k s v d q faulted w)
   accepts session moment number op levels trees listed i there named l room made told grown g rebased rest rolled lists =
-      let old = store_of o n a s t d r faulted w in
+      let old = store_of o n a k s t d r faulted w in
       let begun : v.begun ≡ t.begun = ap (λ (x : Table). x.begun) rest ∙ ap (λ (x : Table). x.begun) rebased in
       let count : v.number ≡ t.number + 1 = ap (λ (x : Table). x.number) rest ∙ ap (λ (x : Table). x.number) rebased in
       let legal_now : legal (trees_now old) op ≡ Ok Legal = ap (λ x. legal x op) (sym i.trees) ∙ l in
@@ -254,16 +263,32 @@ uncut m long cut e f =
 pub cut_change : (moment : ℕ) (op : Op) (one cut : ℕ) → one ≡ min (op_encoded_len op) 18446744073709551615 → cut ≡ min (16 + one) 18446744073709551615 → cut ≡ min (element_encoded_len (change moment op)) 18446744073709551615
 cut_change moment op one cut e f = omega (arith, e, f)
 
+-- what the commit of a transaction with a unit of work makes of operations that are the transaction's
+pub record IsCommitOf (m : Machine) (content : Option Transaction) (unit : List ℕ) (ops : List Op) : Type 0 where
+  pub one : Transaction
+  pub found : content ≡ Some one
+  pub active : inactive_refusal (Some one) ≡ None
+  pub given : ops ≡ one.ops
+  pub unit_is : unit ≡ one.id
+
+pub commit_of_pending : (m : Machine) (content : Option Transaction) (unit : List ℕ) (ops : List Op) (long : ℕ) → IsPending content ops long → Some unit ≡ option_map (λ (t : Transaction). t.id) content → IsCommitOf m content unit ops
+commit_of_pending m None unit ops long p e = absurd p
+commit_of_pending m (Some one) unit ops long p e = record { one = one; found = refl; active = p.active; given = p.given; unit_is = let same : unit ≡ one.id = cc e in same }
+
+-- all operations of the change
+pub all_ops : (m : Machine) (content : Option Transaction) (unit : List ℕ) (ops : List Op) (c : IsCommitOf m content unit ops) → ops ++ unit_ops m unit ≡ committed m c.one
+all_ops m content unit ops c = ap (λ (x : List Op). x ++ unit_ops m unit) c.given ∙ ap (λ (x : List ℕ). c.one.ops ++ unit_ops m x) c.unit_is
+
 -- why the change of some transaction's operations is refused
-pub pending_refusal : (m : Machine) (moment : ℕ) (content : Option Transaction) (ops : List Op) (long : ℕ) (wanted : Option Refusal) → IsPending content ops long → (length ops == 0) ≡ false →
-    first_of (refused_if (any_outweighs (trees_now m) ops moment) TooLarge) (room_refusal m long) ≡ wanted → commit_refusal_if m moment content ≡ wanted
-pending_refusal m moment None ops long wanted p some e = absurd p
-pending_refusal m moment (Some one) ops long wanted p some e =
+pub pending_refusal : (m : Machine) (moment : ℕ) (content : Option Transaction) (unit : List ℕ) (ops : List Op) (wanted : Option Refusal) → IsCommitOf m content unit ops → (length ops == 0) ≡ false →
+    unit_refusal m unit moment ops ≡ wanted → commit_refusal_if m moment content ≡ wanted
+pending_refusal m moment content unit ops wanted c some e =
+    let one = c.one in
     let full : Option Refusal = first_of (refused_if (any_outweighs (trees_now m) (committed m one) moment) TooLarge) (room_refusal m (element_encoded_len (commit_change m moment one))) in
-    second (inactive_refusal (Some one)) (cond (length one.ops == 0) None full) wanted p.active
-    (ap (λ x. cond x None full) (ap (λ (x : List Op). length x == 0) (sym p.given) ∙ some)
-    ∙ ap (λ x. first_of (refused_if (any_outweighs (trees_now m) x moment) TooLarge) (room_refusal m (element_encoded_len (commit_change m moment one)))) (sym p.given)
-    ∙ ap (λ x. first_of (refused_if (any_outweighs (trees_now m) ops moment) TooLarge) (room_refusal m x)) (sym (p.long moment)) ∙ e)
+    ap (commit_refusal_if m moment) c.found
+    ∙ second (inactive_refusal (Some one)) (cond (length one.ops == 0) None full) wanted c.active
+    (ap (λ x. cond x None full) (ap (λ (x : List Op). length x == 0) (sym c.given) ∙ some)
+    ∙ ap (λ (x : List Op). first_of (refused_if (any_outweighs (trees_now m) x moment) TooLarge) (room_refusal m (16 + ops_encoded_len x))) (sym (all_ops m content unit ops c)) ∙ e)
 
 -- the transaction of a handle in an open session
 pub found : (m : Machine) (session : ℕ) (tx : Tx) → is_open m session ≡ true → found_in m session tx ≡ own m.tx_slots session tx
@@ -282,17 +307,9 @@ module _ (m : Machine) (session moment : ℕ) (tx : Tx) (why : Refusal) (res : R
   pub not_ended : inactive_refusal (own m.tx_slots session tx) ≡ Some why → Answers m (event.CommitAccept session tx moment) res m
   not_ended e = uncommitted (inl (not_ended_if m moment (own m.tx_slots session tx) why e))
 
-  pub heavy_commit : (trees : List TreeMap) (ops : List Op) (long : ℕ) → trees ≡ trees_now m → IsPending (own m.tx_slots session tx) ops long → (length ops == 0) ≡ false →
-      ((any_outweighs trees ops moment ≡ true) × (why ≡ TooLarge)) ⊎ (why ≡ NoMemory) → Answers m (event.CommitAccept session tx moment) res m
-  heavy_commit trees ops long e p some w =
-      uncommitted (either w (λ both. pending_refusal m moment (own m.tx_slots session tx) ops long (Some why) p some
-      (first _ (room_refusal m long) why (ap (λ x. refused_if x TooLarge) (ap (λ x. any_outweighs x ops moment) (sym e) ∙ both.0) ∙ ap Some (sym both.1)))))
-
-  pub crowded_commit : (trees : List TreeMap) (ops : List Op) (long : ℕ) → trees ≡ trees_now m → IsPending (own m.tx_slots session tx) ops long → (length ops == 0) ≡ false → any_outweighs trees ops moment ≡ false →
-      room_refusal m long ≡ Some why → Answers m (event.CommitAccept session tx moment) res m
-  crowded_commit trees ops long e p some light r =
-      uncommitted (inl (pending_refusal m moment (own m.tx_slots session tx) ops long (Some why) p some
-      (second _ (room_refusal m long) (Some why) (ap (λ x. refused_if x TooLarge) (ap (λ x. any_outweighs x ops moment) (sym e) ∙ light)) r)))
+  pub refused_commit : (unit : List ℕ) (ops : List Op) → IsCommitOf m (own m.tx_slots session tx) unit ops → (length ops == 0) ≡ false →
+      (unit_refusal m unit moment ops ≡ Some why) ⊎ (why ≡ NoMemory) → Answers m (event.CommitAccept session tx moment) res m
+  refused_commit unit ops c some w = uncommitted (either w (pending_refusal m moment (own m.tx_slots session tx) unit ops (Some why) c some))
 
 -- what is so of a transaction's operations is so of those that are pending
 pub of_pending : (P : List Op → Type 0) (content : Option Transaction) (ops : List Op) (long : ℕ) → IsPending content ops long → IfSome content (λ one. P one.ops) → P ops
@@ -317,70 +334,97 @@ same_ops t u session tx ops given long p e =
     let q : IsPendingOf e.finishes.one ops long = subst (λ x. IsPending x ops long) e.finishes.found p in
     q.given ∙ sym e.given
 
-module _ (o : List TreeMap) (n : ℕ) (a b : List Element) (s : List ℕ) (t u v : Table) (d r q : ℕ) (faulted : Bool) (w : StoreBounds) (free : fault (store_of o n a s t d r faulted w) ≡ None) where
-  pub commits : (session moment number : ℕ) (tx : Tx) (trees : List TreeMap) (ops given : List Op) (long : ℕ) → TableMatchesMachine t (store_of o n a s t d r faulted w) → is_open (store_of o n a s t d r faulted w) session ≡ true →
-      IsPending (own t.tx_slots session tx) ops long → EndsWith t session tx Committed given u → (length ops == 0) ≡ false → any_outweighs t.trees ops moment ≡ false → room_refusal (store_of o n a s t d r faulted w) long ≡ None →
-      number ≡ v.number → b ≡ a ++ record { moment = moment; ops = given } ∷ [] → q ≡ r + (17 + long) → v ≡ record u { trees = trees; number = u.number + 1 } →
-      CommitsTx (store_of o n a s t d r faulted w) session tx moment number (store_of o n b s v d q faulted w)
-  commits session moment number tx trees ops given long i there p ends some light room told e g rebased =
-      let old = store_of o n a s t d r faulted w in
-      let element : Element = commit_change old moment ends.finishes.one in
-      let mine : IsPendingOf ends.finishes.one ops long = subst (λ x. IsPending x ops long) ends.finishes.found p in
-      let kept : (length ends.finishes.one.ops == 0) ≡ false = ap (λ (x : List Op). length x == 0) (sym mine.given) ∙ some in
-      let grown : b ≡ a ++ element ∷ [] = e ∙ ap (λ (x : List Op). let y : Element = record { moment = moment; ops = x } in a ++ y ∷ []) ends.given in
+-- the commit of a transaction that has operations is not refused, if none leaves a tree too heavy and there is room
+pub commit_free : (m : Machine) (moment : ℕ) (one : Transaction) → (length one.ops == 0) ≡ false → any_outweighs (trees_now m) (committed m one) moment ≡ false → room_refusal m (element_encoded_len (commit_change m moment one)) ≡ None → commit_refusal m moment one ≡ None
+commit_free m moment one some light roomy =
+    ap (λ x. cond x None (first_of (refused_if (any_outweighs (trees_now m) (committed m one) moment) TooLarge) (room_refusal m (element_encoded_len (commit_change m moment one))))) some
+    ∙ ap (λ x. first_of (refused_if x TooLarge) (room_refusal m (element_encoded_len (commit_change m moment one)))) light ∙ roomy
+
+-- a transaction with operations commits
+module _ (o : List TreeMap) (n : ℕ) (a b : List Element) (k l : List Commit) (s : List ℕ) (t u v : Table) (d r q : ℕ) (faulted : Bool) (w : StoreBounds) where
+  abbrev before : Machine
+  before = store_of o n a k s t d r faulted w
+
+  pub commits : (session moment number : ℕ) (tx : Tx) (trees : List TreeMap) (given : List Op) (one : Transaction) → TableMatchesMachine t before → fault before ≡ None → is_open before session ≡ true →
+      own t.tx_slots session tx ≡ Some one → inactive_refusal (Some one) ≡ None → EndsWith t session tx Committed given u → (length one.ops == 0) ≡ false → commit_refusal before moment one ≡ None →
+      number ≡ v.number → b ≡ a ++ commit_change before moment one ∷ [] → l ≡ k ++ next_commit before one ∷ [] → q ≡ r + room_of (commit_change before moment one) → v ≡ record u { trees = trees; number = u.number + 1 } →
+      CommitsTx before session tx moment number (store_of o n b l s v d q faulted w)
+  commits session moment number tx trees given one i free there its active ends some open_room told grown more room rebased =
+      let element : Element = commit_change before moment one in
+      let same : ends.finishes.one ≡ one = cc (sym ends.finishes.found ∙ its) in
       let begun : v.begun ≡ t.begun = ap (λ (x : Table). x.begun) rebased ∙ ap (λ (x : Table). x.begun) ends.next in
       let count : v.number ≡ t.number + 1 = ap (λ (x : Table). x.number) rebased ∙ ap (λ (x : Table). x.number + 1) ends.next in
-      let full : q ≡ r + room_of element = g ∙ ap (λ x. r + (17 + x)) (mine.long moment) in
       record {
-        one = ends.finishes.one;
-        found = found old session tx there ∙ ends.finishes.found;
-        free = second (fault old) (commit_refusal_if old moment (Some ends.finishes.one)) None free (pending_refusal old moment (Some ends.finishes.one) ops long None mine some (second _ (room_refusal old long) None (ap (λ x. refused_if x TooLarge) (ap (λ x. any_outweighs x ops moment) (sym i.trees) ∙ light)) room));
-        numbered = told ∙ count ∙ ap (λ x. x + 1) i.number ∙ ap (λ x. cond x 0 (last_number old + 1)) (sym kept);
-        next = ap (λ x. record old { accepted = x; tx_slots = v.tx_slots; begun = v.begun; room = q }) grown
-            ∙ ap (λ x. record old { accepted = a ++ element ∷ []; tx_slots = v.tx_slots; begun = x; room = q }) begun
-            ∙ ap (λ x. record old { accepted = a ++ element ∷ []; tx_slots = v.tx_slots; room = x }) full
-            ∙ ap (λ x. record (cond x old (record old { accepted = a ++ element ∷ []; room = r + room_of element })) { tx_slots = v.tx_slots }) (sym kept);
-        put = subst (λ x. SetsSlot t.tx_slots x tx.slot (Some (ended Committed ends.finishes.one))) (sym (ap (λ (x : Table). x.tx_slots) rebased)) ends.finishes.put;
+        one = one;
+        found = found before session tx there ∙ its;
+        free = second (fault before) (commit_refusal_if before moment (Some one)) None free (second (inactive_refusal (Some one)) (commit_refusal before moment one) None active open_room);
+        numbered = told ∙ count ∙ ap (λ x. x + 1) i.number ∙ ap (λ x. cond x 0 (last_number before + 1)) (sym some);
+        next = ap (λ x. record before { accepted = x; commits = l; tx_slots = v.tx_slots; begun = v.begun; room = q }) grown
+            ∙ ap (λ x. record before { accepted = a ++ element ∷ []; commits = x; tx_slots = v.tx_slots; begun = v.begun; room = q }) more
+            ∙ ap (λ x. record before { accepted = a ++ element ∷ []; commits = k ++ next_commit before one ∷ []; tx_slots = v.tx_slots; begun = x; room = q }) begun
+            ∙ ap (λ x. record before { accepted = a ++ element ∷ []; commits = k ++ next_commit before one ∷ []; tx_slots = v.tx_slots; room = x }) room
+            ∙ ap (λ x. record (cond x before (record before { accepted = a ++ element ∷ []; commits = k ++ next_commit before one ∷ []; room = r + room_of element })) { tx_slots = v.tx_slots }) (sym some);
+        put = subst (λ x. SetsSlot t.tx_slots x tx.slot (Some (ended Committed one))) (sym (ap (λ (x : Table). x.tx_slots) rebased))
+            (subst (λ (x : Transaction). SetsSlot t.tx_slots u.tx_slots tx.slot (Some (ended Committed x))) same ends.finishes.put);
       }
 
--- the operations of a commit that is prepared are pending
-pub ready_pending : (m : Machine) (made : ReadyCommit) (r : IsReadyCommit m made) → IsPending (own m.tx_slots made.session made.tx) r.one.ops (element_encoded_len (commit_change m made.moment r.one))
-ready_pending m made r = subst (λ x. IsPending x r.one.ops (element_encoded_len (commit_change m made.moment r.one))) (sym r.found) (record { active = r.active; given = refl; long = λ moment. refl })
+or_in_three : (x y z : Bool) → ((x || y) || z) ≡ (x || (y || z))
+or_in_three true y z = refl
+or_in_three false y z = refl
 
--- a change of these operations, of this many bytes, may be accepted, and what it leads to is made
-pub record IsMadeOf (m : Machine) (made : ReadyCommit) (ops : List Op) (long : ℕ) : Type 0 where
-  pub some : (length ops == 0) ≡ false
-  pub element : made.element ≡ record { moment = made.moment; ops = ops }
-  pub short : long ≤ MOST_ELEMENT_BYTES
-  pub light : any_outweighs (trees_now m) ops made.moment ≡ false
-  pub trees : made.trees ≡ applied (trees_now m) ops made.moment
-  pub roomy : room_refusal m long ≡ None
-  pub room : made.room ≡ m.room + (17 + long)
+-- operations after others leave a tree too heavy, if those do, or they do after those
+pub weighed_on : (trees : List TreeMap) (ops others : List Op) (moment : ℕ) → any_outweighs trees (ops ++ others) moment ≡ (any_outweighs trees ops moment || any_outweighs (applied trees ops moment) others moment)
+weighed_on trees [] others moment = refl
+weighed_on trees (op ∷ ops) others moment =
+    ap (λ x. outweighs trees op moment || x) (weighed_on (applied_one trees op moment) ops others moment)
+    ∙ sym (or_in_three (outweighs trees op moment) (any_outweighs (applied_one trees op moment) ops moment) (any_outweighs (applied (applied_one trees op moment) ops moment) others moment))
 
--- the change that a commit makes, if pending operations are made into one
-pub ready_commit : (m : Machine) (made : ReadyCommit) (ops : List Op) (long : ℕ) → fault m ≡ None → is_open m made.session ≡ true → IsPending (own m.tx_slots made.session made.tx) ops long →
-    AreRebased made.trees (last_number m + 1) m.tx_slots made.rebased.items → IsMadeOf m made ops long → IsReadyCommit m made
-ready_commit m made ops long free there pending rebased is = by_content (own m.tx_slots made.session made.tx) refl pending
-  where
-    by_content : (content : Option Transaction) → own m.tx_slots made.session made.tx ≡ content → IsPending content ops long → IsReadyCommit m made
-    by_content None found p = absurd p
-    by_content (Some one) found p =
-        let i : IsMadeOf m made one.ops (element_encoded_len (commit_change m made.moment one)) = subst (IsMadeOf m made one.ops) (p.long made.moment) (subst (λ x. IsMadeOf m made x long) p.given is) in
-        record {
-          one = one;
-          free = free;
-          there = there;
-          found = found;
-          active = p.active;
-          some = i.some;
-          element = i.element;
-          short = subst IsShort (sym i.element) i.short;
-          light = i.light;
-          trees = i.trees;
-          rebased = rebased;
-          roomy = i.roomy;
-          room = i.room;
-        }
+light_on : (trees : List TreeMap) (ops others : List Op) (moment : ℕ) → any_outweighs trees ops moment ≡ false → any_outweighs (applied trees ops moment) others moment ≡ false → any_outweighs trees (ops ++ others) moment ≡ false
+light_on trees ops others moment a b = weighed_on trees ops others moment ∙ ap (λ x. x || any_outweighs (applied trees ops moment) others moment) a ∙ b
+
+-- Why a commit of operations is refused
+
+module _ (m : Machine) (unit : List ℕ) (moment : ℕ) (ops : List Op) where
+  by_weight : (b : Bool) → any_outweighs (trees_now m) (ops ++ unit_ops m unit) moment ≡ b → unit_refusal m unit moment ops ≡ first_of (refused_if b TooLarge) (room_refusal m (16 + ops_encoded_len (ops ++ unit_ops m unit)))
+  by_weight b e = ap (λ x. first_of (refused_if x TooLarge) (room_refusal m (16 + ops_encoded_len (ops ++ unit_ops m unit)))) e
+
+  pub heavy_front : any_outweighs (trees_now m) ops moment ≡ true → unit_refusal m unit moment ops ≡ Some TooLarge
+  heavy_front e = by_weight true (weighed_on (trees_now m) ops (unit_ops m unit) moment ∙ ap (λ x. x || any_outweighs (applied (trees_now m) ops moment) (unit_ops m unit) moment) e)
+
+  pub heavy_outcome : any_outweighs (trees_now m) ops moment ≡ false → any_outweighs (applied (trees_now m) ops moment) (unit_ops m unit) moment ≡ true → unit_refusal m unit moment ops ≡ Some TooLarge
+  heavy_outcome a b = by_weight true (weighed_on (trees_now m) ops (unit_ops m unit) moment ∙ ap (λ x. x || any_outweighs (applied (trees_now m) ops moment) (unit_ops m unit) moment) a ∙ b)
+
+  pub crowded : (long : ℕ) (why : Refusal) → any_outweighs (trees_now m) ops moment ≡ false → any_outweighs (applied (trees_now m) ops moment) (unit_ops m unit) moment ≡ false → long ≡ 16 + ops_encoded_len (ops ++ unit_ops m unit) → room_refusal m long ≡ Some why →
+      unit_refusal m unit moment ops ≡ Some why
+  crowded long why a b e r = by_weight false (light_on (trees_now m) ops (unit_ops m unit) moment a b) ∙ ap (room_refusal m) (sym e) ∙ r
+
+-- a change of these operations and of what the outcome adds may be accepted, and what it leads to is made
+pub ready_commit : (m : Machine) (made : ReadyCommit) (ops : List Op) (judged : JudgedCommit) → fault m ≡ None → is_open m made.session ≡ true → IsCommitOf m (own m.tx_slots made.session made.tx) made.unit ops → (length ops == 0) ≡ false → HivesAreNamable m.bounds.hives ops →
+    AreRebased made.trees (last_number m + 1) m.tx_slots made.rebased.items → IsJudgedCommit m made.unit made.moment ops judged → made.earlier ≡ judged.outcome.earlier →
+    made.element ≡ record { moment = made.moment; ops = ops ++ judged.outcome.ops.items } → made.trees ≡ judged.outcome.trees → made.room ≡ judged.room → IsReadyCommit m made
+ready_commit m made ops judged free there c some named rebased j earlier element trees room =
+    let one = c.one in
+    let all : ops ++ judged.outcome.ops.items ≡ committed m one = ap (λ (x : List Op). ops ++ x) j.outcome.ops ∙ all_ops m (own m.tx_slots made.session made.tx) made.unit ops c in
+    let is : made.element ≡ commit_change m made.moment one = element ∙ ap (λ (x : List Op). let y : Element = record { moment = made.moment; ops = x } in y) all in
+    let long : judged.text_len ≡ element_encoded_len (commit_change m made.moment one) = j.long ∙ ap (λ (x : List Op). 16 + ops_encoded_len x) all in
+    record {
+      one = one;
+      free = free;
+      there = there;
+      found = c.found;
+      active = c.active;
+      some = ap (λ (x : List Op). length x == 0) (sym c.given) ∙ some;
+      named = subst (HivesAreNamable m.bounds.hives) c.given named;
+      unit = c.unit_is;
+      earlier = λ keeps. earlier ∙ j.outcome.earlier keeps ∙ ap (outcome_of m) c.unit_is;
+      element = is;
+      short = subst IsShort (sym is) (subst (λ x. x ≤ MOST_ELEMENT_BYTES) long j.short);
+      light = ap (λ (x : List Op). any_outweighs (trees_now m) x made.moment) (sym all) ∙ light_on (trees_now m) ops judged.outcome.ops.items made.moment j.light j.outcome.light;
+      trees = trees ∙ j.outcome.trees ∙ sym (applied_on (trees_now m) ops judged.outcome.ops.items made.moment) ∙ ap (λ (x : List Op). applied (trees_now m) x made.moment) all;
+      rebased = rebased;
+      roomy = subst (λ x. room_refusal m x ≡ None) long j.roomy;
+      room = room ∙ j.room ∙ ap (λ x. m.room + (17 + x)) long;
+    }
 
 -- a step of a journal that is not written
 pub settles : (m : Machine) → m.faulted ≡ false → m.durable ≤ last_number m → Journals m Done (record m { durable = last_number m })
@@ -410,10 +454,10 @@ active_pending None ops long p = absurd p
 active_pending (Some one) ops long p = p.active
 
 -- a transaction without operations commits as nothing
-pub commits_nothing : (o : List TreeMap) (n : ℕ) (a : List Element) (s : List ℕ) (t u : Table) (d r : ℕ) (faulted : Bool) (w : StoreBounds) → fault (store_of o n a s t d r faulted w) ≡ None → (session moment : ℕ) (tx : Tx) (ops given : List Op) (long : ℕ) → is_open (store_of o n a s t d r faulted w) session ≡ true
-    → IsPending (own t.tx_slots session tx) ops long → (length ops == 0) ≡ true → EndsWith t session tx Committed given u → CommitsTx (store_of o n a s t d r faulted w) session tx moment 0 (store_of o n a s u d r faulted w)
-commits_nothing o n a s t u d r faulted w free session moment tx ops given long there p none ends =
-    let old = store_of o n a s t d r faulted w in
+pub commits_nothing : (o : List TreeMap) (n : ℕ) (a : List Element) (k : List Commit) (s : List ℕ) (t u : Table) (d r : ℕ) (faulted : Bool) (w : StoreBounds) → fault (store_of o n a k s t d r faulted w) ≡ None → (session moment : ℕ) (tx : Tx) (ops given : List Op) (long : ℕ) → is_open (store_of o n a k s t d r faulted w) session ≡ true
+    → IsPending (own t.tx_slots session tx) ops long → (length ops == 0) ≡ true → EndsWith t session tx Committed given u → CommitsTx (store_of o n a k s t d r faulted w) session tx moment 0 (store_of o n a k s u d r faulted w)
+commits_nothing o n a k s t u d r faulted w free session moment tx ops given long there p none ends =
+    let old = store_of o n a k s t d r faulted w in
     let mine : IsPendingOf ends.finishes.one ops long = subst (λ x. IsPending x ops long) ends.finishes.found p in
     let empty : (length ends.finishes.one.ops == 0) ≡ true = ap (λ (x : List Op). length x == 0) (sym mine.given) ∙ none in
     let begun : u.begun ≡ t.begun = ap (λ (x : Table). x.begun) ends.next in
@@ -424,6 +468,6 @@ commits_nothing o n a s t u d r faulted w free session moment tx ops given long 
       free = second (fault old) (commit_refusal_if old moment (Some ends.finishes.one)) None free (second (inactive_refusal (Some ends.finishes.one)) (commit_refusal old moment ends.finishes.one) None mine.active
           (ap (λ x. cond x None (first_of (refused_if (any_outweighs (trees_now old) (committed old ends.finishes.one) moment) TooLarge) (room_refusal old (element_encoded_len element)))) empty));
       numbered = ap (λ x. cond x 0 (last_number old + 1)) (sym empty);
-      next = ap (λ x. record old { tx_slots = u.tx_slots; begun = x }) begun ∙ ap (λ x. record (cond x old (record old { accepted = a ++ element ∷ []; room = r + room_of element })) { tx_slots = u.tx_slots }) (sym empty);
+      next = ap (λ x. record old { tx_slots = u.tx_slots; begun = x }) begun ∙ ap (λ x. record (cond x old (record old { accepted = a ++ element ∷ []; commits = k ++ next_commit old ends.finishes.one ∷ []; room = r + room_of element })) { tx_slots = u.tx_slots }) (sym empty);
       put = ends.finishes.put;
     }

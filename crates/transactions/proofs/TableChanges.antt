@@ -17,6 +17,10 @@ use Rattle.reg_tree.specs.declared.op.Legality.TheVariants.{Legal, Opened}
 use Rattle.conflicts.specs.Claims.{claim_of}
 use Rattle.reg_tree.specs.declared.op.Op.{Op}
 use Rattle.store_model.specs.Transactions.{Transaction, TxSlots, SetsSlot, view, is_claimed, at, own, own_if, ended, is_active, inactive_refusal, fresh_transaction, count_held}
+use Rattle.std.proofs.lemmas.List.Elements.{All-nil}
+use Rattle.reg_tree.specs.Operations.{hive_of}
+use Rattle.store_model.specs.Invariant.{HivesAreNamable}
+use Rattle.store_model.specs.declared.room.TheConstants.{MOST_OUTCOME_BYTES}
 use Rattle.store_model.specs.Acts.{AddsOp}
 use Rattle.store_model.specs.Machine.{slot_refusal, refused_if, first_of, refusal_by, too_long, added_refusal, added_refusal_if}
 use Rattle.store_model.specs.declared.handle.Tx.{Tx}
@@ -31,8 +35,8 @@ use Rattle.transactions.proofs.Slots.{content, at_of, puts}
 use Rattle.transactions.proofs.Kept.{at_slot}
 
 -- what a table with these slots shows
-abbrev pub shown : List TreeMap → ℕ → ℕ → List (Option TxEntry) → Table
-shown trees number begun slots = record { trees = trees; number = number; tx_slots = tx_slots_of slots; begun = begun }
+abbrev pub shown : List TreeMap → ℕ → ℕ → ℕ → ℕ → List (Option TxEntry) → Table
+shown trees number begun hives aside slots = record { trees = trees; number = number; tx_slots = tx_slots_of slots; begun = begun; hives = hives; aside = aside }
 
 -- the transaction of a handle
 pub own_found : (slots : List (Option TxEntry)) (session : ℕ) (tx : Tx) (e : TxEntry) → content slots tx.slot ≡ Some e → (e.session == session && e.generation == tx.generation) ≡ true → own (tx_slots_of slots) session tx ≡ Some (transaction_of e)
@@ -70,22 +74,26 @@ module _ (slots : List (Option TxEntry)) (session : ℕ) (tx : Tx) (passes : ina
 none_some : (ops : List Op) → ops ≡ [] → 0 < length ops → ⊥
 none_some ops none some = absurd (omega (arith, some, ap (λ (ops : List Op). length ops) none))
 
+none_named : (hives : ℕ) (ops : List Op) → ops ≡ [] → HivesAreNamable hives ops
+none_named hives ops none = subst (HivesAreNamable hives) (sym none) (All-nil (λ op. hive_of op < hives))
+
 -- an entry after its end
-pub ended_entry : (trees : List TreeMap) (number begun : ℕ) (e after : TxEntry) (outcome : Outcome) → IsEntry trees number begun e → transaction_of after ≡ ended outcome (transaction_of e) → after.length ≡ 16 → after.view ≡ None →
-    IsEntry trees number begun after
-ended_entry trees number begun e after outcome i kept length unseen = record {
+pub ended_entry : (trees : List TreeMap) (number begun hives aside : ℕ) (e after : TxEntry) (outcome : Outcome) → IsEntry trees number begun hives aside e → transaction_of after ≡ ended outcome (transaction_of e) → after.length ≡ 16 → after.view ≡ None →
+    IsEntry trees number begun hives aside after
+ended_entry trees number begun hives aside e after outcome i kept length unseen = record {
   known = omega (arith, i.known, ap (λ (t : Transaction). t.generation) kept);
   counted = length ∙ ap (λ (ops : List Op). 16 + ops_encoded_len ops) (sym (ap (λ (t : Transaction). t.ops) kept));
-  short = omega (arith, length);
+  short = omega (arith, length, i.counted, i.short);
   spare = λ some. absurd (none_some _ (ap (λ (t : Transaction). t.ops) kept) some);
+  named = none_named hives _ (ap (λ (t : Transaction). t.ops) kept);
   viewed = subst (IsViewed trees number after.ops.items) (sym unseen) tt;
 }
 
 -- a transaction ends
-pub ends : (trees : List TreeMap) (number begun : ℕ) (old new : Slab TxEntry) (session : ℕ) (tx : Tx) (outcome : Outcome) (ops : List Op) (e after : TxEntry) → content old.slots tx.slot ≡ Some e →
+pub ends : (trees : List TreeMap) (number begun hives aside : ℕ) (old new : Slab TxEntry) (session : ℕ) (tx : Tx) (outcome : Outcome) (ops : List Op) (e after : TxEntry) → content old.slots tx.slot ≡ Some e →
     (e.session == session && e.generation == tx.generation) ≡ true → is_active (transaction_of e) ≡ true → Updates old new tx.slot (Some after) → transaction_of after ≡ ended outcome (transaction_of e) → ops ≡ e.ops.items →
-    EndsWith (shown trees number begun old.slots) session tx outcome ops (shown trees number begun new.slots)
-ends trees number begun old new session tx outcome ops e after there its active u kept given = record {
+    EndsWith (shown trees number begun hives aside old.slots) session tx outcome ops (shown trees number begun hives aside new.slots)
+ends trees number begun hives aside old new session tx outcome ops e after there its active u kept given = record {
   finishes = record {
     one = transaction_of e;
     found = own_found old.slots session tx e there its;
@@ -97,9 +105,9 @@ ends trees number begun old new session tx outcome ops e after there its active 
 }
 
 -- a transaction is begun
-pub begins : (trees : List TreeMap) (number begun : ℕ) (old new : Slab TxEntry) (session : ℕ) (id : List ℕ) (slot : ℕ) (e : TxEntry) → slot_refusal (tx_slots_of old.slots) begun ≡ None → content old.slots slot ≡ None →
-    Updates old new slot (Some e) → transaction_of e ≡ fresh_transaction session id (begun + 1) → Begins (shown trees number begun old.slots) session id (record { slot = slot; generation = begun + 1 }) (shown trees number (begun + 1) new.slots)
-begins trees number begun old new session id slot e free vacant u kept = record {
+pub begins : (trees : List TreeMap) (number begun hives aside : ℕ) (old new : Slab TxEntry) (session : ℕ) (id : List ℕ) (slot : ℕ) (e : TxEntry) → slot_refusal (tx_slots_of old.slots) begun ≡ None → content old.slots slot ≡ None →
+    Updates old new slot (Some e) → transaction_of e ≡ fresh_transaction session id (begun + 1) → Begins (shown trees number begun hives aside old.slots) session id (record { slot = slot; generation = begun + 1 }) (shown trees number (begun + 1) hives aside new.slots)
+begins trees number begun hives aside old new session id slot e free vacant u kept = record {
   free = free;
   starts = record {
     vacant = at_of old.slots slot ∙ ap (option_map transaction_of) vacant;
@@ -142,12 +150,13 @@ pub slot_of : (s r : Slab TxEntry) (key : ℕ) (entry : Option TxEntry) → r �
 slot_of s r key entry same there = sym (ap (λ (x : Slab TxEntry). content x.slots key) same) ∙ there
 
 -- a transaction that is begun
-pub begun_entry : (trees : List TreeMap) (number begun : ℕ) (session : ℕ) (id : List ℕ) (e : TxEntry) → transaction_of e ≡ fresh_transaction session id begun → e.length ≡ 16 → e.view ≡ None → IsEntry trees number begun e
-begun_entry trees number begun session id e kept length unseen = record {
+pub begun_entry : (trees : List TreeMap) (number begun hives aside : ℕ) (session : ℕ) (id : List ℕ) (e : TxEntry) → transaction_of e ≡ fresh_transaction session id begun → e.length ≡ 16 → e.view ≡ None → aside ≤ MOST_OUTCOME_BYTES → IsEntry trees number begun hives aside e
+begun_entry trees number begun hives aside session id e kept length unseen few = record {
   known = omega (arith, ap (λ (t : Transaction). t.generation) kept);
   counted = length ∙ ap (λ (ops : List Op). 16 + ops_encoded_len ops) (sym (ap (λ (t : Transaction). t.ops) kept));
-  short = omega (arith, length);
+  short = omega (arith, length, few);
   spare = λ some. absurd (none_some _ (ap (λ (t : Transaction). t.ops) kept) some);
+  named = none_named hives _ (ap (λ (t : Transaction). t.ops) kept);
   viewed = subst (IsViewed trees number e.ops.items) (sym unseen) tt;
 }
 
@@ -159,21 +168,21 @@ rolled_back_put old new slot e after there active u kept =
 
 -- what the view says of an operation is what the table says
 pub judge_ok : (table : Table) (session : ℕ) (tx : Tx) (op : Op) (one : Transaction) → own table.tx_slots session tx ≡ Some one → is_active one ≡ true → (r : Result (Option Judged) Refusal) →
-    IfOk r (IsJudged table.trees table.number one op) → IfOk r (IsJudgedOf table session tx op)
+    IfOk r (IsJudged table.aside table.trees table.number one op) → IfOk r (IsJudgedOf table session tx op)
 judge_ok table session tx op one its active (Ok judged) h =
-    (subst (λ o. IfSome o (IsJudgedBy table.trees table.number op judged)) (sym its) record { active = active; told = h }, subst IsSome (sym its) refl)
+    (subst (λ o. IfSome o (IsJudgedBy table.aside table.trees table.number op judged)) (sym its) record { active = active; told = h }, subst IsSome (sym its) refl)
 judge_ok table session tx op one its active (Err why) h = tt
 
 -- so an operation that was judged may be added
-pub may_add : (table : Table) (session : ℕ) (tx : Tx) (op : Op) (judged : Judged) → IsJudgedOf table session tx op (Some judged) → MayAdd table tx.slot op judged.made
-may_add table session tx op judged h = by_place (at table.tx_slots tx.slot) refl h.0 h.1
+pub may_add : (table : Table) (session : ℕ) (tx : Tx) (op : Op) (judged : Judged) → IsJudgedOf table session tx op (Some judged) → hive_of op < table.hives → MayAdd table tx.slot op judged.made
+may_add table session tx op judged h below = by_place (at table.tx_slots tx.slot) refl h.0 h.1
   where
-    by_place : (o : Option Transaction) → at table.tx_slots tx.slot ≡ o → IfSome (own_if session tx.generation o) (IsJudgedBy table.trees table.number op (Some judged)) → IsSome (own_if session tx.generation o) → MayAdd table tx.slot op judged.made
+    by_place : (o : Option Transaction) → at table.tx_slots tx.slot ≡ o → IfSome (own_if session tx.generation o) (IsJudgedBy table.aside table.trees table.number op (Some judged)) → IsSome (own_if session tx.generation o) → MayAdd table tx.slot op judged.made
     by_place None there told some = cc
     by_place (Some one) there told some = by_test (one.session == session && one.generation == tx.generation) told some
       where
-        by_test : (b : Bool) → IfSome (cond b (Some one) None) (IsJudgedBy table.trees table.number op (Some judged)) → IsSome (cond b (Some one) None) → MayAdd table tx.slot op judged.made
-        by_test true told some = record { one = one; there = there; active = told.active; short = told.told.short; numbered = told.told.numbered; seen = told.told.seen }
+        by_test : (b : Bool) → IfSome (cond b (Some one) None) (IsJudgedBy table.aside table.trees table.number op (Some judged)) → IsSome (cond b (Some one) None) → MayAdd table tx.slot op judged.made
+        by_test true told some = record { one = one; there = there; active = told.active; short = told.told.short; named = below; numbered = told.told.numbered; seen = told.told.seen }
         by_test false told some = cc
 
 -- and once it was, it is its transaction's last
@@ -181,16 +190,16 @@ pub adds : (old new : Table) (session : ℕ) (tx : Tx) (moment : ℕ) (op : Op) 
 adds old new session tx moment op judged (Err why) j a = tt
 adds old new session tx moment op judged (Ok written) j a = subst (λ w. Writes old session tx moment op w new) (sym a.0) (by_place (at old.tx_slots tx.slot) refl j.0 j.1, a.2)
   where
-    by_place : (o : Option Transaction) → at old.tx_slots tx.slot ≡ o → IfSome (own_if session tx.generation o) (IsJudgedBy old.trees old.number op (Some judged)) → IsSome (own_if session tx.generation o) → AddsOp old.trees old.tx_slots (own_if session tx.generation (at old.tx_slots tx.slot)) tx.slot moment op judged.levels new.tx_slots
+    by_place : (o : Option Transaction) → at old.tx_slots tx.slot ≡ o → IfSome (own_if session tx.generation o) (IsJudgedBy old.aside old.trees old.number op (Some judged)) → IsSome (own_if session tx.generation o) → AddsOp old.aside old.trees old.tx_slots (own_if session tx.generation (at old.tx_slots tx.slot)) tx.slot moment op judged.levels new.tx_slots
     by_place None there told some = cc
     by_place (Some one) there told some = by_test (one.session == session && one.generation == tx.generation) refl told some
       where
-        by_test : (b : Bool) → (one.session == session && one.generation == tx.generation) ≡ b → IfSome (cond b (Some one) None) (IsJudgedBy old.trees old.number op (Some judged)) → IsSome (cond b (Some one) None) → AddsOp old.trees old.tx_slots (own_if session tx.generation (at old.tx_slots tx.slot)) tx.slot moment op judged.levels new.tx_slots
+        by_test : (b : Bool) → (one.session == session && one.generation == tx.generation) ≡ b → IfSome (cond b (Some one) None) (IsJudgedBy old.aside old.trees old.number op (Some judged)) → IsSome (cond b (Some one) None) → AddsOp old.aside old.trees old.tx_slots (own_if session tx.generation (at old.tx_slots tx.slot)) tx.slot moment op judged.levels new.tx_slots
         by_test true its told some = record {
           one = one;
           found = ap (own_if session tx.generation) there ∙ ap (λ b. cond b (Some one) None) its;
-          free = ap (λ o. first_of o (added_refusal old.trees old.tx_slots tx.slot op one)) (may_end one told.active)
-              ∙ ap (λ l. refusal_by l (first_of (refused_if (too_long one op) TooLarge) (refused_if (is_claimed old.tx_slots tx.slot (claim_of op)) Conflict))) told.told.is_legal
+          free = ap (λ o. first_of o (added_refusal old.aside old.trees old.tx_slots tx.slot op one)) (may_end one told.active)
+              ∙ ap (λ l. refusal_by l (first_of (refused_if (too_long old.aside one op) TooLarge) (refused_if (is_claimed old.tx_slots tx.slot (claim_of op)) Conflict))) told.told.is_legal
               ∙ ap (λ b. first_of (refused_if b TooLarge) (refused_if (is_claimed old.tx_slots tx.slot (claim_of op)) Conflict)) told.told.short
               ∙ ap (λ b. refused_if b Conflict) a.1;
           is_legal = told.told.is_legal;
@@ -200,18 +209,18 @@ adds old new session tx moment op judged (Ok written) j a = subst (λ w. Writes 
         by_test false its told some = cc
 
 pub judge_refused : (table : Table) (session : ℕ) (tx : Tx) (op : Op) (one : Transaction) → own table.tx_slots session tx ≡ Some one → is_active one ≡ true → (r : Result (Option Judged) Refusal) →
-    IfErr r (λ why. (illegal table.trees op one ≡ Some why) ⊎ (why ≡ NoMemory)) →
-    IfErr r (λ why. (judge_refusal table.trees op (own table.tx_slots session tx) ≡ Some why) ⊎ (why ≡ NoMemory))
+    IfErr r (λ why. (illegal table.aside table.trees op one ≡ Some why) ⊎ (why ≡ NoMemory)) →
+    IfErr r (λ why. (judge_refusal table.aside table.trees op (own table.tx_slots session tx) ≡ Some why) ⊎ (why ≡ NoMemory))
 judge_refused table session tx op one its active (Ok judged) h = tt
 judge_refused table session tx op one its active (Err why) h = elim h [
-  | inl e ↦ inl (ap (judge_refusal table.trees op) its ∙ ap (λ first. first_of first (illegal table.trees op one)) (may_end one active) ∙ e)
+  | inl e ↦ inl (ap (judge_refusal table.aside table.trees op) its ∙ ap (λ first. first_of first (illegal table.aside table.trees op one)) (may_end one active) ∙ e)
   | inr m ↦ inr m
 ]
 
 -- a handle that doesn't pass its test adds nothing
-pub unadded : (trees : List TreeMap) (tx_slots : TxSlots) (slot : ℕ) (op : Op) (its : Option Transaction) (why : Refusal) → inactive_refusal its ≡ Some why → added_refusal_if trees tx_slots slot op its ≡ Some why
-unadded trees tx_slots slot op None why e = e
-unadded trees tx_slots slot op (Some one) why e = ap (λ first. first_of first (added_refusal trees tx_slots slot op one)) e
+pub unadded : (aside : ℕ) (trees : List TreeMap) (tx_slots : TxSlots) (slot : ℕ) (op : Op) (its : Option Transaction) (why : Refusal) → inactive_refusal its ≡ Some why → added_refusal_if aside trees tx_slots slot op its ≡ Some why
+unadded aside trees tx_slots slot op None why e = e
+unadded aside trees tx_slots slot op (Some one) why e = ap (λ first. first_of first (added_refusal aside trees tx_slots slot op one)) e
 
 first_same : (first : Option Refusal) (l : Result Legality Refusal) (near further : Option Refusal) (why : Refusal) → first_of first (refusal_by l near) ≡ Some why → first_of first (refusal_by l (first_of near further)) ≡ Some why
 first_same (Some x) l near further why e = e
@@ -221,6 +230,6 @@ first_same None (Ok Legal) (Some x) further why e = e
 first_same None (Ok Legal) None further why e = absurd (none-some why e)
 
 -- a refusal of the judgement is one of the write
-pub judged_refused : (trees : List TreeMap) (tx_slots : TxSlots) (slot : ℕ) (op : Op) (there : Option Transaction) (why : Refusal) → judge_refusal trees op there ≡ Some why → added_refusal_if trees tx_slots slot op there ≡ Some why
-judged_refused trees tx_slots slot op None why e = e
-judged_refused trees tx_slots slot op (Some one) why e = first_same (inactive_refusal (Some one)) (legal (view trees one) op) (refused_if (too_long one op) TooLarge) (refused_if (is_claimed tx_slots slot (claim_of op)) Conflict) why e
+pub judged_refused : (aside : ℕ) (trees : List TreeMap) (tx_slots : TxSlots) (slot : ℕ) (op : Op) (there : Option Transaction) (why : Refusal) → judge_refusal aside trees op there ≡ Some why → added_refusal_if aside trees tx_slots slot op there ≡ Some why
+judged_refused aside trees tx_slots slot op None why e = e
+judged_refused aside trees tx_slots slot op (Some one) why e = first_same (inactive_refusal (Some one)) (legal (view trees one) op) (refused_if (too_long aside one op) TooLarge) (refused_if (is_claimed tx_slots slot (claim_of op)) Conflict) why e

@@ -197,8 +197,8 @@ carried_more now front done op m trees made before allowed is all = subst (λ (o
 pub legal_seen : (now : List TreeMap) (one : Transaction) (v : View) (op : Op) → IsViewNow now one.ops v → legal v.trees op ≡ legal (view now one) op
 legal_seen now one v op is = legal_alike v.trees (view now one) (seen_at now one.ops v.moment v.trees one.moment is.made) op
 
-pub judged_seen : (now : List TreeMap) (number : ℕ) (one : Transaction) (v : View) (op : Op) (written : Judged) → (v.number ≡ number) × IsViewNow now one.ops v → WritesView v op (Some written) → too_long one op ≡ false → IsLegalIn now number one op written
-judged_seen now number one v op written has is short = record {
+pub judged_seen : (aside : ℕ) (now : List TreeMap) (number : ℕ) (one : Transaction) (v : View) (op : Op) (written : Judged) → (v.number ≡ number) × IsViewNow now one.ops v → WritesView v op (Some written) → too_long aside one op ≡ false → IsLegalIn aside now number one op written
+judged_seen aside now number one v op written has is short = record {
   is_legal = sym (legal_seen now one v op has.1) ∙ is.is_legal;
   short = short;
   made = is.levels ∙ levels_same v.trees (view now one) (seen_at now one.ops v.moment v.trees one.moment has.1.made) op;

@@ -8,5 +8,5 @@ use Rattle.transactions.specs.Tables.{Table}
 
 abbrev pub table_code : Coded Table
 table_code =
-    code_by (List TreeMap × (ℕ × (TxSlots × ℕ))) (coded× trees_code (coded× coded_ℕ (coded× tx_slots_code coded_ℕ)))
-    (λ t. (t.trees, (t.number, (t.tx_slots, t.begun)))) (λ p. record { trees = p.0; number = p.1.0; tx_slots = p.1.1.0; begun = p.1.1.1 }) (λ _. refl)
+    code_by (List TreeMap × (ℕ × (TxSlots × (ℕ × (ℕ × ℕ))))) (coded× trees_code (coded× coded_ℕ (coded× tx_slots_code (coded× coded_ℕ (coded× coded_ℕ coded_ℕ)))))
+    (λ t. (t.trees, (t.number, (t.tx_slots, (t.begun, (t.hives, t.aside)))))) (λ p. record { trees = p.0; number = p.1.0; tx_slots = p.1.1.0; begun = p.1.1.1.0; hives = p.1.1.1.1.0; aside = p.1.1.1.1.1 }) (λ _. refl)

@@ -1,5 +1,5 @@
 -- How a table keeps a transaction.
-use Rattle.std.specs.Prelude.{◌≡◌, ◌≢◌, ◌⊎◌, ℕ, ◌+◌, ◌<◌, ◌≤◌, ◌++◌, ◌∷◌, [], List, map, length, vec_capacity, Contains, Option, IfSome, IsSome, false, Ok, Some, None, ⊤, true, ◌↔◌, slice_index_or}
+use Rattle.std.specs.Prelude.{◌≡◌, ◌≢◌, ◌⊎◌, ℕ, ◌+◌, ◌<◌, ◌≤◌, ◌++◌, ◌∷◌, [], List, map, length, vec_capacity, Contains, Option, IfSome, IsSome, false, Ok, Some, None, ⊤, true, ◌↔◌, slice_index_or, slice_set}
 use Rattle.std.specs.Option.{option_map}
 use Rattle.refusals.specs.declared.limits.TheConstants.{MOST_ELEMENT_BYTES}
 use Rattle.refusals.specs.declared.refusal.Refusal.{Refusal}
@@ -20,6 +20,8 @@ use Rattle.conflicts.specs.Skeleton.{Claim}
 use Rattle.conflicts.specs.Claims.{claim_of}
 use Rattle.conflicts.specs.Holders.{HeldClaim}
 use Rattle.store_model.specs.Transactions.{Transaction, TxSlots, SetsSlot, at, own, with_op, is_active, is_claimed, inactive_refusal, view}
+use Rattle.store_model.specs.Invariant.{HivesAreNamable}
+use Rattle.store_model.specs.declared.room.TheConstants.{MOST_OUTCOME_BYTES}
 use Rattle.store_model.specs.Machine.{refusal_by, refused_if, first_of, too_long}
 use Rattle.store_model.specs.declared.handle.Tx.{Tx}
 use Rattle.transactions.specs.Tables.{Table}
@@ -163,13 +165,15 @@ ViewShowsInfo view now hive path moment (Some info) = ViewShows view now hive pa
 abbrev pub HasTwoSpare : TxEntry → Type 0
 HasTwoSpare e = 0 < length e.ops.items → length e.ops.items + 2 ≤ vec_capacity e.ops
 
--- what is so of an entry: its number was given, and its length is the length of its change and within the limit. There
--- is room for two operations beside its own, and its view is one
-pub record IsEntry (now : List TreeMap) (number begun : ℕ) (e : TxEntry) : Type 0 where
+-- what is so of an entry: its number was given, and its length is the length of its change and within the limit, with the
+-- bytes that are set aside. There is room for two operations beside its own, which are on hives below a number, and its
+-- view is one
+pub record IsEntry (now : List TreeMap) (number begun hives aside : ℕ) (e : TxEntry) : Type 0 where
   pub known : e.generation ≤ begun
   pub counted : e.length ≡ 16 + ops_encoded_len e.ops.items
-  pub short : e.length ≤ MOST_ELEMENT_BYTES
+  pub short : e.length + aside ≤ MOST_ELEMENT_BYTES
   pub spare : HasTwoSpare e
+  pub named : HivesAreNamable hives e.ops.items
   pub viewed : IsViewed now number e.ops.items e.view
 
 -- a claim of the active transaction in a slot
@@ -179,23 +183,25 @@ pub record Claims (tx_slots : TxSlots) (slot : ℕ) (claim : Claim) : Type 0 whe
   pub active : is_active one ≡ true
   pub made : Contains (map claim_of one.ops) claim
 
--- what is so of all: each entry is sound, and the claims are those of active transactions
-pub record EntriesAreSound (now : List TreeMap) (number begun : ℕ) (slots : List (Option TxEntry)) (claims : List HeldClaim) : Type 0 where
-  pub entries : (slot : ℕ) (e : TxEntry) → slice_index_or slots slot None ≡ Some e → IsEntry now number begun e
+-- what is so of all: each entry is sound, and the claims are those of active transactions; no more bytes are set aside
+-- than a commit may add
+pub record EntriesAreSound (now : List TreeMap) (number begun hives aside : ℕ) (slots : List (Option TxEntry)) (claims : List HeldClaim) : Type 0 where
+  pub entries : (slot : ℕ) (e : TxEntry) → slice_index_or slots slot None ≡ Some e → IsEntry now number begun hives aside e
   pub claimed : (slot : ℕ) (claim : Claim) → Contains claims (record { owner = slot; claim = claim }) ↔ Claims (tx_slots_of slots) slot claim
+  pub few : aside ≤ MOST_OUTCOME_BYTES
 
 -- an operation was judged: it is legal by the view and its change not too long, and this is the view after it, or it
 -- opens a key
-pub record IsLegalIn (now : List TreeMap) (number : ℕ) (one : Transaction) (op : Op) (judged : Judged) : Type 0 where
+pub record IsLegalIn (aside : ℕ) (now : List TreeMap) (number : ℕ) (one : Transaction) (op : Op) (judged : Judged) : Type 0 where
   pub is_legal : legal (view now one) op ≡ Ok Legal
-  pub short : too_long one op ≡ false
+  pub short : too_long aside one op ≡ false
   pub made : judged.levels ≡ levels_made (view now one) op
   pub numbered : judged.made.number ≡ number
   pub seen : IsViewNow now (one.ops ++ op ∷ []) judged.made
 
-abbrev pub IsJudged : List TreeMap → ℕ → Transaction → Op → Option Judged → Type 0
-IsJudged now number one op None = legal (view now one) op ≡ Ok Opened
-IsJudged now number one op (Some judged) = IsLegalIn now number one op judged
+abbrev pub IsJudged : ℕ → List TreeMap → ℕ → Transaction → Op → Option Judged → Type 0
+IsJudged aside now number one op None = legal (view now one) op ≡ Ok Opened
+IsJudged aside now number one op (Some judged) = IsLegalIn aside now number one op judged
 
 -- they differ in the room for operations alone, and there is no less of it
 abbrev pub IsSameEntry : TxEntry → TxEntry → Type 0
@@ -206,27 +212,28 @@ abbrev pub HasRoom : TxEntry → Type 0
 HasRoom e = length e.ops.items + 2 < vec_capacity e.ops
 
 -- an operation of a handle's transaction was judged
-pub record IsJudgedBy (trees : List TreeMap) (number : ℕ) (op : Op) (judged : Option Judged) (one : Transaction) : Type 0 where
+pub record IsJudgedBy (aside : ℕ) (trees : List TreeMap) (number : ℕ) (op : Op) (judged : Option Judged) (one : Transaction) : Type 0 where
   pub active : is_active one ≡ true
-  pub told : IsJudged trees number one op judged
+  pub told : IsJudged aside trees number one op judged
 
 abbrev pub IsJudgedOf : Table → ℕ → Tx → Op → Option Judged → Type 0
-IsJudgedOf table session tx op judged = IfSome (own table.tx_slots session tx) (IsJudgedBy table.trees table.number op judged) × IsSome (own table.tx_slots session tx)
+IsJudgedOf table session tx op judged = IfSome (own table.tx_slots session tx) (IsJudgedBy table.aside table.trees table.number op judged) × IsSome (own table.tx_slots session tx)
 
 -- why it is not: the transaction is not there or not active, or the operation is not legal or makes its change too long
-abbrev pub illegal : List TreeMap → Op → Transaction → Option Refusal
-illegal trees op one = refusal_by (legal (view trees one) op) (refused_if (too_long one op) TooLarge)
+abbrev pub illegal : ℕ → List TreeMap → Op → Transaction → Option Refusal
+illegal aside trees op one = refusal_by (legal (view trees one) op) (refused_if (too_long aside one op) TooLarge)
 
-abbrev pub judge_refusal : List TreeMap → Op → Option Transaction → Option Refusal
-judge_refusal trees op None = Some NoSuchHandle
-judge_refusal trees op (Some one) = first_of (inactive_refusal (Some one)) (illegal trees op one)
+abbrev pub judge_refusal : ℕ → List TreeMap → Op → Option Transaction → Option Refusal
+judge_refusal aside trees op None = Some NoSuchHandle
+judge_refusal aside trees op (Some one) = first_of (inactive_refusal (Some one)) (illegal aside trees op one)
 
 -- an operation may be added to the active transaction in a slot, and this is the view after it
 pub record MayAdd (table : Table) (slot : ℕ) (op : Op) (made : View) : Type 0 where
   pub one : Transaction
   pub there : at table.tx_slots slot ≡ Some one
   pub active : is_active one ≡ true
-  pub short : too_long one op ≡ false
+  pub short : too_long table.aside one op ≡ false
+  pub named : hive_of op < table.hives
   pub numbered : made.number ≡ table.number
   pub seen : IsViewNow table.trees (one.ops ++ op ∷ []) made
 
@@ -252,3 +259,7 @@ IsRebasedTo now number (Some one) rebased = IsViewed now number one.ops rebased
 
 abbrev pub AreRebased : List TreeMap → ℕ → TxSlots → List (Option View) → Type 0
 AreRebased now number tx_slots rebased = (slot : ℕ) → IsRebasedTo now number (at tx_slots slot) (slice_index_or rebased slot None)
+
+-- a view with another tree of a hive
+abbrev pub with_other_tree : ℕ → TreeMap → View → View
+with_other_tree hive tree view = record view { trees = slice_set view.trees hive tree }

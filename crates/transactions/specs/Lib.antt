@@ -1,3 +1,4 @@
+pub mod CommitLogs
 pub mod Histories
 pub mod Tables
 pub mod Codes

@@ -1,18 +1,25 @@
 -- What an event that may accept a change is going to do, once all its memory is allocated.
-use Rattle.std.specs.Prelude.{◌≡◌, ℕ, ◌+◌, ◌<◌, ◌==◌, Bool, true, false, List, [], ◌∷◌, ◌++◌, length, Option, Some, None, Ok, Err, Result}
+use Rattle.std.specs.Prelude.{◌≡◌, ◌↔◌, Contains, ℕ, ◌+◌, ◌<◌, ◌≤◌, ◌==◌, if◌then◌else◌, Bool, true, false, List, [], ◌∷◌, ◌++◌, length, Option, Some, None, Ok, Err, Result}
 use Rattle.refusals.specs.declared.refusal.Refusal.{Refusal}
-use Rattle.refusals.specs.declared.refusal.Refusal.TheVariants.{NoMemory}
+use Rattle.refusals.specs.declared.refusal.Refusal.TheVariants.{NoMemory, TooLarge}
 use Rattle.reg_tree.specs.Maps.{TreeMap}
 use Rattle.reg_tree.specs.Operations.{hive_of}
 use Rattle.reg_tree.specs.Judgement.{legal, applied, applied_one, any_outweighs}
 use Rattle.reg_tree.specs.TreeLists.{levels_made}
-use Rattle.reg_tree.specs.Encodings.{element_encoded_len}
+use Rattle.refusals.specs.declared.limits.TheConstants.{MOST_ELEMENT_BYTES}
+use Rattle.reg_tree.specs.Encodings.{element_encoded_len, ops_encoded_len}
 use Rattle.reg_tree.specs.declared.element.Element.{Element}
 use Rattle.reg_tree.specs.declared.op.Op.{Op}
 use Rattle.reg_tree.specs.declared.op.Legality.TheVariants.{Legal}
 use Rattle.conflicts.specs.Claims.{claim_of}
+use Rattle.conflicts.specs.TreeOutlines.{AreCarriedOut}
+use Rattle.std.specs.List.{AllByRecursion}
+use Rattle.commit_outcomes.specs.Units.{unit_name}
+use Rattle.commit_outcomes.specs.Commits.{Commit}
+use Rattle.commit_outcomes.specs.Operations.{outcome_ops}
+use Rattle.store_model.specs.Invariant.{HivesAreNamable}
 use Rattle.store_model.specs.Transactions.{Transaction, at, own, inactive_refusal}
-use Rattle.store_model.specs.Machine.{Machine, change, committed, commit_change, commit_refusal_if, fault, first_of, found_in, is_open, unnamed_refusal, room_of, room_refusal, trees_now, last_number, write_refusal}
+use Rattle.store_model.specs.Machine.{Machine, change, committed, commit_change, has_outcomes, outcome_bytes, outcome_of, outcome_tree, commit_refusal_if, fault, first_of, refused_if, found_in, is_open, unnamed_refusal, room_of, room_refusal, trees_now, last_number, write_refusal}
 use Rattle.store_model.specs.Steps.{Step, may_accept}
 use Rattle.store_model.specs.declared.event.Event.{Event}
 use Rattle.store_model.specs.declared.event.Event.TheVariants as event
@@ -25,6 +32,8 @@ use Rattle.transactions.specs.Stores.{StoreView}
 use Rattle.transactions.specs.declared.prepared.JudgedWrite.{JudgedWrite}
 use Rattle.transactions.specs.declared.prepared.ReadyWrite.{ReadyWrite}
 use Rattle.transactions.specs.declared.prepared.ReadyCommit.{ReadyCommit}
+use Rattle.transactions.specs.declared.prepared.OutcomeChange.{OutcomeChange}
+use Rattle.transactions.specs.declared.prepared.JudgedCommit.{JudgedCommit}
 use Rattle.transactions.specs.declared.prepared.Ready.{Ready}
 use Rattle.transactions.specs.declared.prepared.Ready.TheVariants as ready
 use Rattle.transactions.specs.declared.prepared.Next.{Next}
@@ -65,7 +74,47 @@ pub record IsReadyWrite (machine : Machine) (session moment : ℕ) (op : Op) (ma
   pub rebased : AreRebased made.trees (last_number machine + 1) machine.tx_slots made.rebased.items
   pub room : made.room ≡ machine.room + (17 + element_encoded_len (change moment op))
 
--- A transaction has operations, the change that a commit makes of it may be accepted, and what that leads to is made.
+-- what a commit of a unit of work does to the tree of outcomes, if there is one
+abbrev pub unit_ops : Machine → List ℕ → List Op
+unit_ops machine unit =
+    if has_outcomes machine then outcome_ops machine.bounds.hives (outcome_tree machine.bounds (trees_now machine)) (last_number machine + 1, unit_name unit) else []
+
+-- The commit of a unit may be recorded after others: its number is above theirs, and the number of the unit's commit
+-- among them is known, if there is one.
+pub record MayRecord (unit : List ℕ) (number : ℕ) (earlier : Option ℕ) (commits : List Commit) : Type 0 where
+  pub above : AllByRecursion (λ c. c.0 < number) commits
+  pub from_one : 0 < number
+  pub known : (n : ℕ) → (earlier ≡ Some n) ↔ Contains commits (n, unit_name unit)
+
+-- What a commit of a unit of work adds to a change for its outcome, on trees after the change's operations: no more bytes
+-- than were set aside. None of its operations leaves the tree of outcomes too heavy, and these are the trees after them.
+pub record IsOutcomeChange (machine : Machine) (unit : List ℕ) (moment : ℕ) (before : List TreeMap) (made : OutcomeChange) : Type 0 where
+  pub ops : made.ops.items ≡ unit_ops machine unit
+  pub long : made.text_len ≡ ops_encoded_len made.ops.items
+  pub few : made.text_len ≤ outcome_bytes machine
+  pub light : any_outweighs before made.ops.items moment ≡ false
+  pub trees : made.trees ≡ applied before made.ops.items moment
+  pub earlier : has_outcomes machine ≡ true → made.earlier ≡ outcome_of machine unit
+
+-- A commit of these operations, and of what its outcome adds, may be accepted, and leads to these trees and this room.
+pub record IsJudgedCommit (machine : Machine) (unit : List ℕ) (moment : ℕ) (ops : List Op) (made : JudgedCommit) : Type 0 where
+  pub outcome : IsOutcomeChange machine unit moment (applied (trees_now machine) ops moment) made.outcome
+  pub light : any_outweighs (trees_now machine) ops moment ≡ false
+  pub carried : made.carried ≡ true → AreCarriedOut (trees_now machine) ops moment
+  pub long : made.text_len ≡ 16 + ops_encoded_len (ops ++ made.outcome.ops.items)
+  pub short : made.text_len ≤ MOST_ELEMENT_BYTES
+  pub roomy : room_refusal machine made.text_len ≡ None
+  pub room : made.room ≡ machine.room + (17 + made.text_len)
+
+-- why a commit of operations of a unit of work is not accepted
+abbrev pub unit_refusal : Machine → List ℕ → ℕ → List Op → Option Refusal
+unit_refusal machine unit moment ops =
+    first_of (refused_if (any_outweighs (trees_now machine) (ops ++ unit_ops machine unit) moment) TooLarge)
+    (room_refusal machine (16 + ops_encoded_len (ops ++ unit_ops machine unit)))
+
+-- A transaction has operations, on hives that calls may name. The change that a commit makes of it may be accepted, and
+-- what that leads to is made.
+-- Its unit of work is known, and the number with which that committed before, if the store keeps outcomes.
 pub record IsReadyCommit (machine : Machine) (made : ReadyCommit) : Type 0 where
   pub one : Transaction
   pub free : fault machine ≡ None
@@ -73,6 +122,9 @@ pub record IsReadyCommit (machine : Machine) (made : ReadyCommit) : Type 0 where
   pub found : own machine.tx_slots made.session made.tx ≡ Some one
   pub active : inactive_refusal (Some one) ≡ None
   pub some : (length one.ops == 0) ≡ false
+  pub named : HivesAreNamable machine.bounds.hives one.ops
+  pub unit : made.unit ≡ one.id
+  pub earlier : has_outcomes machine ≡ true → made.earlier ≡ outcome_of machine one.id
   pub element : made.element ≡ commit_change machine made.moment one
   pub short : IsShort made.element
   pub light : any_outweighs (trees_now machine) (committed machine one) made.moment ≡ false

@@ -1,12 +1,15 @@
 -- What a store in memory shows.
-use Rattle.std.specs.Prelude.{◌≡◌, ◌≤◌, ℕ, Bool, true, false, List, length, Result, Ok, Err, refl}
+use Rattle.std.specs.Prelude.{◌≡◌, ◌≤◌, ℕ, nat_lt, slice_get, Bool, true, false, List, length, Option, Some, None, Result, Ok, Err, refl}
 use Rattle.std.specs.Coded.{Coded, code_by, coded×, coded_ℕ, coded_list, coded_bool}
 use Rattle.refusals.specs.declared.refusal.Refusal.{Refusal}
 use Rattle.reg_tree.specs.Maps.{TreeMap}
 use Rattle.reg_tree.specs.contracts.element.Element as element
 use Rattle.reg_tree.specs.declared.element.Element.{Element}
 use Rattle.store_model.specs.Codes.{trees_code, tx_slots_code}
-use Rattle.store_model.specs.Machine.{Machine, trees_now, last_number}
+use Rattle.refusals.specs.declared.limits.TheConstants.{GREATEST_NUMBER}
+use Rattle.commit_outcomes.specs.Commits.{Commit, AreUpTo}
+use Rattle.commit_outcomes.specs.Trees.{HasCommits}
+use Rattle.store_model.specs.Machine.{Machine, bounds_for, has_outcomes, outcome_bytes, outcome_tree, trees_now, last_number}
 use Rattle.store_model.specs.Steps.{Step}
 use Rattle.store_model.specs.Transactions.{TxSlots}
 use Rattle.store_model.specs.declared.bounds.StoreBounds.{StoreBounds}
@@ -23,11 +26,12 @@ failures_of true = 1
 failures_of false = 0
 
 -- the machine that a store shows
-abbrev pub store_of : List TreeMap → ℕ → List Element → List ℕ → Table → ℕ → ℕ → Bool → StoreBounds → Machine
-store_of opened before accepted sessions table durable room faulted bounds = record {
+abbrev pub store_of : List TreeMap → ℕ → List Element → List Commit → List ℕ → Table → ℕ → ℕ → Bool → StoreBounds → Machine
+store_of opened before accepted commits sessions table durable room faulted bounds = record {
   opened = opened;
   before = before;
   accepted = accepted;
+  commits = commits;
   sessions = sessions;
   tx_slots = table.tx_slots;
   begun = table.begun;
@@ -51,6 +55,26 @@ pub record TableMatchesMachine (table : Table) (machine : Machine) : Type 0 wher
   pub number : table.number ≡ last_number machine
   pub durable : machine.durable ≤ last_number machine
   pub few : length machine.accepted ≤ machine.bounds.changes
+  pub hives : table.hives ≡ machine.bounds.hives
+  pub aside : table.aside ≡ outcome_bytes machine
+
+-- a store keeps outcomes exactly if it has a list of commits, which is that of its tree of outcomes, up to the last number
+abbrev pub OutcomesMatch : Option (List Commit) → Machine → Type 0
+OutcomesMatch None machine = has_outcomes machine ≡ false
+OutcomesMatch (Some commits) machine =
+    (has_outcomes machine ≡ true) × HasCommits commits (outcome_tree machine.bounds (trees_now machine)) × AreUpTo (last_number machine) commits
+    × (last_number machine ≤ GREATEST_NUMBER)
+
+-- what is found of outcomes in trees at a number: the commits of the tree after the first `hives`, if there is one
+abbrev pub OutcomesAt : ℕ → List TreeMap → ℕ → Option (List Commit) → Type 0
+OutcomesAt hives trees number None = nat_lt hives (length trees) ≡ false
+OutcomesAt hives trees number (Some commits) =
+    (nat_lt hives (length trees) ≡ true) × HasCommits commits (outcome_tree (bounds_for hives) trees) × AreUpTo number commits
+
+-- the tree of outcomes among trees, if a store keeps outcomes
+abbrev pub IsOutcomeTree : Machine → List TreeMap → Option TreeMap → Type 0
+IsOutcomeTree machine trees None = has_outcomes machine ≡ false
+IsOutcomeTree machine trees (Some tree) = (has_outcomes machine ≡ true) × (slice_get trees machine.bounds.hives ≡ Some tree)
 
 -- an event's answer, or why it was refused, is a step of the machine
 abbrev pub Answers : Machine → Event → Result Reply Refusal → Machine → Type 0
@@ -72,10 +96,10 @@ needs_device _ = false
 -- how machines are distinguished: by their parts
 abbrev pub machine_code : Coded Machine
 machine_code =
-    code_by (List TreeMap × (ℕ × (List Element × (List ℕ × (TxSlots × (ℕ × (ℕ × (ℕ × (ℕ × (Bool × StoreBounds))))))))))
-    (coded× trees_code (coded× coded_ℕ (coded× (coded_list element.the_row.coded) (coded× (coded_list coded_ℕ) (coded× tx_slots_code (coded× coded_ℕ (coded× coded_ℕ (coded× coded_ℕ (coded× coded_ℕ (coded× coded_bool bounds.the_row.coded))))))))))
-    (λ m. (m.opened, (m.before, (m.accepted, (m.sessions, (m.tx_slots, (m.begun, (m.durable, (m.room, (m.failures, (m.faulted, m.bounds)))))))))))
-    (λ p. record { opened = p.0; before = p.1.0; accepted = p.1.1.0; sessions = p.1.1.1.0; tx_slots = p.1.1.1.1.0; begun = p.1.1.1.1.1.0; durable = p.1.1.1.1.1.1.0; room = p.1.1.1.1.1.1.1.0; failures = p.1.1.1.1.1.1.1.1.0; faulted = p.1.1.1.1.1.1.1.1.1.0; bounds = p.1.1.1.1.1.1.1.1.1.1 })
+    code_by (List TreeMap × (ℕ × (List Element × (List Commit × (List ℕ × (TxSlots × (ℕ × (ℕ × (ℕ × (ℕ × (Bool × StoreBounds)))))))))))
+    (coded× trees_code (coded× coded_ℕ (coded× (coded_list element.the_row.coded) (coded× (coded_list (coded× coded_ℕ (coded_list coded_ℕ))) (coded× (coded_list coded_ℕ) (coded× tx_slots_code (coded× coded_ℕ (coded× coded_ℕ (coded× coded_ℕ (coded× coded_ℕ (coded× coded_bool bounds.the_row.coded)))))))))))
+    (λ m. (m.opened, (m.before, (m.accepted, (m.commits, (m.sessions, (m.tx_slots, (m.begun, (m.durable, (m.room, (m.failures, (m.faulted, m.bounds))))))))))))
+    (λ p. record { opened = p.0; before = p.1.0; accepted = p.1.1.0; commits = p.1.1.1.0; sessions = p.1.1.1.1.0; tx_slots = p.1.1.1.1.1.0; begun = p.1.1.1.1.1.1.0; durable = p.1.1.1.1.1.1.1.0; room = p.1.1.1.1.1.1.1.1.0; failures = p.1.1.1.1.1.1.1.1.1.0; faulted = p.1.1.1.1.1.1.1.1.1.1.0; bounds = p.1.1.1.1.1.1.1.1.1.1.1 })
     (λ _. refl)
 
 abbrev pub store_code : Coded StoreView

@@ -19,12 +19,15 @@ use Rattle.store_model.specs.declared.handle.Outcome.TheVariants.{RolledBack}
 use Rattle.transactions.specs.declared.table.TxWriteOutcome.{TxWriteOutcome}
 use Rattle.transactions.specs.declared.table.TxWriteOutcome.TheVariants.{Added, Opened}
 
--- the trees of now and the number of the last accepted change, the transaction in each slot, and how many were begun
+-- the trees of now and the number of the last accepted change, the transaction in each slot, and how many were begun;
+-- which hives operations may be on, and how many bytes of a change are set aside for its commit
 pub record Table : Type 0 where
   pub trees : List TreeMap
   pub number : ℕ
   pub tx_slots : TxSlots
   pub begun : ℕ
+  pub hives : ℕ
+  pub aside : ℕ
 
 -- a call that takes memory is refused as it should be, or since there is no memory; nothing changes
 abbrev pub TableRefuses : Table → Option Refusal → Refusal → Table → Type 0
@@ -64,8 +67,8 @@ ChangesSlots old act new = act × (new ≡ record old { tx_slots = new.tx_slots 
 -- an operation is the last of a transaction's, or opens a key that is there in its view
 abbrev pub Writes : Table → ℕ → Tx → ℕ → Op → TxWriteOutcome → Table → Type 0
 Writes old session tx moment op (Added levels) new =
-    ChangesSlots old (AddsOp old.trees old.tx_slots (own old.tx_slots session tx) tx.slot moment op levels new.tx_slots) new
-Writes old session tx moment op Opened new = OpensKey old.trees old.tx_slots (own old.tx_slots session tx) tx.slot op × (new ≡ old)
+    ChangesSlots old (AddsOp old.aside old.trees old.tx_slots (own old.tx_slots session tx) tx.slot moment op levels new.tx_slots) new
+Writes old session tx moment op Opened new = OpensKey old.aside old.trees old.tx_slots (own old.tx_slots session tx) tx.slot op × (new ≡ old)
 
 -- a transaction ends, and these were its operations
 pub record EndsWith (old : Table) (session : ℕ) (tx : Tx) (outcome : Outcome) (ops : List Op) (new : Table) : Type 0 where

@@ -156,22 +156,23 @@ impl TxEntry {
     }
 
     /// Judges an operation by the view, and carries it out on a copy of the view; nothing if it opens a key. Then
-    /// judges it by the length of the change.
+    /// judges it by the length of the change, of which as many bytes are set aside.
     pub(crate) fn judge(
         &mut self,
         alloc: Global,
         now: &Trees,
         number: u64,
         op: &Op,
+        aside: u64,
     ) -> Result<Option<Judged>, Refusal>
         requires viewed { IsViewed now.now number self.old.ops.items self.old.view }
         requires counted { (self.old.length ≡ 16 + ops_encoded_len self.old.ops.items)
             × (self.old.length ≤ MOST_ELEMENT_BYTES) }
         ensures rest { self.new ≡ record self.old { view = self.new.view } }
         ensures kept { IsViewed now.now number self.new.ops.items self.new.view }
-        ensures ok { IfOk result (IsJudged now.now number (transaction_of self.new) op.now) }
+        ensures ok { IfOk result (IsJudged aside now.now number (transaction_of self.new) op.now) }
         ensures refused { IfErr result (λ refusal.
-            (illegal now.now op.now (transaction_of self.new) ≡ Some refusal)
+            (illegal aside now.now op.now (transaction_of self.new) ≡ Some refusal)
             ⊎ (refusal ≡ NoMemory)) }
     {
         self.ensure_view(alloc, now, number)?;
@@ -181,7 +182,7 @@ impl TxEntry {
         let Some(written) = view.write(alloc, op)? else {
             return Ok(None);
         };
-        if self.is_too_long(op) {
+        if self.is_too_long(op, aside) {
             return Err(Refusal::TooLarge);
         }
         Ok(Some(written))
@@ -338,13 +339,16 @@ impl TxEntry {
         }
     }
 
-    // whether its change would be too long with this operation
-    fn is_too_long(&self, op: &Op) -> bool
+    // whether its change would be too long with this operation and as many bytes as are set aside
+    fn is_too_long(&self, op: &Op, aside: u64) -> bool
         requires { (self.now.length ≡ 16 + ops_encoded_len self.now.ops.items)
             × (self.now.length ≤ MOST_ELEMENT_BYTES) }
-        ensures { result ≡ too_long (transaction_of self.now) op.now }
+        ensures { result ≡ too_long aside (transaction_of self.now) op.now }
     {
-        self.length.saturating_add(op.text_len()) > MOST_ELEMENT_BYTES
+        self.length
+            .saturating_add(op.text_len())
+            .saturating_add(aside)
+            > MOST_ELEMENT_BYTES
     }
 
     /// Makes room for one operation more, and for two besides that the caller which takes them may add.

@@ -4,6 +4,7 @@
 //! its own view, and its claims keep others off what it changes. [`Store`] answers by it each event that makes no step.
 #![tactic(auto)]
 
+mod commit_log;
 mod entry;
 mod history;
 mod prepared;

@@ -6,10 +6,11 @@ ghost use Rattle.transactions.specs.Prepared.{change_and_trees, change_to_accept
 use crate::table::Holders;
 use crate::view::View;
 use change_codec::EncodedChange;
-use reg_tree::Trees;
+use reg_tree::{Op, Trees};
 use std::alloc::{AllocError, Global};
 use std::snapshot::Snapshot;
 use store_model::{Event, Reply, Tx};
+use uuid::Uuid;
 
 /// An event that may accept a change, with all the memory that it needs: from here on it takes none.
 #[derive(Drop)]
@@ -62,6 +63,32 @@ pub(crate) struct ReadyWrite {
     pub room: u64,
 }
 
+/// What a commit adds to a change for its outcome.
+#[derive(Drop)]
+pub(crate) struct OutcomeChange {
+    /// The operations on the tree of outcomes: none, if the store keeps no outcomes.
+    pub ops: Vec<Op>,
+    /// The bytes of their encodings.
+    pub text_len: u64,
+    /// The trees after them.
+    pub trees: Trees,
+    /// The number with which the unit of work committed before.
+    pub earlier: Option<u64>,
+}
+
+/// What a commit leads to that may be accepted.
+#[derive(Drop)]
+pub(crate) struct JudgedCommit {
+    /// Whether each operation of the transaction is known to be one that could be carried out.
+    pub carried: bool,
+    /// What its outcome adds.
+    pub outcome: OutcomeChange,
+    /// The bytes of the encoded change.
+    pub text_len: u64,
+    /// The room that the journal has used then.
+    pub room: u64,
+}
+
 /// A transaction whose operations are accepted as one change.
 #[derive(Drop)]
 pub(crate) struct ReadyCommit {
@@ -71,6 +98,10 @@ pub(crate) struct ReadyCommit {
     pub tx: Tx,
     /// The moment of the change.
     pub moment: u64,
+    /// The unit of work.
+    pub unit: Uuid,
+    /// The number with which it committed before, if the store keeps outcomes.
+    pub earlier: Option<u64>,
     /// The change, kept as its encoding.
     pub element: EncodedChange,
     /// The trees after it.

@@ -1,23 +1,29 @@
 //! A store in memory: what it answers to each event that neither makes a step nor folds the history, and what the
 //! caller reports to it of those that do.
-ghost use Rattle.std.specs.Prelude.{◌≡◌, ◌<◌, ◌≤◌, ◌+◌, ◌-◌, ◌==◌, ◌++◌, ◌∷◌, ℕ, [], drop, max, true, false, nat_le, Some, None, IfOk, IfErr, OnOk, OnSome};
+ghost use Rattle.std.specs.Prelude.{◌≡◌, ◌<◌, ◌≤◌, ◌+◌, ◌-◌, ◌==◌, ◌++◌, ◌∷◌, ℕ, [], length, drop, max, nat_lt, true, false, nat_le, Some, None, IfOk, IfErr, OnOk, OnSome};
 ghost use Rattle.std.specs.List.{AllByRecursion, list_any};
 ghost use Rattle.refusals.specs.declared.refusal.Refusal.TheVariants.{NoMemory, NoSuchHandle};
 ghost use Rattle.store_model.specs.declared.event.Reply.TheVariants as reply;
+ghost use Rattle.refusals.specs.declared.limits.TheConstants.{GREATEST_NUMBER};
+ghost use Rattle.store_model.specs.Invariant.{OutcomesFit};
 ghost use Rattle.store_model.specs.Steps.{Step, is_request, may_accept};
 ghost use Rattle.store_model.specs.Machine.{bounds_of, opened_machine, last_number, fault, trees_now, is_open, room_refusal, unnamed_refusal, tx_call_refusal};
 ghost use Rattle.store_model.specs.Transactions.{own, inactive_refusal};
 ghost use Rattle.transactions.specs.Histories.{IsShort};
 ghost use Rattle.transactions.specs.Stores.{Answers, needs_device};
-ghost use Rattle.transactions.specs.Prepared.{Predicts, IsPrepared, IsReady, IsReadyCommit, IsReadyNothing, IsReadyWrite, JudgesWrite, PreparesEvent, PreparesWrite, AcceptsJust, change_of_ready, change_to_accept};
+ghost use Rattle.transactions.specs.Prepared.{Predicts, IsPrepared, IsReady, IsReadyWrite, JudgesWrite, PreparesEvent, PreparesWrite, AcceptsJust, change_of_ready, change_to_accept};
 
+mod commits;
+mod outcomes;
 mod retention;
 
+use crate::commit_log::CommitLog;
 use crate::history::ChangeHistory;
-use crate::prepared::{JudgedWrite, Prepared, Ready, ReadyCommit, ReadyWrite};
+use crate::prepared::{JudgedWrite, Prepared, Ready, ReadyWrite};
 use crate::short::change_is_short;
 use crate::table::{TxTable, TxWriteOutcome};
 use change_codec::EncodedChange;
+use commit_outcomes::CommitList;
 use refusals::Refusal;
 use refusals::limits::{GREATEST_NUMBER, MOST_JOURNAL_BYTES};
 use reg_names::Path;
@@ -25,7 +31,7 @@ use reg_tree::{CHANGE_BYTES, Element, Op, Ops, Trees};
 use std::alloc::{AllocError, Global};
 use std::marker::Model;
 use std::snapshot::Snapshot;
-use store_model::room::CHANGE_START;
+use store_model::room::{CHANGE_START, MOST_OUTCOME_BYTES};
 use store_model::{Event, Question, Reply, Sessions, StoreBounds, Tx, look_up};
 use uuid::Uuid;
 
@@ -50,6 +56,8 @@ pub struct Store {
     room: u64,
     faulted: bool,
     bounds: StoreBounds,
+    commits: CommitLog,
+    outcomes: Option<CommitList>,
 }
 
 impl Drop for Store {
@@ -66,12 +74,15 @@ impl Drop for Store {
             room: _,
             faulted: _,
             bounds: _,
+            commits: _,
+            outcomes: _,
         } = self;
     }
 }
 
 impl Model for Store {
-    ghost use Rattle.transactions.specs.Stores.{StoreView, store_of, store_code, TableMatchesMachine};
+    ghost use Rattle.transactions.specs.CommitLogs.{commits_in};
+    ghost use Rattle.transactions.specs.Stores.{StoreView, store_of, store_code, OutcomesMatch, TableMatchesMachine};
     ghost use Rattle.std.specs.Prelude.{◌+◌};
 
     ghost Value = { StoreView };
@@ -80,15 +91,18 @@ impl Model for Store {
 
     ghost view = { λ inside. record {
       machine =
-          store_of inside.opened.value inside.before inside.history.changes inside.sessions
-          inside.table inside.durable inside.room inside.faulted inside.bounds;
+          store_of inside.opened.value inside.before inside.history.changes (commits_in inside.commits)
+          inside.sessions inside.table inside.durable inside.room inside.faulted inside.bounds;
       retained = inside.before + inside.history.discard_flushed;
       spare = inside.history.spare;
     } };
 
     ghost invariant = { λ inside. TableMatchesMachine inside.table
-        (store_of inside.opened.value inside.before inside.history.changes inside.sessions
-        inside.table inside.durable inside.room inside.faulted inside.bounds) };
+        (store_of inside.opened.value inside.before inside.history.changes (commits_in inside.commits)
+        inside.sessions inside.table inside.durable inside.room inside.faulted inside.bounds)
+        × OutcomesMatch inside.outcomes
+        (store_of inside.opened.value inside.before inside.history.changes (commits_in inside.commits)
+        inside.sessions inside.table inside.durable inside.room inside.faulted inside.bounds) };
 }
 
 impl Store {
@@ -102,7 +116,7 @@ impl Store {
         Store::within(alloc, bounds, trees, number, room)
     }
 
-    /// The same, within these bounds.
+    /// The same, within these bounds. If there is one tree more than calls may name, it keeps the outcomes of commits.
     pub fn within(
         alloc: Global,
         bounds: StoreBounds,
@@ -110,21 +124,30 @@ impl Store {
         number: u64,
         room: u64,
     ) -> Result<Store, AllocError>
+        requires outcomes { OutcomesFit bounds trees number }
+        requires number { nat_lt bounds.hives (length trees) ≡ true → number ≤ GREATEST_NUMBER }
         ensures machine { IfOk result (λ store. store.machine
             ≡ record (opened_machine bounds trees number [] 0) { room = room }) }
         ensures retained { IfOk result (λ store. store.retained ≡ number) }
     {
+        let outcomes = outcomes::found_in(alloc, &trees, bounds.hives, number)?;
+        let aside = match outcomes {
+            Some(_) => MOST_OUTCOME_BYTES,
+            None => 0,
+        };
         Ok(Store {
             alloc,
             opened: Snapshot::of(&trees),
             before: number,
             history: ChangeHistory::new(alloc),
             sessions: Sessions::new(alloc)?,
-            table: TxTable::new(alloc, trees, number),
+            table: TxTable::new(alloc, trees, number, bounds.hives, aside),
             durable: number,
             room,
             faulted: false,
             bounds,
+            commits: CommitLog::Nothing,
+            outcomes,
         })
     }
 
@@ -331,6 +354,7 @@ impl Store {
             Event::Rollback { session, tx } => self.roll_back(session, tx),
             Event::Close { session, tx } => self.close(session, tx),
             Event::Outcome { session, tx } => self.outcome(session, tx),
+            Event::OutcomeOf { id } => self.outcome_of(&id),
             Event::FlushAsk => Ok(self.flush_ask()),
             Event::Acked { number } => self.acked(number),
             Event::Fold | Event::JournalStep | Event::FlusherStep { .. } | Event::TrimStep =>
@@ -574,39 +598,6 @@ impl Store {
         Ok(self.accept(ready))
     }
 
-    // what a commit leads to, all its memory being allocated
-    fn make_commit(&mut self, session: u32, tx: Tx, moment: u64) -> Result<Ready, Refusal>
-        requires free { fault self.old.machine ≡ None }
-        ensures made { PreparesEvent self.old.machine self.new.spare
-            (Event.CommitAccept session tx moment) result }
-        ensures machine { self.new.machine ≡ self.old.machine }
-        ensures retained { self.new.retained ≡ self.old.retained }
-    {
-        open(&self.sessions, session)?;
-        let pending = self.table.commit_ops(session, tx)?;
-        if pending.ops.is_empty() {
-            return Ok(Ready::Nothing(session, tx));
-        }
-        let made = self.table.commit_trees(session, tx, moment)?;
-        let room = self.room_with(pending.text_len)?;
-        let rebased = if made.carried {
-            self.table.rebase_others(tx.slot, pending.ops, moment)?
-        } else {
-            Vec::new(self.alloc)
-        };
-        let element = EncodedChange::of_ops(self.alloc, moment, pending.ops, pending.text_len)?;
-        self.history.reserve()?;
-        Ok(Ready::Commit(ReadyCommit {
-            session,
-            tx,
-            moment,
-            element,
-            trees: made.trees,
-            rebased,
-            room,
-        }))
-    }
-
     // an event that is prepared: it takes no memory
     fn accept(&mut self, ready: Ready) -> Reply
         requires ready { (event : Event) × IsReady self.old.machine self.old.spare event ready }
@@ -621,54 +612,6 @@ impl Store {
             Ready::Write(write) => self.accept_write(write),
             Ready::Nothing(session, tx) => self.commit_nothing(session, tx),
             Ready::Commit(commit) => self.accept_commit(commit),
-        }
-    }
-
-    // a transaction without operations commits as nothing
-    fn commit_nothing(&mut self, session: u32, tx: Tx) -> Reply
-        requires ready { IsReadyNothing self.old.machine session tx }
-        ensures step { (moment : ℕ) → Step self.old.machine
-            (Event.CommitAccept session tx moment) result self.new.machine }
-        ensures never_no_memory { ¬ (result ≡ reply.Refused NoMemory) }
-        ensures accepted { self.new.machine.accepted ≡ self.old.machine.accepted }
-        ensures retained { self.new.retained ≡ self.old.retained }
-    {
-        let Ok(_) = self.table.commit(session, tx) else {
-            unreachable!();
-        };
-        Reply::Awaits { number: 0 }
-    }
-
-    // a transaction's operations are accepted as one change
-    fn accept_commit(&mut self, commit: ReadyCommit) -> Reply
-        requires spare { 0 < self.old.spare }
-        requires ready { IsReadyCommit self.old.machine commit }
-        ensures step { Step self.old.machine
-            (Event.CommitAccept commit.session commit.tx commit.moment) result self.new.machine }
-        ensures trees { trees_now self.new.machine ≡ commit.trees }
-        ensures grows { self.new.machine.accepted
-            ≡ self.old.machine.accepted ++ commit.element ∷ [] }
-        ensures never_no_memory { ¬ (result ≡ reply.Refused NoMemory) }
-        ensures retained { self.new.retained ≡ self.old.retained }
-    {
-        let ReadyCommit {
-            session,
-            tx,
-            moment: _,
-            element: change,
-            trees,
-            rebased,
-            room,
-        } = commit;
-        self.table.accept(trees);
-        self.table.take_views(rebased);
-        let Ok(_ops) = self.table.commit(session, tx) else {
-            unreachable!();
-        };
-        self.history.push_reserved(change);
-        self.room = room;
-        Reply::Awaits {
-            number: self.table.number(),
         }
     }
 

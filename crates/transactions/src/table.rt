@@ -1,17 +1,21 @@
 //! The transactions of a store.
-ghost use Rattle.std.specs.Prelude.{◌≡◌, ◌⊎◌, ◌+◌, ◌<◌, ◌≤◌, ◌^◌, ◌-◌, ◌==◌, [], ℕ, length, vec_capacity, IfOk, IfSome, OnOk, OnErr, Some, None, Ok, true, false, IfErr};
+ghost use Rattle.std.specs.Prelude.{◌≡◌, ◌⊎◌, ◌+◌, ◌<◌, ◌≤◌, ◌^◌, ◌-◌, ◌==◌, [], ℕ, length, vec_capacity, nat_le, slice_set, List, IfOk, IfSome, OnOk, OnErr, Some, None, Ok, true, false, IfErr};
 ghost use Rattle.std.specs.Option.{option_map, option_copied};
 ghost use Rattle.refusals.specs.declared.limits.TheConstants.{MOST_ELEMENT_BYTES, MOST_TRANSACTIONS};
-ghost use Rattle.refusals.specs.declared.refusal.Refusal.TheVariants.{NoMemory, NoSeat, TooLarge, Conflict};
+ghost use Rattle.refusals.specs.declared.refusal.Refusal.TheVariants.{NoMemory, NoSeat, NotFound, TooLarge, Conflict};
 ghost use Rattle.reg_tree.specs.Encodings.{ops_encoded_len};
+ghost use Rattle.reg_tree.specs.Maps.{TreeMap, IsTree};
+ghost use Rattle.reg_tree.specs.Operations.{hive_of};
 ghost use Rattle.reg_tree.specs.Judgement.{legal, applied, any_outweighs};
 ghost use Rattle.conflicts.specs.Claims.{claim_of};
 ghost use Rattle.conflicts.specs.Holders.{IsClaimResult};
 ghost use Rattle.conflicts.specs.TreeOutlines.{AreCarriedOut};
 ghost use Rattle.store_model.specs.Ends.{refusal_of};
-ghost use Rattle.transactions.specs.Entries.{transaction_of, IsViewed, IsCommitted, IsSameEntry, HasRoom, MayAdd, AddsTo, IsNotAdded, IsJudgedOf, judge_refusal, IsRebasedTo, AreRebased};
+ghost use Rattle.store_model.specs.Invariant.{HivesAreNamable};
+ghost use Rattle.transactions.specs.Entries.{transaction_of, IsViewed, IsCommitted, IsSameEntry, HasRoom, MayAdd, AddsTo, IsNotAdded, IsJudgedOf, judge_refusal, IsRebasedTo, AreRebased, with_other_tree};
+ghost use Rattle.store_model.specs.declared.room.TheConstants.{MOST_OUTCOME_BYTES};
 ghost use Rattle.store_model.specs.Acts.{EndsTx, ClosesTx};
-ghost use Rattle.store_model.specs.Machine.{first_of, read_refusal, seen, slot_refusal, added_refusal_if};
+ghost use Rattle.store_model.specs.Machine.{first_of, refused_if, read_refusal, seen, slot_refusal, added_refusal_if};
 ghost use Rattle.transactions.specs.Tables.{TableRefuses, Begins, ChangesSlots, Writes, EndsWith, EndIsRefused, IsPending, is_of, holds_if, is_listed, MeetNone, rolled_back_if};
 ghost use Rattle.store_model.specs.Transactions.{at, own, is_active_outcome, EachSlotBecomes, SetsSlot, gone_with, inactive_refusal};
 
@@ -21,7 +25,7 @@ use conflicts::{ClaimOwner, ClaimTable, claims};
 use refusals::Refusal;
 use refusals::limits::MOST_TRANSACTIONS;
 use reg_names::Path;
-use reg_tree::{Op, Trees};
+use reg_tree::{Op, Tree, Trees};
 use slab::Slab;
 use std::alloc::{AllocError, Global};
 use std::marker::Model;
@@ -31,7 +35,7 @@ use uuid::Uuid;
 /// The transactions of a store, and the trees of now, which they see their own operations on.
 ///
 /// Contracts see the trees of now and the number of the last accepted change, the transaction in each slot, and how
-/// many were begun.
+/// many were begun; which hives operations may be on, and how many bytes of a change are set aside for its commit.
 pub struct TxTable {
     alloc: Global,
     trees: Trees,
@@ -39,6 +43,8 @@ pub struct TxTable {
     begun: u64,
     tx_slots: Slab<TxEntry>,
     claims: ClaimTable,
+    hives: usize,
+    aside: u64,
 }
 
 impl Drop for TxTable {
@@ -51,6 +57,8 @@ impl Drop for TxTable {
             begun: _,
             tx_slots: _,
             claims: _,
+            hives: _,
+            aside: _,
         } = self;
     }
 }
@@ -71,10 +79,12 @@ impl Model for TxTable {
       tx_slots =
           tx_slots_of inside.tx_slots.slots;
       begun = inside.begun;
+      hives = inside.hives;
+      aside = inside.aside;
     } };
 
     ghost invariant = { λ inside. EntriesAreSound inside.trees inside.number inside.begun
-        inside.tx_slots.slots inside.claims };
+        inside.hives inside.aside inside.tx_slots.slots inside.claims };
 }
 
 /// The outcome of a write in a transaction that was not refused.
@@ -133,9 +143,18 @@ impl Holders {
 }
 
 impl TxTable {
-    /// A table without transactions, for trees after the change of this number.
-    pub fn new(alloc: Global, trees: Trees, number: u64) -> TxTable
-        ensures { result ≡ record { trees = trees; number = number; tx_slots = []; begun = 0 } }
+    /// A table without transactions, for trees after the change of this number. Operations may be on the first `hives`
+    /// hives, and of each change `aside` bytes are set aside for its commit.
+    pub fn new(alloc: Global, trees: Trees, number: u64, hives: usize, aside: u64) -> TxTable
+        requires { aside ≤ MOST_OUTCOME_BYTES }
+        ensures { result ≡ record {
+          trees = trees;
+          number = number;
+          tx_slots = [];
+          begun = 0;
+          hives = hives;
+          aside = aside;
+        } }
     {
         TxTable {
             alloc,
@@ -144,6 +163,8 @@ impl TxTable {
             begun: 0,
             tx_slots: Slab::new(alloc),
             claims: ClaimTable::new(alloc),
+            hives,
+            aside,
         }
     }
 
@@ -182,8 +203,9 @@ impl TxTable {
     }
 
     /// Adds an operation to a transaction, at a moment. It is judged by what the transaction sees. Refused in this
-    /// order: with `NoSuchHandle`; with `NotActive`; if the operation is not legal; with `TooLarge` if the change would
-    /// be longer than 4,194,304 bytes; with `Conflict` if another active transaction's claim conflicts; and with
+    /// order: with `NoSuchHandle`; with `NotActive`; with `NotFound` if operations may not be on its hive; if the
+    /// operation is not legal; with `TooLarge` if the change would be longer than 4,194,304 bytes, with those that are
+    /// set aside; with `Conflict` if another active transaction's claim conflicts; and with
     /// `NoMemory`. The transaction then stays as it is.
     pub fn write(
         &mut self,
@@ -196,14 +218,19 @@ impl TxTable {
             Writes self.old session tx moment op written self.new) }
         ensures refused { IfErr result (λ refusal.
             TableRefuses self.old
-            (added_refusal_if self.old.trees self.old.tx_slots tx.slot op (own self.old.tx_slots session tx))
+            (first_of (inactive_refusal (own self.old.tx_slots session tx))
+            (first_of (refused_if (nat_le self.old.hives (hive_of op)) NotFound)
+            (added_refusal_if self.old.aside self.old.trees self.old.tx_slots tx.slot op (own self.old.tx_slots session tx))))
             refusal self.new) }
     {
         self.check_active(session, tx)?;
+        if usize::from(op.hive()) >= self.hives {
+            return Err(Refusal::NotFound);
+        }
         self.write_active(session, tx, moment, op)
     }
 
-    /// The same of a transaction that is known to be active.
+    /// The same of a transaction that is known to be active, and of a hive that operations may be on.
     pub(crate) fn write_active(
         &mut self,
         session: u32,
@@ -211,12 +238,13 @@ impl TxTable {
         moment: u64,
         op: Op,
     ) -> Result<TxWriteOutcome, Refusal>
-        requires { inactive_refusal (own self.old.tx_slots session tx) ≡ None }
+        requires active { inactive_refusal (own self.old.tx_slots session tx) ≡ None }
+        requires named { hive_of op < self.old.hives }
         ensures ok { IfOk result (λ written.
             Writes self.old session tx moment op written self.new) }
         ensures refused { IfErr result (λ refusal.
             TableRefuses self.old
-            (added_refusal_if self.old.trees self.old.tx_slots tx.slot op (own self.old.tx_slots session tx))
+            (added_refusal_if self.old.aside self.old.trees self.old.tx_slots tx.slot op (own self.old.tx_slots session tx))
             refusal self.new) }
     {
         match self.judge(session, tx, &op)? {
@@ -231,13 +259,13 @@ impl TxTable {
         ensures same { self.new ≡ self.old }
         ensures ok { IfOk result (IsJudgedOf self.old session tx op.now) }
         ensures refused { IfErr result (λ refusal.
-            (judge_refusal self.old.trees op.now (own self.old.tx_slots session tx) ≡ Some refusal)
+            (judge_refusal self.old.aside self.old.trees op.now (own self.old.tx_slots session tx) ≡ Some refusal)
             ⊎ (refusal ≡ NoMemory)) }
     {
         let Some(entry) = self.tx_slots.get_mut(tx.slot) else {
             unreachable!();
         };
-        entry.judge(self.alloc, &self.trees, self.number, op)
+        entry.judge(self.alloc, &self.trees, self.number, op, self.aside)
     }
 
     // adds a judged operation to the transaction in a slot, with the view after it, if no other active transaction
@@ -298,7 +326,8 @@ impl TxTable {
             ≡ own self.now.tx_slots session tx }
         ensures counted { IfSome result (λ entry. entry.now.length
             ≡ 16 + ops_encoded_len entry.now.ops.items) }
-        ensures short { IfSome result (λ entry. entry.now.length ≤ MOST_ELEMENT_BYTES) }
+        ensures short { IfSome result (λ entry. entry.now.length + self.now.aside ≤ MOST_ELEMENT_BYTES) }
+        ensures named { IfSome result (λ entry. HivesAreNamable self.now.hives entry.now.ops.items) }
         ensures viewed { IfSome result (λ entry. IsViewed self.now.trees self.now.number
             entry.now.ops.items entry.now.view) }
     {
@@ -333,11 +362,22 @@ impl TxTable {
         }
     }
 
+    /// The unit of work of a transaction.
+    pub fn unit(&self, session: u32, tx: Tx) -> Option<Uuid>
+        ensures { result ≡ option_map (λ one. one.id) (own self.now.tx_slots session tx) }
+    {
+        match self.own(session, tx) {
+            Some(entry) => Some(entry.id),
+            None => None,
+        }
+    }
+
     /// The operations of an active transaction, for the caller that accepts them as one change. Takes no memory.
     pub fn commit_ops(&self, session: u32, tx: Tx) -> Result<PendingOps<'_>, TxEndError>
         ensures ok { IfOk result (λ pending.
             IsPending (own self.now.tx_slots session tx) pending.ops.now pending.text_len) }
-        ensures short { IfOk result (λ pending. pending.text_len ≤ MOST_ELEMENT_BYTES) }
+        ensures short { IfOk result (λ pending. pending.text_len + self.now.aside ≤ MOST_ELEMENT_BYTES) }
+        ensures named { IfOk result (λ pending. HivesAreNamable self.now.hives pending.ops.now) }
         ensures refused { IfErr result (λ why.
             inactive_refusal (own self.now.tx_slots session tx) ≡ Some (refusal_of why)) }
     {
@@ -566,6 +606,35 @@ impl TxTable {
         let mut owners = Vec::new(self.alloc);
         owners.push(ClaimOwner(slot as u64))?;
         self.rebase_views(change, moment, &Holders { owners })
+    }
+
+    /// The views, by their slots, on the trees of now with another tree of the first hive that operations may not be on.
+    /// What a transaction sees of the others stays.
+    pub(crate) fn views_with(
+        &self,
+        views: Vec<Option<View>>,
+        tree: &Tree,
+    ) -> Result<Vec<Option<View>>, AllocError>
+        ensures { IfOk result (λ made. (now : List TreeMap) (number : ℕ) → IsTree tree.now →
+            AreRebased now number self.now.tx_slots views.items →
+            AreRebased (slice_set now self.now.hives tree.now) number self.now.tx_slots made.items) }
+    {
+        let mut made = Vec::with_capacity(self.alloc, views.len())?;
+        for view in &views {
+            made.push(self.view_with(view, tree)?)?;
+        }
+        Ok(made)
+    }
+
+    // a view, if there is one, with another tree of the first hive that operations may not be on
+    fn view_with(&self, view: &Option<View>, tree: &Tree) -> Result<Option<View>, AllocError>
+        ensures { IfOk result (λ made. made
+            ≡ option_map (with_other_tree self.now.hives tree.now) view.now) }
+    {
+        match view {
+            Some(view) => Ok(Some(view.with_tree(self.alloc, self.hives, tree)?)),
+            None => Ok(None),
+        }
     }
 
     // whether some view beside the one of a slot is worth rebasing on this many operations

@@ -1,5 +1,5 @@
 //! The trees that a transaction sees, and what becomes of them as the transaction writes and as others do.
-ghost use Rattle.std.specs.Prelude.{◌≡◌, ◌⊎◌, true, IfOk, IfSome, Some, None, Ok, Err, IfErr, slice_get};
+ghost use Rattle.std.specs.Prelude.{◌≡◌, ◌⊎◌, ◌<◌, length, true, IfOk, IfSome, Some, None, Ok, Err, IfErr, slice_get, slice_set};
 ghost use Rattle.refusals.specs.declared.refusal.Refusal.TheVariants.{NoMemory, NotFound};
 ghost use Rattle.reg_names.specs.Names.{folded_path};
 ghost use Rattle.reg_tree.specs.Judgement.{legal, applied_one};
@@ -13,7 +13,7 @@ ghost use Rattle.transactions.specs.Entries.{AreAfter, StaysViewAfter, IsFresh, 
 
 use refusals::Refusal;
 use reg_names::{Name, Path};
-use reg_tree::{Info, Op, Trees};
+use reg_tree::{Info, Op, Tree, Trees};
 use std::alloc::{AllocError, Global};
 use store_model::levels_made;
 
@@ -101,6 +101,25 @@ impl View {
             number,
             known: Known::Nothing,
             ops_since_read: 0,
+        })
+    }
+
+    /// The view with another tree of a hive.
+    pub(crate) fn with_tree(
+        &self,
+        alloc: Global,
+        hive: usize,
+        tree: &Tree,
+    ) -> Result<View, AllocError>
+        ensures { IfOk result (λ made. made
+            ≡ record self.now { trees = slice_set self.now.trees hive tree.now }) }
+    {
+        Ok(View {
+            trees: with_tree(alloc, &self.trees, hive, tree)?,
+            moment: self.moment,
+            number: self.number,
+            known: self.known,
+            ops_since_read: self.ops_since_read,
         })
     }
 
@@ -306,6 +325,32 @@ pub(crate) fn carry_out(
         }
     }
     Ok(Some(trees))
+}
+
+// trees with another tree of a hive
+fn with_tree(alloc: Global, trees: &Trees, hive: usize, tree: &Tree) -> Result<Trees, AllocError>
+    ensures { IfOk result (λ made. made ≡ slice_set trees.now hive tree.now) }
+{
+    let mut made = Vec::with_capacity(alloc, trees.len())?;
+    for at in 0..trees.len() {
+        made.push(tree_with(trees, at, hive, tree)?)?;
+    }
+    Ok(Trees::from_vec(made))
+}
+
+// the tree at a place, or the other one if it is that of the hive
+fn tree_with(trees: &Trees, at: usize, hive: usize, tree: &Tree) -> Result<Tree, AllocError>
+    requires { at < length trees.now }
+    ensures { IfOk result (λ made. slice_get (slice_set trees.now hive tree.now) at ≡ Some made) }
+{
+    if at == hive {
+        return tree.clone();
+    }
+    let _ = trees.len(); // for the prover
+    match trees.tree(at as u8) {
+        Some(kept) => kept.clone(),
+        None => unreachable!(),
+    }
 }
 
 // trees have their roots, and with a key its parent; no others are ever made

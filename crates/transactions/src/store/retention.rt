@@ -5,6 +5,7 @@ ghost use Rattle.store_model.specs.Machine.{folded, last_number, with_history};
 ghost use Rattle.transactions.specs.Histories.{IsShort};
 
 use super::Store;
+use crate::commit_log::CommitLog;
 use change_codec::EncodedChange;
 use std::snapshot::Snapshot;
 
@@ -72,6 +73,7 @@ impl Store {
         let recent = self.history.clear(self.alloc);
         self.opened = Snapshot::of(self.table.trees());
         self.before = self.table.number();
+        self.commits = CommitLog::Nothing;
         recent
     }
 }

@@ -34,7 +34,7 @@ returns-in_err-trees c =
     let why = c.in_err-trees.field-0.0 in
     unjudged_write m c.args.session c.args.moment c.args.op.now c.from_residual-in_err-trees.result why c.from_residual-in_err-trees.ensures.1
     (illegal_write m c.args.session c.args.moment c.args.op.now c.trees-now.result.now (Err why) why c.requires.free
-    (ap (λ (v : StoreView). is_open v.machine c.args.session) (sym c.self.view_is) ∙ c.in_ok-open.ensures.ok) (subst (λ hive. unnamed_refusal m hive ≡ None) c.hive.ensures c.in_ok-check_named.ensures.ok) (c.trees-now.ensures ∙ c.self.invariant.trees ∙ ap (λ (v : StoreView). trees_now v.machine) c.self.view_is)
+    (ap (λ (v : StoreView). is_open v.machine c.args.session) (sym c.self.view_is) ∙ c.in_ok-open.ensures.ok) (subst (λ hive. unnamed_refusal m hive ≡ None) c.hive.ensures c.in_ok-check_named.ensures.ok) (c.trees-now.ensures ∙ c.self.invariant.0.trees ∙ ap (λ (v : StoreView). trees_now v.machine) c.self.view_is)
     c.in_err-trees.ensures.refused refl)
 
 pub returns-in_err-room : goal.returns-in_err-room
@@ -44,7 +44,7 @@ returns-in_err-room c =
     let written = subst (IsWritten (legal c.trees-now.result.now c.args.op.now) (applied_one c.trees-now.result.now c.args.op.now c.args.moment, levels_made c.trees-now.result.now c.args.op.now)) c.in-Some.is c.in_ok-trees.ensures.ok in
     unjudged_write m c.args.session c.args.moment c.args.op.now c.from_residual-in_err-room.result why c.from_residual-in_err-room.ensures.1
     (crowded_write m c.args.session c.args.moment c.args.op.now c.trees-now.result.now (Err why) why c.saturating_add.result c.requires.free
-    (ap (λ (v : StoreView). is_open v.machine c.args.session) (sym c.self.view_is) ∙ c.in_ok-open.ensures.ok) (subst (λ hive. unnamed_refusal m hive ≡ None) c.hive.ensures c.in_ok-check_named.ensures.ok) (c.trees-now.ensures ∙ c.self.invariant.trees ∙ ap (λ (v : StoreView). trees_now v.machine) c.self.view_is)
+    (ap (λ (v : StoreView). is_open v.machine c.args.session) (sym c.self.view_is) ∙ c.in_ok-open.ensures.ok) (subst (λ hive. unnamed_refusal m hive ≡ None) c.hive.ensures c.in_ok-check_named.ensures.ok) (c.trees-now.ensures ∙ c.self.invariant.0.trees ∙ ap (λ (v : StoreView). trees_now v.machine) c.self.view_is)
     written.0 (cut_change c.args.moment c.args.op.now c.text_len.result c.saturating_add.result c.text_len.ensures c.saturating_add.ensures) c.in_err-room.ensures.refused refl)
 
 pub returns : goal.returns
@@ -53,7 +53,7 @@ returns c =
     let op = c.args.op.now in
     let moment = c.args.moment in
     let written = subst (IsWritten (legal c.trees-now.result.now op) (applied_one c.trees-now.result.now op moment, levels_made c.trees-now.result.now op)) c.in-Some.is c.in_ok-trees.ensures.ok in
-    let now = c.trees-now.ensures ∙ c.self.invariant.trees ∙ ap (λ (v : StoreView). trees_now v.machine) c.self.view_is in
+    let now = c.trees-now.ensures ∙ c.self.invariant.0.trees ∙ ap (λ (v : StoreView). trees_now v.machine) c.self.view_is in
     let exact = uncut m (element_encoded_len (change moment op)) c.saturating_add.result c.in_ok-room.ensures.ok.0 (cut_change moment op c.text_len.result c.saturating_add.result c.text_len.ensures c.saturating_add.ensures) in
     record {
       there = ap (λ (v : StoreView). is_open v.machine c.args.session) (sym c.self.view_is) ∙ c.in_ok-open.ensures.ok;

@@ -1,3 +1,4 @@
+use Rattle.transactions.specs.CommitLogs.{commits_in}
 use Rattle.std.proofs.Common.{◌≡◌, ◌+◌, sym, ◌∙◌, ap, subst, List, Ok}
 use Rattle.reg_tree.specs.Maps.{TreeMap}
 use Rattle.reg_tree.specs.declared.element.Element.{Element}
@@ -10,7 +11,7 @@ use Rattle.store_model.specs.Transactions.{at}
 use Rattle.store_model.specs.Machine.{change, trees_now, last_number}
 use Rattle.transactions.specs.Entries.{AreRebased}
 use Rattle.transactions.specs.Prepared.{IsJudgedWrite, JudgesWrite}
-use Rattle.transactions.specs.Stores.{TableMatchesMachine, StoreView, store_of}
+use Rattle.transactions.specs.Stores.{OutcomesMatch, TableMatchesMachine, StoreView, store_of}
 use Rattle.transactions.specs.Tables.{MeetNone, holds_if}
 use Rattle.transactions.proofs.Stored.{below_greatest}
 use Rattle.transactions.proofs.Views.{judged_of_legal}
@@ -35,9 +36,9 @@ returns-clause-made c =
       trees = judged.trees;
       holders = judged.holders;
       rebased = subst (λ (v : StoreView). AreRebased c.in-Some.judged.trees (last_number v.machine + 1) v.machine.tx_slots c.in_ok-rebased.rebased.items) c.self.view_is
-          (subst (λ n. AreRebased c.in-Some.judged.trees (n + 1) c.self.inside.table.tx_slots c.in_ok-rebased.rebased.items) c.self.invariant.number
+          (subst (λ n. AreRebased c.in-Some.judged.trees (n + 1) c.self.inside.table.tx_slots c.in_ok-rebased.rebased.items) c.self.invariant.0.number
           (subst (λ ts. AreRebased ts (c.self.inside.table.number + 1) c.self.inside.table.tx_slots c.in_ok-rebased.rebased.items)
-          (ap (λ (x : List Op). applied c.self.inside.table.trees x moment) (c.list.ensures.all ∙ c.in_ok-ops.ensures) ∙ ap (λ (t : List TreeMap). applied_one t op moment) (c.self.invariant.trees ∙ ap (λ (v : StoreView). trees_now v.machine) c.self.view_is) ∙ sym judged.trees) c.in_ok-rebased.ensures));
+          (ap (λ (x : List Op). applied c.self.inside.table.trees x moment) (c.list.ensures.all ∙ c.in_ok-ops.ensures) ∙ ap (λ (t : List TreeMap). applied_one t op moment) (c.self.invariant.0.trees ∙ ap (λ (v : StoreView). trees_now v.machine) c.self.view_is) ∙ sym judged.trees) c.in_ok-rebased.ensures));
       room = judged.room;
     }
 
@@ -46,13 +47,13 @@ judged c = subst (λ o. JudgesWrite c.args.self.now.machine c.args.session c.arg
 
 pub rebase_views-requires-clause-carried : goal.rebase_views-requires-clause-carried
 rebase_views-requires-clause-carried c =
-    let now = c.self.invariant.trees ∙ ap (λ (v : StoreView). trees_now v.machine) c.self.view_is in
+    let now = c.self.invariant.0.trees ∙ ap (λ (v : StoreView). trees_now v.machine) c.self.view_is in
     subst (λ ops. AreCarriedOut c.self.inside.table.trees ops c.args.moment) (sym (c.list.ensures.all ∙ c.in_ok-ops.ensures))
     (judged_of_legal c.self.inside.table.trees c.args.op (ap (λ (trees : List TreeMap). legal trees c.args.op) now ∙ (judged c).is_legal), tt)
 
 pub rebase_views-requires-clause-below : goal.rebase_views-requires-clause-below
 rebase_views-requires-clause-below c =
-    below_greatest c.args.self.now.machine _ c.self.inside.table.number (c.self.invariant.number ∙ ap (λ (v : StoreView). last_number v.machine) c.self.view_is) (judged c).roomy
+    below_greatest c.args.self.now.machine _ c.self.inside.table.number (c.self.invariant.0.number ∙ ap (λ (v : StoreView). last_number v.machine) c.self.view_is) (judged c).roomy
 
 pub rebase_views-requires-clause-holders : goal.rebase_views-requires-clause-holders
 rebase_views-requires-clause-holders c = λ slot none.
@@ -63,17 +64,17 @@ rebase_views-requires-clause-holders c = λ slot none.
 pub invariant_of-self : goal.invariant_of-self
 invariant_of-self c =
     let s = c.self.inside in
-    subst (λ changes. TableMatchesMachine s.table (store_of s.opened.value s.before changes s.sessions s.table s.durable s.room s.faulted s.bounds)) (sym c.reserve.ensures.changes) c.self.invariant
+    subst (λ changes. let m = store_of s.opened.value s.before changes (commits_in s.commits) s.sessions s.table s.durable s.room s.faulted s.bounds in TableMatchesMachine s.table m × OutcomesMatch s.outcomes m) (sym c.reserve.ensures.changes) c.self.invariant
 
 pub invariant_of-self-2 : goal.invariant_of-self-2
 invariant_of-self-2 c =
     let s = c.self.inside in
-    subst (λ changes. TableMatchesMachine s.table (store_of s.opened.value s.before changes s.sessions s.table s.durable s.room s.faulted s.bounds)) (sym c.reserve.ensures.changes) c.self.invariant
+    subst (λ changes. let m = store_of s.opened.value s.before changes (commits_in s.commits) s.sessions s.table s.durable s.room s.faulted s.bounds in TableMatchesMachine s.table m × OutcomesMatch s.outcomes m) (sym c.reserve.ensures.changes) c.self.invariant
 
 pub returns-in_err-reserve-clause-machine : goal.returns-in_err-reserve-clause-machine
 returns-in_err-reserve-clause-machine c =
     let s = c.self.inside in
-    ap (λ changes. store_of s.opened.value s.before changes s.sessions s.table s.durable s.room s.faulted s.bounds) c.reserve.ensures.changes ∙ ap (λ (v : StoreView). v.machine) c.self.view_is
+    ap (λ changes. store_of s.opened.value s.before changes (commits_in s.commits) s.sessions s.table s.durable s.room s.faulted s.bounds) c.reserve.ensures.changes ∙ ap (λ (v : StoreView). v.machine) c.self.view_is
 
 pub returns-in_err-reserve-clause-retained : goal.returns-in_err-reserve-clause-retained
 returns-in_err-reserve-clause-retained c = ap (λ n. c.self.inside.before + n) c.reserve.ensures.retained ∙ ap (λ (v : StoreView). v.retained) c.self.view_is
@@ -81,7 +82,7 @@ returns-in_err-reserve-clause-retained c = ap (λ n. c.self.inside.before + n) c
 pub returns-clause-machine : goal.returns-clause-machine
 returns-clause-machine c =
     let s = c.self.inside in
-    ap (λ changes. store_of s.opened.value s.before changes s.sessions s.table s.durable s.room s.faulted s.bounds) c.reserve.ensures.changes ∙ ap (λ (v : StoreView). v.machine) c.self.view_is
+    ap (λ changes. store_of s.opened.value s.before changes (commits_in s.commits) s.sessions s.table s.durable s.room s.faulted s.bounds) c.reserve.ensures.changes ∙ ap (λ (v : StoreView). v.machine) c.self.view_is
 
 pub returns-clause-retained : goal.returns-clause-retained
 returns-clause-retained c = ap (λ n. c.self.inside.before + n) c.reserve.ensures.retained ∙ ap (λ (v : StoreView). v.retained) c.self.view_is

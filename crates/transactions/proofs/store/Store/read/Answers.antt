@@ -19,4 +19,4 @@ returns-in_err-check_named c =
 pub returns-in_err-found : goal.returns-in_err-found
 returns-in_err-found c =
     missed c.args.self.now.machine c.args.session c.args.hive c.args.path.now c.args.question c.trees.result.now c.from_residual-in_err-found.result c.in_err-found.field-0.0
-    (ap (λ (v : StoreView). is_open v.machine c.args.session) (sym c.self.view_is) ∙ c.in_ok-open.ensures.ok) c.in_ok-check_named.ensures.ok (c.trees.ensures ∙ c.self.invariant.trees ∙ ap (λ (v : StoreView). trees_now v.machine) c.self.view_is) c.in_err-found.ensures.refused c.from_residual-in_err-found.ensures.1
+    (ap (λ (v : StoreView). is_open v.machine c.args.session) (sym c.self.view_is) ∙ c.in_ok-open.ensures.ok) c.in_ok-check_named.ensures.ok (c.trees.ensures ∙ c.self.invariant.0.trees ∙ ap (λ (v : StoreView). trees_now v.machine) c.self.view_is) c.in_err-found.ensures.refused c.from_residual-in_err-found.ensures.1

@@ -35,15 +35,15 @@ returns-then-len-ge-MOST_TRANSACTIONS-clause-refused c =
 
 pub invariant_of-self-2 : goal.invariant_of-self-2
 invariant_of-self-2 c =
-    subst (λ generation. EntriesAreSound c.self.inside.trees c.self.inside.number generation c.insert_reserved-slot.new.self.slots c.self.inside.claims) (sym (next c))
-    (kept_begun c.self.inside.trees c.self.inside.number c.self.inside.begun c.self.inside.claims c.self.inside.tx_slots c.insert_reserved-slot.new.self c.insert_reserved-slot.result c.begin-entry.result c.self.invariant
-    (changed c) (vacant c) (begun_entry c.self.inside.trees c.self.inside.number (c.self.inside.begun + 1) c.args.session c.args.id c.begin-entry.result (kept c) c.begin-entry.ensures.counted c.begin-entry.ensures.unseen)
+    subst (λ generation. EntriesAreSound c.self.inside.trees c.self.inside.number generation c.self.inside.hives c.self.inside.aside c.insert_reserved-slot.new.self.slots c.self.inside.claims) (sym (next c))
+    (kept_begun c.self.inside.trees c.self.inside.number c.self.inside.begun c.self.inside.hives c.self.inside.aside c.self.inside.claims c.self.inside.tx_slots c.insert_reserved-slot.new.self c.insert_reserved-slot.result c.begin-entry.result c.self.invariant
+    (changed c) (vacant c) (begun_entry c.self.inside.trees c.self.inside.number (c.self.inside.begun + 1) c.self.inside.hives c.self.inside.aside c.args.session c.args.id c.begin-entry.result (kept c) c.begin-entry.ensures.counted c.begin-entry.ensures.unseen c.self.invariant.few)
     (ap (λ (t : Transaction). t.ops) c.begin-entry.ensures.kept))
 
 pub returns-clause-ok : goal.returns-clause-ok
 returns-clause-ok c =
-    subst (λ (t : Table). Begins t c.args.session c.args.id (record { slot = c.insert_reserved-slot.result; generation = c.in-Some.generation }) (shown c.self.inside.trees c.self.inside.number c.in-Some.generation c.insert_reserved-slot.new.self.slots)) c.self.view_is
-    (subst (λ generation. Begins (shown c.self.inside.trees c.self.inside.number c.self.inside.begun c.self.inside.tx_slots.slots) c.args.session c.args.id (record { slot = c.insert_reserved-slot.result; generation = generation })
-    (shown c.self.inside.trees c.self.inside.number generation c.insert_reserved-slot.new.self.slots)) (sym (next c))
-    (begins c.self.inside.trees c.self.inside.number c.self.inside.begun c.self.inside.tx_slots c.insert_reserved-slot.new.self c.args.session c.args.id c.insert_reserved-slot.result c.begin-entry.result
+    subst (λ (t : Table). Begins t c.args.session c.args.id (record { slot = c.insert_reserved-slot.result; generation = c.in-Some.generation }) (shown c.self.inside.trees c.self.inside.number c.in-Some.generation c.self.inside.hives c.self.inside.aside c.insert_reserved-slot.new.self.slots)) c.self.view_is
+    (subst (λ generation. Begins (shown c.self.inside.trees c.self.inside.number c.self.inside.begun c.self.inside.hives c.self.inside.aside c.self.inside.tx_slots.slots) c.args.session c.args.id (record { slot = c.insert_reserved-slot.result; generation = generation })
+    (shown c.self.inside.trees c.self.inside.number generation c.self.inside.hives c.self.inside.aside c.insert_reserved-slot.new.self.slots)) (sym (next c))
+    (begins c.self.inside.trees c.self.inside.number c.self.inside.begun c.self.inside.hives c.self.inside.aside c.self.inside.tx_slots c.insert_reserved-slot.new.self c.args.session c.args.id c.insert_reserved-slot.result c.begin-entry.result
     (some_seat c.self.inside.begun c.self.inside.tx_slots.slots c.len.result c.len.ensures c.if-len-ge-MOST_TRANSACTIONS.false (below c)) (vacant c) (changed c) (kept c)))

@@ -28,16 +28,16 @@ changed c = Updates-with_value c.self.inside.tx_slots c.args.tx.slot c.end.new.s
 
 pub invariant_of-self : goal.invariant_of-self
 invariant_of-self c =
-    kept_ended c.self.inside.trees c.self.inside.number c.self.inside.begun c.self.inside.claims c.self.inside.tx_slots (with_value c.self.inside.tx_slots c.args.tx.slot c.end.new.self) c.args.tx.slot c.end.new.self c.drop_of.new.self
+    kept_ended c.self.inside.trees c.self.inside.number c.self.inside.begun c.self.inside.hives c.self.inside.aside c.self.inside.claims c.self.inside.tx_slots (with_value c.self.inside.tx_slots c.args.tx.slot c.end.new.self) c.args.tx.slot c.end.new.self c.drop_of.new.self
     c.drop_of.ensures c.self.invariant (changed c)
-    (ended_entry c.self.inside.trees c.self.inside.number c.self.inside.begun c.in-Some.entry.now c.end.new.self c.args.outcome (c.self.invariant.entries c.args.tx.slot c.in-Some.entry.now (there c)) c.end.ensures.kept c.end.ensures.length c.end.ensures.unseen)
+    (ended_entry c.self.inside.trees c.self.inside.number c.self.inside.begun c.self.inside.hives c.self.inside.aside c.in-Some.entry.now c.end.new.self c.args.outcome (c.self.invariant.entries c.args.tx.slot c.in-Some.entry.now (there c)) c.end.ensures.kept c.end.ensures.length c.end.ensures.unseen)
     (ap is_active c.end.ensures.kept ∙ c.requires)
 
 pub returns-clause-ok : goal.returns-clause-ok
 returns-clause-ok c =
     subst (λ (t : Table). EndsWith t c.args.session c.args.tx c.args.outcome c.end.result.items
-    (shown c.self.inside.trees c.self.inside.number c.self.inside.begun (with_value c.self.inside.tx_slots c.args.tx.slot c.end.new.self).slots)) c.self.view_is
-    (ends c.self.inside.trees c.self.inside.number c.self.inside.begun c.self.inside.tx_slots (with_value c.self.inside.tx_slots c.args.tx.slot c.end.new.self) c.args.session c.args.tx c.args.outcome c.end.result.items
+    (shown c.self.inside.trees c.self.inside.number c.self.inside.begun c.self.inside.hives c.self.inside.aside (with_value c.self.inside.tx_slots c.args.tx.slot c.end.new.self).slots)) c.self.view_is
+    (ends c.self.inside.trees c.self.inside.number c.self.inside.begun c.self.inside.hives c.self.inside.aside c.self.inside.tx_slots (with_value c.self.inside.tx_slots c.args.tx.slot c.end.new.self) c.args.session c.args.tx c.args.outcome c.end.result.items
     c.in-Some.entry.now c.end.new.self (there c) (its c).0 (its c).1 (changed c) c.end.ensures.kept (ap (λ (ops : Vec Op). ops.items) c.end.ensures.ops))
 
 pub returns-clause-spare : goal.returns-clause-spare

@@ -20,9 +20,9 @@ changed c = Updates-with_value c.self.inside.tx_slots c.args.owner c.end.new.sel
 
 pub invariant_of-self : goal.invariant_of-self
 invariant_of-self c =
-    kept_ended c.self.inside.trees c.self.inside.number c.self.inside.begun c.self.inside.claims c.self.inside.tx_slots (with_value c.self.inside.tx_slots c.args.owner c.end.new.self) c.args.owner c.end.new.self c.drop_of.new.self
+    kept_ended c.self.inside.trees c.self.inside.number c.self.inside.begun c.self.inside.hives c.self.inside.aside c.self.inside.claims c.self.inside.tx_slots (with_value c.self.inside.tx_slots c.args.owner c.end.new.self) c.args.owner c.end.new.self c.drop_of.new.self
     c.drop_of.ensures c.self.invariant (changed c)
-    (ended_entry c.self.inside.trees c.self.inside.number c.self.inside.begun c.in-Some.entry.now c.end.new.self RolledBack (c.self.invariant.entries c.args.owner c.in-Some.entry.now (there c)) c.end.ensures.kept c.end.ensures.length c.end.ensures.unseen)
+    (ended_entry c.self.inside.trees c.self.inside.number c.self.inside.begun c.self.inside.hives c.self.inside.aside c.in-Some.entry.now c.end.new.self RolledBack (c.self.invariant.entries c.args.owner c.in-Some.entry.now (there c)) c.end.ensures.kept c.end.ensures.length c.end.ensures.unseen)
     (ap is_active c.end.ensures.kept)
 
 pub returns-in-Some-clause-put : goal.returns-in-Some-clause-put

@@ -25,10 +25,10 @@ viewed c =
 
 pub invariant_of-self-2 : goal.invariant_of-self-2
 invariant_of-self-2 c =
-    kept_seen c.self.inside.trees c.self.inside.number c.self.inside.begun c.self.inside.claims c.self.inside.tx_slots (with_value c.self.inside.tx_slots c.args.slot c.take_view.new.self) c.args.slot c.in-Some.entry.now c.take_view.new.self c.self.invariant
+    kept_seen c.self.inside.trees c.self.inside.number c.self.inside.begun c.self.inside.hives c.self.inside.aside c.self.inside.claims c.self.inside.tx_slots (with_value c.self.inside.tx_slots c.args.slot c.take_view.new.self) c.args.slot c.in-Some.entry.now c.take_view.new.self c.self.invariant
     (Updates-with_value c.self.inside.tx_slots c.args.slot c.take_view.new.self (subst IsSome (sym (there c)) refl)) (there c)
-    (seen_entry c.self.inside.trees c.self.inside.number c.self.inside.begun c.in-Some.entry.now c.take_view.new.self (c.self.invariant.entries c.args.slot c.in-Some.entry.now (there c)) c.take_view.ensures.rest (viewed c))
+    (seen_entry c.self.inside.trees c.self.inside.number c.self.inside.begun c.self.inside.hives c.self.inside.aside c.in-Some.entry.now c.take_view.new.self (c.self.invariant.entries c.args.slot c.in-Some.entry.now (there c)) c.take_view.ensures.rest (viewed c))
     (ap transaction_of c.take_view.ensures.rest) (λ slot. ap (λ tx_slots. at tx_slots slot) (same c))
 
 pub returns : goal.returns
-returns c = ap (λ tx_slots. record { trees = c.self.inside.trees; number = c.self.inside.number; tx_slots = tx_slots; begun = c.self.inside.begun }) (same c) ∙ c.self.view_is
+returns c = ap (λ tx_slots. record { trees = c.self.inside.trees; number = c.self.inside.number; tx_slots = tx_slots; begun = c.self.inside.begun; hives = c.self.inside.hives; aside = c.self.inside.aside }) (same c) ∙ c.self.view_is

@@ -16,10 +16,10 @@ same c = same_tx_slots c.self.inside.tx_slots.slots c.args.tx.slot c.in-Some.ent
 
 pub invariant_of-self : goal.invariant_of-self
 invariant_of-self c =
-    kept_seen c.self.inside.trees c.self.inside.number c.self.inside.begun c.self.inside.claims c.self.inside.tx_slots (with_value c.self.inside.tx_slots c.args.tx.slot c.look_up.new.self) c.args.tx.slot c.in-Some.entry.now c.look_up.new.self c.self.invariant
+    kept_seen c.self.inside.trees c.self.inside.number c.self.inside.begun c.self.inside.hives c.self.inside.aside c.self.inside.claims c.self.inside.tx_slots (with_value c.self.inside.tx_slots c.args.tx.slot c.look_up.new.self) c.args.tx.slot c.in-Some.entry.now c.look_up.new.self c.self.invariant
     (Updates-with_value c.self.inside.tx_slots c.args.tx.slot c.look_up.new.self (subst IsSome (sym (there c)) refl)) (there c)
-    (seen_entry c.self.inside.trees c.self.inside.number c.self.inside.begun c.in-Some.entry.now c.look_up.new.self (c.self.invariant.entries c.args.tx.slot c.in-Some.entry.now (there c)) c.look_up.ensures.rest c.look_up.ensures.kept)
+    (seen_entry c.self.inside.trees c.self.inside.number c.self.inside.begun c.self.inside.hives c.self.inside.aside c.in-Some.entry.now c.look_up.new.self (c.self.invariant.entries c.args.tx.slot c.in-Some.entry.now (there c)) c.look_up.ensures.rest c.look_up.ensures.kept)
     (ap transaction_of c.look_up.ensures.rest) (λ slot. ap (λ tx_slots. at tx_slots slot) (same c))
 
 pub returns-clause-same : goal.returns-clause-same
-returns-clause-same c = ap (λ tx_slots. record { trees = c.self.inside.trees; number = c.self.inside.number; tx_slots = tx_slots; begun = c.self.inside.begun }) (same c) ∙ c.self.view_is
+returns-clause-same c = ap (λ tx_slots. record { trees = c.self.inside.trees; number = c.self.inside.number; tx_slots = tx_slots; begun = c.self.inside.begun; hives = c.self.inside.hives; aside = c.self.inside.aside }) (same c) ∙ c.self.view_is

@@ -11,7 +11,7 @@ pub returns-in_err-judged-clause-refused : goal.returns-in_err-judged-clause-ref
 returns-in_err-judged-clause-refused c =
     if_err c.from_residual.result c.in_err-judged.field-0.0 _ c.from_residual.ensures.1 (
       elim c.in_err-judged.ensures.refused [
-        | inl e ↦ inl (judged_refused c.args.self.now.trees c.args.self.now.tx_slots c.args.tx.slot c.args.op (own c.args.self.now.tx_slots c.args.session c.args.tx) c.in_err-judged.field-0.0 e)
+        | inl e ↦ inl (judged_refused c.args.self.now.aside c.args.self.now.trees c.args.self.now.tx_slots c.args.tx.slot c.args.op (own c.args.self.now.tx_slots c.args.session c.args.tx) c.in_err-judged.field-0.0 e)
         | inr m ↦ inr m
       ],
       c.in_err-judged.ensures.same,
@@ -20,7 +20,7 @@ returns-in_err-judged-clause-refused c =
 pub add-requires : goal.add-requires
 add-requires c =
     subst (λ (t : Table). MayAdd t c.args.tx.slot c.args.op c.in-Some.judged.made) (sym c.in_ok-judged.ensures.same)
-    (may_add c.args.self.now c.args.session c.args.tx c.args.op c.in-Some.judged (subst (IsJudgedOf c.args.self.now c.args.session c.args.tx c.args.op) c.in-Some.is c.in_ok-judged.ensures.ok))
+    (may_add c.args.self.now c.args.session c.args.tx c.args.op c.in-Some.judged (subst (IsJudgedOf c.args.self.now c.args.session c.args.tx c.args.op) c.in-Some.is c.in_ok-judged.ensures.ok) c.requires.named)
 
 judged : (c : goal.After-add) → IsJudgedOf c.args.self.now c.args.session c.args.tx c.args.op (Some c.in-Some.judged)
 judged c = subst (IsJudgedOf c.args.self.now c.args.session c.args.tx c.args.op) c.in-Some.is c.in_ok-judged.ensures.ok
