@@ -8,9 +8,9 @@ use std::io::{self, ErrorKind};
 use std::os::unix::fs::FileExt;
 use std::rt::Files;
 
-/// How many files the folder of a store may have: a journal, and two files for each of 16 hives. Others read as empty,
-/// and a write of one fails.
-pub const MOST_FILES: u32 = 33;
+/// How many files the folder of a store may have: a journal, two files for each of 16 hives, and two for the hive of
+/// outcomes. Others read as empty, and a write of one fails.
+pub const MOST_FILES: u32 = 35;
 
 /// The name in its folder of the file of this number: `journal`, `hive00.dat`, `hive00.log`, `hive01.dat`, and so on.
 #[derive(Clone, Copy, Debug, PartialEq, Eq)]

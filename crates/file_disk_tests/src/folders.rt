@@ -8,7 +8,7 @@ const JOURNAL: u32 = 0;
 
 const PRIMARY: u32 = 1;
 
-const LAST_LOG: u32 = 32;
+const LAST_LOG: u32 = 34;
 
 type Held<'a> = FileDisk<&'a HostRuntime, Unknown>;
 
@@ -48,7 +48,7 @@ fn what_is_written_is_there_by_its_name(rt: HostRuntime) -> Result<(), Fail> {
         Ok(([0, 0, 7, 8, 0, 0, 0, 0], 4))
     );
     let journal = fs::read(&rt, "/tmp/regtx_tests_files_written/journal")?;
-    let log = fs::read(&rt, "/tmp/regtx_tests_files_written/hive15.log")?;
+    let log = fs::read(&rt, "/tmp/regtx_tests_files_written/hive16.log")?;
     assert_eq!(&rt; (&journal[..], &log[..]), (&[0, 0, 7, 8][..], &[9][..]));
     fs::remove_dir_all(&rt, folder)?;
     Ok(())
@@ -84,7 +84,7 @@ fn a_file_behind_the_last_one_is_never_made(rt: HostRuntime) -> Result<(), Fail>
     assert_eq!(&rt; disk.write_at(LAST_LOG + 1, 0, &[1]), Err(Failed));
     assert_eq!(&rt; disk.cut(LAST_LOG + 1, 1), Err(Failed));
     assert_eq!(&rt; disk.len(LAST_LOG + 1), Ok(0));
-    assert!(&rt; fs::metadata(&rt, "/tmp/regtx_tests_files_behind/hive16.dat").is_err());
+    assert!(&rt; fs::metadata(&rt, "/tmp/regtx_tests_files_behind/hive17.dat").is_err());
     fs::remove_dir_all(&rt, folder)?;
     Ok(())
 }
