@@ -16,7 +16,7 @@ use Rattle.change_codec.proofs.Lengths.{element_length}
 use Rattle.change_codec.specs.ModelChanges.{TimedOp, timed, timed_element, timed_elements}
 use Rattle.commit_journal.specs.Encoding.{IsBody, body_bytes}
 use Rattle.commit_journal.specs.OnDisk.{with_elements}
-use Rattle.commit_journal.specs.Store.{Store, encodings, timed_at, timed_len, room_of}
+use Rattle.commit_journal.specs.Store.{encodings_after, timed_at, timed_len, room_of}
 use Rattle.commit_journal.specs.Extent.{ExtentMatches}
 use Rattle.commit_journal.specs.Handed.{OnHives, FitsIfThere}
 use Rattle.commit_journal.proofs.BodyBytes.{is_body}
@@ -118,22 +118,20 @@ module _ (hives : ℕ) (le : hives ≤ 256) where
   same_elements [] fit = refl
   same_elements (e ∷ es) fit = ap (λ (l : List (law.Element TimedOp)). timed_element e ∷ l) (same_elements es fit.1)
 
-  abbrev MadeOf : Store → ℕ → ℕ → List ℕ → List (law.Element TimedOp) → Type 0
-  MadeOf store first count encoding elements = IsBody (encodings store) (body_bytes first count encoding) (record { first = first; elements = elements })
+  abbrev MadeOf : List ℕ → ℕ → ℕ → List ℕ → List (law.Element TimedOp) → Type 0
+  MadeOf header first count encoding elements = IsBody (encodings_after header hives) (body_bytes first count encoding) (record { first = first; elements = elements })
 
   -- the bytes of a body of changes that fit are that body's
-  pub body_is : (store : Store) → store.hives ≡ hives → (first : ℕ) (es : List Element) → AllByRecursion (Fits hives) es → first < 256 ^ 8 → 16 + sum_by element_encoded_len es ≤ 8388608
-      → MadeOf store first (length es) (flat_map element_bytes es) (timed_elements es)
-  body_is store same first es fit small short =
+  pub body_is : (header : List ℕ) (first : ℕ) (es : List Element) → AllByRecursion (Fits hives) es → first < 256 ^ 8 → 16 + sum_by element_encoded_len es ≤ 8388608
+      → MadeOf header first (length es) (flat_map element_bytes es) (timed_elements es)
+  body_is header first es fit small short =
       let xs = with_proofs es fit in
       let n = same_count es fit in
       let t = same_encoding es fit in
       let size = encodings_length es in
-      let there : record { id = store.id; hives = hives } ≡ store = λ i. record { id = store.id; hives = sym same i } in
-      let whole : MadeOf (record { id = store.id; hives = hives }) first (length xs) (flat_map (λ (x : Fitting). element_bytes x.0) xs) (map (λ (x : Fitting). timed_element x.0) xs)
-      = is_body (encodings (record { id = store.id; hives = hives })) (λ (x : Fitting). element_bytes x.0) (λ (x : Fitting). timed_element x.0) (λ x rest. reads x.0 rest x.1) first xs small
+      let whole : MadeOf header first (length xs) (flat_map (λ (x : Fitting). element_bytes x.0) xs) (map (λ (x : Fitting). timed_element x.0) xs)
+      = is_body (encodings_after header hives) (λ (x : Fitting). element_bytes x.0) (λ (x : Fitting). timed_element x.0) (λ x rest. reads x.0 rest x.1) first xs small
       (omega (arith, n, as_many es, short)) (omega (arith, ap (λ (l : List ℕ). length l) t, size, short)) (omega (arith, ap (λ (l : List ℕ). length l) t, size, short)) in
-      subst (λ (s : Store). MadeOf s first (length es) (flat_map element_bytes es) (timed_elements es)) there
-      (subst (λ (l : List (law.Element TimedOp)). MadeOf (record { id = store.id; hives = hives }) first (length es) (flat_map element_bytes es) l) (same_elements es fit)
-      (subst (λ (l : List ℕ). MadeOf (record { id = store.id; hives = hives }) first (length es) l (map (λ (x : Fitting). timed_element x.0) xs)) t
-      (subst (λ (k : ℕ). MadeOf (record { id = store.id; hives = hives }) first k (flat_map (λ (x : Fitting). element_bytes x.0) xs) (map (λ (x : Fitting). timed_element x.0) xs)) n whole)))
+      subst (λ (l : List (law.Element TimedOp)). MadeOf header first (length es) (flat_map element_bytes es) l) (same_elements es fit)
+      (subst (λ (l : List ℕ). MadeOf header first (length es) l (map (λ (x : Fitting). timed_element x.0) xs)) t
+      (subst (λ (k : ℕ). MadeOf header first k (flat_map (λ (x : Fitting). element_bytes x.0) xs) (map (λ (x : Fitting). timed_element x.0) xs)) n whole))

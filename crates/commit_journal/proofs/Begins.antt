@@ -7,7 +7,8 @@ use Rattle.byteorder.specs.Endian.{little_bytes}
 use Rattle.byteorder.specs.Numbers.{length-bytes_low_first}
 use Rattle.change_codec.specs.Encoding.{element_bytes}
 use Rattle.reg_tree.specs.Encodings.{element_encoded_len}
-use Rattle.commit_journal.specs.Store.{Store, encodings}
+use Rattle.commit_journal.specs.Store.{Store, all_hives, header_bytes, encodings}
+use Rattle.commit_journal.proofs.StoreHives.{most_hives}
 use Rattle.commit_journal.specs.Handed.{OnHives, FitsIfThere, IsLongestPrefix, body_len}
 use Rattle.commit_journal.proofs.Batches.{encodings_length, all_taken, all_fit, body_is}
 use Rattle.reg_tree.specs.declared.element.Element.{Element}
@@ -77,17 +78,17 @@ body_bytes_length first count encodings =
     omega (arith, length-append (a ++ b ++ c) encodings, length-append (a ++ b) c, length-append a b, length-bytes_low_first 0 4 (16 + length encodings), length-bytes_low_first 0 8 first, length-bytes_low_first 0 4 count)
 
 -- the body of the chosen elements, and the content with it, are ready
-pub ready_of : (store : Store) → store.hives ≤ 256 → (now : Extent) (first : ℕ) (handed : List Element) (count size : ℕ) (chunk bytes : List ℕ) (ahead : Extent) (xs : List Element)
+pub ready_of : (store : Store) → store.hives ≤ 16 → (now : Extent) (first : ℕ) (handed : List Element) (count size : ℕ) (chunk bytes : List ℕ) (ahead : Extent) (xs : List Element)
     → chunk ≡ body_bytes first (length xs) (flat_map element_bytes xs) → AllByRecursion FitsIfThere xs → xs ≡ take count handed
-    → first < 256 ^ 8 → 0 < count → IsLongestPrefix count handed → AllByRecursion (OnHives store.hives) handed → size ≡ body_len (take count handed)
+    → first < 256 ^ 8 → 0 < count → IsLongestPrefix count handed → AllByRecursion (OnHives (all_hives store)) handed → size ≡ body_len (take count handed)
     → bytes ≡ chunk ++ 0 ∷ [] → content_of ahead ≡ with_elements (content_of now) (first - 1) (timed_elements xs) → ahead.gate ≡ now.gate + 1 + size
     → IsReady (encodings store) now first handed bytes ahead
 ready_of store le now first handed count size chunk bytes ahead xs encoding fit eq small some prefix there is bytes_are decodes gate =
-    let on_hives : AllByRecursion (OnHives store.hives) xs = subst (λ (l : List Element). AllByRecursion (OnHives store.hives) l) (sym eq) (all_taken (OnHives store.hives) count handed there) in
+    let on_hives : AllByRecursion (OnHives (all_hives store)) xs = subst (λ (l : List Element). AllByRecursion (OnHives (all_hives store)) l) (sym eq) (all_taken (OnHives (all_hives store)) count handed there) in
     let sums = ap (λ (l : List Element). sum_by element_encoded_len l) eq in
     let made : IsBody (encodings store) chunk (record { first = first; elements = timed_elements xs })
     = subst (λ (b : List ℕ). IsBody (encodings store) b (record { first = first; elements = timed_elements xs })) (sym encoding)
-    (body_is store.hives le store refl first xs (all_fit store.hives xs fit on_hives) small (omega (arith, sums, prefix.fits))) in
+    (body_is (all_hives store) (omega (arith, most_hives store.layout store.hives, le)) (header_bytes store) first xs (all_fit (all_hives store) xs fit on_hives) small (omega (arith, sums, prefix.fits))) in
     record {
       count = count;
       chunk = chunk;

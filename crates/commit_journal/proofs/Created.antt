@@ -1,6 +1,5 @@
 -- A journal that was made.
 use Rattle.std.proofs.Common.{◌≡◌, ℕ, List, [], ◌++◌, length, replicate, refl, sym, ◌∙◌, ap, subst, arith, length-append}
-use Rattle.std.specs.Prelude.{codes}
 use Rattle.std.proofs.lemmas.List.{length-replicate, nil_from_length}
 use Rattle.byteorder.specs.Endian.{little_bytes}
 use Rattle.byteorder.specs.Numbers.{length-bytes_low_first}
@@ -9,16 +8,23 @@ use Rattle.disk_model.specs.FileState.{FileState, at_rest, put, resized, Cuts, W
 use Rattle.disk_model.proofs.Leaves.{put_end}
 use Rattle.disk_model.proofs.Put.{length-resized}
 use Rattle.change_codec.specs.ModelChanges.{TimedOp}
-use Rattle.commit_journal.specs.Store.{Store, created_bytes, header_bytes, encodings}
+use Rattle.commit_journal.specs.Store.{Store, created_bytes, header_bytes, encodings, magic}
+use Rattle.commit_journal.specs.declared.store_layout.Layout.{Layout}
+use Rattle.commit_journal.specs.declared.store_layout.Layout.TheVariants.{HivesAlone, WithOutcomes}
 use Rattle.commit_journal.specs.OnDisk.{is_on, view_at, Phase.AtRest}
 use Rattle.commit_journal.proofs.Opening.{created}
+
+-- what a header begins with has 8 bytes
+pub magic_length : (layout : Layout) → length (magic layout) ≡ 8
+magic_length HivesAlone = refl
+magic_length WithOutcomes = refl
 
 -- a header is as long as the offset of the first gate
 pub header_length : (store : Store) → length store.id ≡ 16 → length (header_bytes store) ≡ 64
 header_length store size =
     let zeros : List ℕ = replicate 36 0 in
     let hives = little_bytes 4 store.hives in
-    omega (arith, size, length-append (codes "KTMJRNL1") (store.id ++ (hives ++ zeros)), length-append store.id (hives ++ zeros), length-append hives zeros, length-bytes_low_first 0 4 store.hives, length-replicate {A = ℕ} 36 0)
+    omega (arith, size, magic_length store.layout, length-append (magic store.layout) (store.id ++ (hives ++ zeros)), length-append store.id (hives ++ zeros), length-append hives zeros, length-bytes_low_first 0 4 store.hives, length-replicate {A = ℕ} 36 0)
 
 -- a file that is made empty and written is what was written
 pub created_file : (store : Store) (bytes : List ℕ) → bytes ≡ created_bytes store → (old empty mid new : FileState) → Cuts 0 old empty → Writes 0 bytes empty mid → Syncs mid new

@@ -10,7 +10,7 @@ use Rattle.crash_model.specs.Changes as law
 use Rattle.crash_model.specs.Promises.{Content, nothing, floor}
 use Rattle.change_codec.specs.ModelChanges.{TimedOp, timed_element, timed_elements}
 use Rattle.commit_journal.specs.Encoding.{Encodings, Body, read_elements, read_body, read_gates, continue_at, elements_of, are_numbered, content_of_bodies, decoded}
-use Rattle.commit_journal.specs.Store.{encodings}
+use Rattle.commit_journal.specs.Store.{encodings_after}
 use Rattle.commit_journal.specs.Journals.{content_of}
 use Rattle.commit_journal.specs.Numbered.{numbered, timed_changes}
 use Rattle.commit_journal.specs.Scans.{AreFirstOf, DecodeFirst}
@@ -131,23 +131,23 @@ firsts s es more base are below = (
   ap (λ n. numbered n s.elements) below ∙ ap (numbered base) are ∙ numbered_append base (timed_elements es) more ∙ ap (λ l. l ++ numbered (base + length (timed_elements es)) more) (timed_numbered base es),
 )
 
-pub first_partial : (id : List ℕ) (hives : ℕ) (file : List ℕ) (now : Extent) (es : List Element) (partial_body : PartialBody) (rest : List ℕ) (last : ℕ) → ElementsAreSound hives now (take partial_body.start es) es → PartialIsSound now es partial_body → IsLastOfPartial last es partial_body
-    → in_partial_body (encodings (record { id = id; hives = hives })) file now es partial_body rest → DecodeFirst (numbered_to last es) (encodings (record { id = id; hives = hives })) file
-first_partial id hives file now es partial_body rest last keeps part tied here s decodes =
+pub first_partial : (header : List ℕ) (hives : ℕ) (file : List ℕ) (now : Extent) (es : List Element) (partial_body : PartialBody) (rest : List ℕ) (last : ℕ) → ElementsAreSound hives now (take partial_body.start es) es → PartialIsSound now es partial_body → IsLastOfPartial last es partial_body
+    → in_partial_body (encodings_after header hives) file now es partial_body rest → DecodeFirst (numbered_to last es) (encodings_after header hives) file
+first_partial header hives file now es partial_body rest last keeps part tied here s decodes =
     let body = drop partial_body.start es in
     let before = take partial_body.start es in
-    let f = first_in_body (encodings (record { id = id; hives = hives })) file (content_of now) s now.gate partial_body.size partial_body.first (timed_elements body) partial_body.left partial_body.count rest here decodes in
+    let f = first_in_body (encodings_after header hives) file (content_of now) s now.gate partial_body.size partial_body.first (timed_elements body) partial_body.left partial_body.count rest here decodes in
     let whole : timed_elements before ++ timed_elements body ≡ timed_elements es = sym (map-append timed_element before body) ∙ ap timed_elements (take-append-drop partial_body.start es) in
     let are : s.elements ≡ timed_elements es ++ f.0
     = f.1 ∙ ap (λ l. l ++ (timed_elements body ++ f.0)) keeps.ghost_log ∙ sym (append_assoc (timed_elements before) (timed_elements body) f.0) ∙ ap (λ l. l ++ f.0) whole in
     firsts s es f.0 (last - length es) are (omega (arith, f.2, part.ends, tied, part.number, ap length keeps.ghost_log, length-map before timed_element, ap length (take-append-drop partial_body.start es), length-append before body))
 
-pub first_read : (id file rest : List ℕ) (hives : ℕ) (now : Extent) (es : List Element) (next : NextField) (last : ℕ) → sound_at hives now es next → numbers_agree_at last now es next → reading_at (encodings (record { id = id; hives = hives })) file now es next rest
-    → DecodeFirst (numbered_to last es) (encodings (record { id = id; hives = hives })) file
-first_read id file rest hives now es next last keeps tied here s decodes = by_next next keeps tied here
+pub first_read : (header file rest : List ℕ) (hives : ℕ) (now : Extent) (es : List Element) (next : NextField) (last : ℕ) → sound_at hives now es next → numbers_agree_at last now es next → reading_at (encodings_after header hives) file now es next rest
+    → DecodeFirst (numbered_to last es) (encodings_after header hives) file
+first_read header file rest hives now es next last keeps tied here s decodes = by_next next keeps tied here
   where
     t : Encodings TimedOp
-    t = encodings (record { id = id; hives = hives })
+    t = encodings_after header hives
 
     at_gate : ElementsAreSound hives now es es → last ≡ now.last → (at : List ℕ) → AtGate t file (content_of now) now.gate at → AreFirstOf (numbered_to last es) s
     at_gate sound same at gate = by_elements es refl
@@ -167,8 +167,8 @@ first_read id file rest hives now es next last keeps tied here s decodes = by_ne
     by_next : (n : NextField) → sound_at hives now es n → numbers_agree_at last now es n → reading_at t file now es n rest → AreFirstOf (numbered_to last es) s
     by_next Gate k n h = at_gate k n rest h
     by_next Head k n h = at_gate k n (0xc3 ∷ rest) h
-    by_next (Size partial_body) k n h = first_partial id hives file now es partial_body rest last k.0 k.1.0 n h s decodes
-    by_next (Encoding partial_body len) k n h = first_partial id hives file now es partial_body rest last k.0 k.1.0 n h.0 s decodes
+    by_next (Size partial_body) k n h = first_partial header hives file now es partial_body rest last k.0 k.1.0 n h s decodes
+    by_next (Encoding partial_body len) k n h = first_partial header hives file now es partial_body rest last k.0 k.1.0 n h.0 s decodes
     by_next Done k n h = by_elements es refl
       where
         is : s ≡ content_of now
@@ -184,8 +184,8 @@ first_read id file rest hives now es next last keeps tied here s decodes = by_ne
             firsts s es [] (last - length es) are (omega (arith, ap (λ (c : Content TimedOp). c.below) is, floor_some 0 now.below (content_of now).elements long, n, now.kept.last_is, ap length k.ghost_log, length-map es timed_element))
 
 -- the same of a reader
-pub first_of_reader : (id file rest : List ℕ) (r : Reader) → sound_at r.hives r.on_device (read_by r) r.next → numbers_agree_at r.last r.on_device (read_by r) r.next → IsReading id file r rest → DecodeFirst (taken_by r) (encodings_for id r) file
-first_of_reader id file rest r = first_read id file rest r.hives r.on_device (read_by r) r.next r.last
+pub first_of_reader : (header file rest : List ℕ) (r : Reader) → sound_at r.hives r.on_device (read_by r) r.next → numbers_agree_at r.last r.on_device (read_by r) r.next → IsReading header file r rest → DecodeFirst (taken_by r) (encodings_for header r) file
+first_of_reader header file rest r = first_read header file rest r.hives r.on_device (read_by r) r.next r.last
 
 -- the numbers of all that was read, at the end
 pub all_numbered : (hives : ℕ) (now : Extent) (es : List Element) (last : ℕ) → ElementsAreSound hives now es es → last ≡ now.last → numbered_to last es ≡ numbered (content_of now).below es

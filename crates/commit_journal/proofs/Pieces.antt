@@ -1,5 +1,6 @@
 -- A part of a file, after what was read of it.
-use Rattle.std.proofs.Common.{◌≡◌, inl, inr, ⊎_elim, ℕ, ◌+◌, ◌-◌, ◌≤◌, List, ◌++◌, length, take, drop, sym, ◌∙◌, ap, append_assoc, take-append-drop, arith, length-take, length-drop}
+use Rattle.std.proofs.Common.{◌≡◌, inl, inr, ⊎_elim, ℕ, ◌+◌, ◌-◌, ◌≤◌, List, ◌++◌, length, take, drop, Result, Ok, Err, sym, ◌∙◌, ap, append_assoc, take-append-drop, arith, length-take, length-drop}
+use Rattle.std.specs.Prelude.{MatchResult, IfOk, IfErr}
 use Rattle.refusals.specs.Answers.{RefusedFor}
 use Rattle.refusals.specs.declared.refusal.Refusal.{Refusal}
 use Rattle.refusals.specs.declared.refusal.Refusal.TheVariants.{JournalDamaged}
@@ -40,6 +41,15 @@ fails_on F F' D D' why f d by = ⊎_elim (λ none. inl none) (λ other. inr (⊎
 -- a refusal of what was handed in, as one of the file
 pub fails_of : (F D D' : Type 0) (why : Refusal) → (D → D') → RefusedFor JournalDamaged D why → FailsBy F D' why
 fails_of F D D' why d by = ⊎_elim (λ damaged. inr (inr (damaged.0, d damaged.1))) (λ none. inl none) by
+
+-- what an answer says of its value, and of its refusal
+pub value_of : {X : Type 0} (r : Result X Refusal) (P Q : X → Type 0) (R : Refusal → Type 0) → ((x : X) → P x → Q x) → MatchResult r P R → IfOk r Q
+value_of (Ok x) P Q R f said = f x said
+value_of (Err why) P Q R f said = tt
+
+pub refusal_of : {X : Type 0} (r : Result X Refusal) (P : X → Type 0) (F D D' : Type 0) → (D → D') → MatchResult r P (RefusedFor JournalDamaged D) → IfErr r (FailsBy F D')
+refusal_of (Ok x) P F D D' d said = tt
+refusal_of (Err why) P F D D' d said = fails_of F D D' why d said
 
 pub front_there : (file : List ℕ) (w : ReadBuffer) → rest_of file w ≡ file → 64 ≤ length (held w) → take 64 (held w) ≡ take 64 file
 front_there file w rest long = sym (take-append-le 64 (held w) (drop w.at file) long) ∙ ap (take 64) rest

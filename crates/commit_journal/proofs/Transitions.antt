@@ -17,7 +17,7 @@ use Rattle.crash_model.specs.Promises.{Content, nothing, floor, top}
 use Rattle.change_codec.specs.Encoding.{element_at, Fits}
 use Rattle.change_codec.specs.ModelChanges.{TimedOp, timed_element, timed_elements}
 use Rattle.commit_journal.specs.Encoding.{Encodings, decoded}
-use Rattle.commit_journal.specs.Store.{encodings, timed_at}
+use Rattle.commit_journal.specs.Store.{encodings_after, timed_at}
 use Rattle.commit_journal.specs.OnDisk.{with_elements}
 use Rattle.commit_journal.specs.Journals.{content_of}
 use Rattle.commit_journal.specs.Reading.{AtGate, InBody, FileDecodesTo, BodyMayFollow, in_partial_body, ElementsAreSound, PartialIsSound}
@@ -90,9 +90,9 @@ rest_is n bytes = take_all (length bytes - n) (drop n bytes) (omega (arith, leng
 pub rest_on : (n k : ℕ) (bytes : List ℕ) → drop k (take (length bytes - n) (drop n bytes)) ≡ drop (n + k) bytes
 rest_on n k bytes = ap (drop k) (rest_is n bytes) ∙ drop-drop k n bytes ∙ ap (λ (m : ℕ). drop m bytes) (omega arith)
 
-module _ (id : List ℕ) (hives : ℕ) (le : hives ≤ 256) (file : List ℕ) (now : Extent) where
+module _ (header : List ℕ) (hives : ℕ) (le : hives ≤ 256) (file : List ℕ) (now : Extent) where
   abbrev t : Encodings TimedOp
-  t = encodings (record { id = id; hives = hives })
+  t = encodings_after header hives
 
   -- a gate
   pub gate_shut : (bytes behind : List ℕ) (gate : ℕ) (tail : List ℕ) → bytes ≡ gate ∷ tail → gate ≢ 0xc3 → AtGate t file (content_of now) now.gate (bytes ++ behind) → FileDecodesTo t file now

@@ -40,7 +40,7 @@ changes_of j = logged_changes j.on_device.ghost_log
 
 -- the store of the journal
 abbrev pub store_of : Journal → Store
-store_of j = record { id = j.id; hives = j.hives }
+store_of j = record { id = j.id; hives = j.hives; layout = j.layout }
 
 abbrev pub encodings_of : Journal → Encodings TimedOp
 encodings_of j = encodings (store_of j)

@@ -13,7 +13,7 @@ use Rattle.change_codec.specs.Encoding.{Fits}
 use Rattle.change_codec.specs.ModelChanges.{TimedOp, timed_elements}
 use Rattle.commit_journal.specs.declared.layout.TheConstants.{OPEN_GATE, MOST_BODY_BYTES}
 use Rattle.commit_journal.specs.Encoding.{Encodings, Body, read_elements, read_body, PrefixEncodes, decoded}
-use Rattle.commit_journal.specs.Store.{encodings}
+use Rattle.commit_journal.specs.Store.{encodings_after}
 use Rattle.commit_journal.specs.OnDisk.{is_on, view_at, Phase.AtRest}
 use Rattle.commit_journal.specs.Numbered.{NumberedChange, numbered}
 use Rattle.commit_journal.specs.GhostLog.{logged_changes, logged_elements}
@@ -73,12 +73,12 @@ abbrev pub read_by : Reader → List Element
 read_by r = logged_changes r.read
 
 abbrev pub encodings_for : List ℕ → Reader → Encodings TimedOp
-encodings_for id r = encodings (record { id = id; hives = r.hives })
+encodings_for header r = encodings_after header r.hives
 
--- The reading of this file, as the journal of a store with this id, has reached these bytes, which are still to be
+-- The reading of this file, as the journal of a store with this header, has reached these bytes, which are still to be
 -- read.
 abbrev pub IsReading : List ℕ → List ℕ → Reader → List ℕ → Type 0
-IsReading id file r rest = reading_at (encodings_for id r) file r.on_device (read_by r) r.next rest
+IsReading header file r rest = reading_at (encodings_for header r) file r.on_device (read_by r) r.next rest
 
 -- A body with `count` elements from the number `first` on may follow the durable content.
 pub record BodyMayFollow {Op : Type 0} (most : ℕ) (now : Content Op) (first count : ℕ) : Type 0 where
@@ -152,15 +152,15 @@ TakesOn {S} Took was is old new = (start : S) → Took start was (taken_by old) 
 
 -- what holds of each file and the encodings of its store, if the reading of the file has reached these bytes
 abbrev pub FromBytes : Reader → NextField → List ℕ → (Encodings TimedOp → List ℕ → Type 0) → Type 0
-FromBytes r next bytes Holds = (id file behind : List ℕ) → reading_at (encodings_for id r) file r.on_device (read_by r) next (bytes ++ behind) → Holds (encodings_for id r) file
+FromBytes r next bytes Holds = (header file behind : List ℕ) → reading_at (encodings_for header r) file r.on_device (read_by r) next (bytes ++ behind) → Holds (encodings_for header r) file
 
 -- the same, if it is known how many bytes the file has from these on
 abbrev pub FromReader : Reader → List ℕ → ℕ → (Encodings TimedOp → List ℕ → Type 0) → Type 0
-FromReader r bytes left Holds = (id file behind : List ℕ) → left ≡ length bytes + length behind → IsReading id file r (bytes ++ behind) → Holds (encodings_for id r) file
+FromReader r bytes left Holds = (header file behind : List ℕ) → left ≡ length bytes + length behind → IsReading header file r (bytes ++ behind) → Holds (encodings_for header r) file
 
 -- the same for a file whose next bytes are in a buffer
 abbrev pub FromBuffer : Type 0 → List ℕ → ReadBuffer → Reader → (Encodings TimedOp → List ℕ → Type 0) → Type 0
-FromBuffer faithful file buffer r Holds = faithful → buffer.end_of_file ≡ length file → (id : List ℕ) → IsReading id file r (rest_of file buffer) → Holds (encodings_for id r) file
+FromBuffer faithful file buffer r Holds = faithful → buffer.end_of_file ≡ length file → (header : List ℕ) → IsReading header file r (rest_of file buffer) → Holds (encodings_for header r) file
 
 -- ---- what is wanted
 

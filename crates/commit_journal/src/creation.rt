@@ -13,6 +13,8 @@ ghost use Rattle.commit_journal.specs.Store.{created_bytes};
 use crate::extent::Extent;
 use crate::journal::Journal;
 use crate::layout::CLOSED_GATE;
+use crate::scan::StoreHeader;
+use crate::store_layout::Layout;
 use crate::{device, header};
 use disk_model::{Disk, Failed};
 use refusals::Refusal;
@@ -25,25 +27,34 @@ pub struct JournalImage {
     pub(crate) alloc: Global,
     pub(crate) id: Uuid,
     pub(crate) hives: u8,
+    pub(crate) layout: Layout,
     pub(crate) encoding: Vec<u8>,
     ghost size: { length id ≡ 16 },
-    ghost whole: { encoding.items ≡ created_bytes (record { id = id; hives = hives }) },
+    ghost few: { hives ≤ MOST_HIVES },
+    ghost whole: { encoding.items ≡ created_bytes (record { id = id; hives = hives; layout = layout }) },
 }
 
 impl JournalImage {
-    /// The empty journal of a store with this id and 1 to 16 hives.
-    pub fn of(alloc: Global, id: Uuid, hives: u8) -> Result<JournalImage, AllocError>
+    /// The empty journal of a store with this id and layout, in which calls name 1 to 16 hives.
+    pub fn of(
+        alloc: Global,
+        id: Uuid,
+        hives: u8,
+        layout: Layout,
+    ) -> Result<JournalImage, AllocError>
         requires size { length id ≡ 16 }
         requires hives { (1 ≤ hives) × (hives ≤ MOST_HIVES) }
         ensures id { IfOk result (λ image. image.id ≡ id) }
         ensures hives { IfOk result (λ image. image.hives ≡ hives) }
+        ensures layout { IfOk result (λ image. image.layout ≡ layout) }
     {
-        let mut encoding = header::encode(alloc, id, hives)?;
+        let mut encoding = header::encode(alloc, id, hives, layout)?;
         encoding.push(CLOSED_GATE)?;
         Ok(JournalImage {
             alloc,
             id,
             hives,
+            layout,
             encoding,
         })
     }
@@ -56,7 +67,7 @@ impl JournalImage {
     pub fn write<D: Disk>(self, disk: &mut D) -> Result<Journal, Failed>
         ensures empty { IfOk result (λ journal. choice_of journal ≡ settled nothing) }
         ensures store { IfOk result (λ journal.
-            store_of journal ≡ record { id = self.id; hives = self.hives }) }
+            store_of journal ≡ record { id = self.id; hives = self.hives; layout = self.layout }) }
         ensures on { IfOk result (λ journal. D.faithful disk.new →
             is_on (encodings_of journal) (journal_view journal) (D.state_at disk.new (D.clock disk.new) 0)) }
         ensures file { IfOk result (λ journal. D.faithful disk.new →
@@ -71,8 +82,13 @@ impl JournalImage {
         device::clear(disk)?;
         device::write(disk, 0, &self.encoding)?;
         device::sync(disk)?;
+        let store = StoreHeader {
+            id: self.id,
+            hives: self.hives,
+            layout: self.layout,
+        };
         let nothing = Extent::nothing();
-        Ok(Journal::found(self.alloc, self.id, self.hives, nothing))
+        Ok(Journal::found(self.alloc, store, nothing))
     }
 }
 
@@ -87,12 +103,13 @@ impl Journal {
         disk: &mut D,
         id: Uuid,
         hives: u8,
+        layout: Layout,
     ) -> Result<Journal, Refusal>
         requires size { length id ≡ 16 }
         requires hives { (1 ≤ hives) × (hives ≤ MOST_HIVES) }
         ensures empty { IfOk result (λ journal. choice_of journal ≡ settled nothing) }
         ensures store { IfOk result (λ journal.
-            store_of journal ≡ record { id = id; hives = hives }) }
+            store_of journal ≡ record { id = id; hives = hives; layout = layout }) }
         ensures on { IfOk result (λ journal. D.faithful disk.new →
             is_on (encodings_of journal) (journal_view journal) (D.state_at disk.new (D.clock disk.new) 0)) }
         ensures file { IfOk result (λ journal. D.faithful disk.new →
@@ -105,7 +122,7 @@ impl Journal {
             (D.clock disk.new) }
         ensures faithful { D.faithful disk.new → D.faithful disk.old }
     {
-        let image = JournalImage::of(alloc, id, hives)?;
+        let image = JournalImage::of(alloc, id, hives, layout)?;
         Ok(image.write(disk)?)
     }
 }

@@ -4,7 +4,9 @@ ghost use Rattle.refusals.specs.Answers.{RefusedFor};
 ghost use Rattle.refusals.specs.declared.refusal.Refusal.TheVariants.{JournalDamaged};
 ghost use Rattle.commit_journal.specs.Store.{Store, IsStore, header_bytes};
 
-use crate::layout::{EMPTY_ROOM, HEADER_BYTES, HIVES_AT, ID_AT};
+use crate::layout::{EMPTY_ROOM, HEADER_BYTES, HIVES_AT, ID_AT, MARK_AT};
+use crate::scan::StoreHeader;
+use crate::store_layout::Layout;
 use byteorder::{ByteOrder, LittleEndian};
 use change_codec::put_u32;
 use refusals::Refusal;
@@ -12,32 +14,34 @@ use refusals::limits::MOST_HIVES;
 use std::alloc::{AllocError, Global};
 use uuid::Uuid;
 
-/// The bytes that each journal begins with.
-const MAGIC: &[u8; 8] = b"KTMJRNL1";
-
 /// The zeros after the fields of a header.
 const ZEROS: [u8; 36] = [0; 36];
 
 /// The header of a store's journal. There is room for a gate after it.
-pub(crate) fn encode(alloc: Global, id: Uuid, hives: u8) -> Result<Vec<u8>, AllocError>
+pub(crate) fn encode(
+    alloc: Global,
+    id: Uuid,
+    hives: u8,
+    layout: Layout,
+) -> Result<Vec<u8>, AllocError>
     ensures { IfOk result (λ header. header.items
-        ≡ header_bytes (record { id = id; hives = hives })) }
+        ≡ header_bytes (record { id = id; hives = hives; layout = layout })) }
 {
     let mut header = Vec::with_capacity(alloc, EMPTY_ROOM as usize)?;
-    header.extend_from_slice(MAGIC)?;
+    header.extend_from_slice(&layout.magic())?;
     header.extend_from_slice(id.as_bytes())?;
     put_u32(&mut header, u32::from(hives))?;
     header.extend_from_slice(&ZEROS)?;
     Ok(header)
 }
 
-/// The id and the number of hives of the store whose header the bytes begin with. Refused with `JournalDamaged` only if
-/// they begin with no store's header, and with `NoMemory`.
-pub(crate) fn decode(alloc: Global, bytes: &[u8]) -> Result<(Uuid, u8), Refusal>
+/// The store whose header the bytes begin with. Refused with `JournalDamaged` only if they begin with the header of no
+/// store, of whatever layout, and with `NoMemory`.
+pub(crate) fn decode(alloc: Global, bytes: &[u8]) -> Result<StoreHeader, Refusal>
     requires { 64 ≤ length bytes.now }
     ensures { MatchResult result
-        (λ got. IsStore (record { id = got.0; hives = got.1 })
-        × (take 64 bytes.now ≡ header_bytes (record { id = got.0; hives = got.1 })))
+        (λ got. IsStore (record { id = got.id; hives = got.hives; layout = got.layout })
+        × (take 64 bytes.now ≡ header_bytes (record { id = got.id; hives = got.hives; layout = got.layout })))
         (RefusedFor JournalDamaged ((store : Store) → IsStore store →
         ¬ (take 64 bytes.now ≡ header_bytes store))) }
 {
@@ -49,9 +53,10 @@ pub(crate) fn decode(alloc: Global, bytes: &[u8]) -> Result<(Uuid, u8), Refusal>
     let mut id = [0; 16];
     id.copy_from_slice(&bytes[ID_AT..HIVES_AT]);
     let id = Uuid::from_bytes(id);
-    let header = encode(alloc, id, hives)?;
+    let layout = Layout::of_mark(bytes[MARK_AT]);
+    let header = encode(alloc, id, hives, layout)?;
     if bytes[..HEADER_BYTES] != header[..] {
         return Err(Refusal::JournalDamaged);
     }
-    Ok((id, hives))
+    Ok(StoreHeader { id, hives, layout })
 }

@@ -11,11 +11,13 @@ ghost use Rattle.crash_model.specs.StepAnswers.{Says};
 ghost use Rattle.commit_journal.specs.OnDisk.{is_on, with_elements, view_at};
 ghost use Rattle.commit_journal.specs.GhostLog.{logged_changes, logged_elements};
 ghost use Rattle.commit_journal.specs.OnDisk as phase;
-ghost use Rattle.commit_journal.specs.Store.{encodings, room_of};
+ghost use Rattle.commit_journal.specs.Store.{all_hives, encodings, room_of};
 ghost use Rattle.commit_journal.specs.Handed.{IsHanded, IsLongestPrefix};
 
 use crate::extent::Extent;
 use crate::layout::{CLOSED_GATE, FIRST_GATE, OPEN_GATE};
+use crate::scan::StoreHeader;
+use crate::store_layout::Layout;
 use crate::{body, device};
 use change_codec::EncodedChange;
 use disk_model::{Disk, Progress};
@@ -59,25 +61,28 @@ pub struct Journal {
     alloc: Global,
     id: Uuid,
     hives: u8,
+    layout: Layout,
     on_device: Extent,
     phase: Phase,
-    ghost few: { hives ≤ 256 },
+    ghost few: { hives ≤ MOST_HIVES },
 }
 
 impl Journal {
     ghost use Rattle.commit_journal.specs.Journals.{content_of, changes_of, view_in_phase, journal_view, choice_of, store_of, encodings_of, IsReady, BeginsLongest, IsTrimming, IsBroken, steps_left, MakesProgress};
 
     /// The journal of the content of a file that is at rest.
-    pub(crate) fn found(alloc: Global, id: Uuid, hives: u8, on_device: Extent) -> Journal
-        ensures store { store_of result ≡ record { id = id; hives = hives } }
+    pub(crate) fn found(alloc: Global, store: StoreHeader, on_device: Extent) -> Journal
+        requires few { store.hives ≤ MOST_HIVES }
+        ensures store { store_of result ≡ record { id = store.id; hives = store.hives; layout = store.layout } }
         ensures value { journal_view result ≡ view_at (content_of on_device) nothing on_device.gate on_device.gate
             phase.Phase.AtRest }
         ensures changes { changes_of result ≡ logged_changes on_device.ghost_log }
     {
         Journal {
             alloc,
-            id,
-            hives,
+            id: store.id,
+            hives: store.hives,
+            layout: store.layout,
             on_device,
             phase: Phase::AtRest,
         }
@@ -90,11 +95,26 @@ impl Journal {
         self.id
     }
 
-    /// The number of hives of the store.
+    /// The number of hives in the header: those that calls name.
     pub fn hives(&self) -> u8
         ensures { result ≡ (store_of self.now).hives }
     {
         self.hives
+    }
+
+    /// The layout of the store.
+    pub fn layout(&self) -> Layout
+        ensures { result ≡ (store_of self.now).layout }
+    {
+        self.layout
+    }
+
+    /// How many hives the store has: those that calls name, and in the layout with outcomes one more. Elements may have
+    /// operations on all of them.
+    pub fn all_hives(&self) -> u8
+        ensures { result ≡ all_hives (store_of self.now) }
+    {
+        self.layout.all_hives(self.hives)
     }
 
     /// The used room in bytes: 65, and 17 and its length for each element journaled since the last finished trim.
@@ -153,7 +173,7 @@ impl Journal {
         handed: &[EncodedChange],
     ) -> Result<Progress, Refusal>
         requires handed { (choice_of self.old).next ≡ None →
-            IsHanded (store_of self.old).hives (65 + room_of (choice_of self.old).now.elements) first handed.now (choice_of self.old).now }
+            IsHanded (all_hives (store_of self.old)) (65 + room_of (choice_of self.old).now.elements) first handed.now (choice_of self.old).now }
         ensures says { Says (JournalSays first (timed_elements handed.now)) result
             (choice_of self.old) (choice_of self.new) }
         ensures longest { (result ≡ Ok Progress.More) → (choice_of self.old).next ≡ None →
@@ -372,7 +392,7 @@ impl Journal {
     /// The body of a batch of as many elements as fit, with the next gate after it, and what will be durable with it.
     fn prepare(&self, first: u64, handed: &[EncodedChange]) -> Result<(Vec<u8>, Batch), Refusal>
         requires some { 0 < length handed.now }
-        requires handed { IsHanded self.now.hives self.now.on_device.used first handed.now
+        requires handed { IsHanded (all_hives (store_of self.now)) self.now.on_device.used first handed.now
             (content_of self.now.on_device) }
         ensures ready { IfOk result (λ made. IsReady
             (encodings_of self.now) self.now.on_device first handed.now made.0.items made.1.ahead) }
@@ -395,7 +415,7 @@ impl Journal {
     ) -> Result<Progress, Refusal>
         requires quiet { self.old.phase ≡ Phase.AtRest }
         requires some { 0 < length handed.now }
-        requires handed { IsHanded self.old.hives self.old.on_device.used first handed.now
+        requires handed { IsHanded (all_hives (store_of self.old)) self.old.on_device.used first handed.now
             (content_of self.old.on_device) }
         ensures says { Says (JournalSays first (timed_elements handed.now)) result
             (choice_of self.old) (choice_of self.new) }

@@ -3,6 +3,9 @@
 /// The length of a header. The first gate follows it.
 pub(crate) const HEADER_BYTES: usize = 64;
 
+/// The offset of the byte in which the headers of the two layouts differ, the last before the id.
+pub(crate) const MARK_AT: usize = 7;
+
 /// The offset of the store's id in a header, 16 bytes.
 pub(crate) const ID_AT: usize = 8;
 

@@ -20,6 +20,7 @@ mod layout;
 mod reader;
 mod scan;
 mod sink;
+mod store_layout;
 
 pub use creation::JournalImage;
 pub use journal::Journal;
@@ -27,3 +28,4 @@ pub use last_changes::LastChangePerHive;
 pub use layout::{FIRST_GATE, MOST_BODY_BYTES, OPEN_GATE};
 pub use scan::{OpenedJournal, StoreHeader};
 pub use sink::ElementSink;
+pub use store_layout::Layout;

@@ -8,7 +8,7 @@ ghost use Rattle.refusals.specs.Answers.{RefusedFor};
 ghost use Rattle.refusals.specs.declared.refusal.Refusal.TheVariants.{JournalDamaged};
 ghost use Rattle.crash_model.specs.Promises.{nothing};
 ghost use Rattle.commit_journal.specs.Encoding.{decoded};
-ghost use Rattle.commit_journal.specs.Store.{encodings};
+ghost use Rattle.commit_journal.specs.Store.{encodings_after};
 ghost use Rattle.commit_journal.specs.GhostLog.{logged_changes};
 
 use crate::extent::Extent;
@@ -84,9 +84,9 @@ impl Reader {
         ensures tied { NumbersAgree result }
         ensures none { taken_by result ≡ [] }
         ensures hives { result.hives ≡ hives }
-        ensures begins { (id file rest : List ℕ) →
-            AtGate (encodings (record { id = id; hives = hives })) file nothing 64 rest →
-            IsReading id file result rest }
+        ensures begins { (header file rest : List ℕ) →
+            AtGate (encodings_after header hives) file nothing 64 rest →
+            IsReading header file result rest }
     {
         Reader {
             alloc,
@@ -109,8 +109,8 @@ impl Reader {
     pub fn wants(&self) -> usize
         requires keeps { ReaderIsSound self.now }
         ensures wants { result ≡ wanted_by self.now.next }
-        ensures short { (id file rest : List ℕ) → IsReading id file self.now rest →
-            length rest < result → decoded (encodings_for id self.now) file ≡ None }
+        ensures short { (header file rest : List ℕ) → IsReading header file self.now rest →
+            length rest < result → decoded (encodings_for header self.now) file ≡ None }
     {
         match self.next {
             NextField::Gate => 1,
@@ -141,9 +141,9 @@ impl Reader {
         ensures hives { self.new.hives ≡ self.old.hives }
         ensures within { IfOk result (λ n. n ≤ length bytes.now) }
         ensures falls { IfOk result (λ n. waits self.new.next < waits self.old.next + 2 * n) }
-        ensures reads { IfOk result (λ n. (id file behind : List ℕ) → left ≡ length bytes.now + length behind →
-            IsReading id file self.old (bytes.now ++ behind) →
-            IsReading id file self.new (drop n bytes.now ++ behind)) }
+        ensures reads { IfOk result (λ n. (header file behind : List ℕ) → left ≡ length bytes.now + length behind →
+            IsReading header file self.old (bytes.now ++ behind) →
+            IsReading header file self.new (drop n bytes.now ++ behind)) }
         ensures takes { TakesOn S.Took sink.old sink.new self.old self.new }
         ensures refused { IfErr result (ReadingFails (S.Denies sink.new)
             (FromReader self.old bytes.now left) (taken_by self.new)) }
@@ -175,10 +175,10 @@ impl Reader {
         ensures hives { self.new.hives ≡ self.old.hives }
         ensures same { taken_by self.new ≡ taken_by self.old }
         ensures falls { waits self.new.next < 2 }
-        ensures reads { (id file behind : List ℕ) →
-            reading_at (encodings_for id self.old) file self.old.on_device (read_by self.old) NextField.Gate
+        ensures reads { (header file behind : List ℕ) →
+            reading_at (encodings_for header self.old) file self.old.on_device (read_by self.old) NextField.Gate
             (bytes.now ++ behind) →
-            IsReading id file self.new (drop 1 bytes.now ++ behind) }
+            IsReading header file self.new (drop 1 bytes.now ++ behind) }
     {
         self.next = if bytes[0] == OPEN_GATE {
             NextField::Head
@@ -197,15 +197,15 @@ impl Reader {
         ensures hives { self.new.hives ≡ self.old.hives }
         ensures same { taken_by self.new ≡ taken_by self.old }
         ensures falls { OnOk result (waits self.new.next < 32) }
-        ensures reads { OnOk result ((id file behind : List ℕ) → left ≡ length bytes.now + length behind →
-            reading_at (encodings_for id self.old) file self.old.on_device (read_by self.old) NextField.Head
+        ensures reads { OnOk result ((header file behind : List ℕ) → left ≡ length bytes.now + length behind →
+            reading_at (encodings_for header self.old) file self.old.on_device (read_by self.old) NextField.Head
             (bytes.now ++ behind) →
-            IsReading id file self.new (drop 16 bytes.now ++ behind)) }
-        ensures refused { IfErr result (RefusedFor JournalDamaged ((id file behind : List ℕ) →
+            IsReading header file self.new (drop 16 bytes.now ++ behind)) }
+        ensures refused { IfErr result (RefusedFor JournalDamaged ((header file behind : List ℕ) →
             left ≡ length bytes.now + length behind →
-            reading_at (encodings_for id self.old) file self.old.on_device (read_by self.old) NextField.Head
+            reading_at (encodings_for header self.old) file self.old.on_device (read_by self.old) NextField.Head
             (bytes.now ++ behind) →
-            decoded (encodings_for id self.old) file ≡ None)) }
+            decoded (encodings_for header self.old) file ≡ None)) }
     {
         let size = u64::from(LittleEndian::read_u32(bytes));
         let first = LittleEndian::read_u64(&bytes[FIRST_NUMBER_AT..]);
@@ -251,12 +251,12 @@ impl Reader {
         ensures hives { self.new.hives ≡ self.old.hives }
         ensures same { taken_by self.new ≡ taken_by self.old }
         ensures falls { OnOk result (waits self.new.next < 2) }
-        ensures reads { OnOk result ((id file rest : List ℕ) →
-            in_partial_body (encodings_for id self.old) file self.old.on_device (read_by self.old) partial_body rest →
-            IsReading id file self.new rest) }
-        ensures refused { IfErr result (RefusedFor JournalDamaged ((id file rest : List ℕ) →
-            in_partial_body (encodings_for id self.old) file self.old.on_device (read_by self.old) partial_body rest →
-            decoded (encodings_for id self.old) file ≡ None)) }
+        ensures reads { OnOk result ((header file rest : List ℕ) →
+            in_partial_body (encodings_for header self.old) file self.old.on_device (read_by self.old) partial_body rest →
+            IsReading header file self.new rest) }
+        ensures refused { IfErr result (RefusedFor JournalDamaged ((header file rest : List ℕ) →
+            in_partial_body (encodings_for header self.old) file self.old.on_device (read_by self.old) partial_body rest →
+            decoded (encodings_for header self.old) file ≡ None)) }
     {
         if partial_body.count == 0 {
             return self.end(partial_body);
@@ -282,12 +282,12 @@ impl Reader {
         ensures hives { self.new.hives ≡ self.old.hives }
         ensures same { taken_by self.new ≡ taken_by self.old }
         ensures falls { OnOk result (waits self.new.next < 2) }
-        ensures reads { OnOk result ((id file rest : List ℕ) →
-            in_partial_body (encodings_for id self.old) file self.old.on_device (read_by self.old) partial_body rest →
-            IsReading id file self.new rest) }
-        ensures refused { IfErr result (RefusedFor JournalDamaged ((id file rest : List ℕ) →
-            in_partial_body (encodings_for id self.old) file self.old.on_device (read_by self.old) partial_body rest →
-            decoded (encodings_for id self.old) file ≡ None)) }
+        ensures reads { OnOk result ((header file rest : List ℕ) →
+            in_partial_body (encodings_for header self.old) file self.old.on_device (read_by self.old) partial_body rest →
+            IsReading header file self.new rest) }
+        ensures refused { IfErr result (RefusedFor JournalDamaged ((header file rest : List ℕ) →
+            in_partial_body (encodings_for header self.old) file self.old.on_device (read_by self.old) partial_body rest →
+            decoded (encodings_for header self.old) file ≡ None)) }
     {
         if partial_body.left > 0 {
             return Err(Refusal::JournalDamaged);
@@ -319,10 +319,10 @@ impl Reader {
         ensures hives { self.new.hives ≡ self.old.hives }
         ensures within { IfOk result (λ n. n ≤ length bytes.now) }
         ensures falls { IfOk result (λ n. waits self.new.next < 1 + 2 * n) }
-        ensures reads { IfOk result (λ n. (id file behind : List ℕ) →
-            reading_at (encodings_for id self.old) file self.old.on_device (read_by self.old)
+        ensures reads { IfOk result (λ n. (header file behind : List ℕ) →
+            reading_at (encodings_for header self.old) file self.old.on_device (read_by self.old)
             (NextField.Size partial_body) (bytes.now ++ behind) →
-            IsReading id file self.new (drop n bytes.now ++ behind)) }
+            IsReading header file self.new (drop n bytes.now ++ behind)) }
         ensures takes { TakesOn S.Took sink.old sink.new self.old self.new }
         ensures refused { IfErr result (ReadingFails (S.Denies sink.new)
             (FromBytes self.old (NextField.Size partial_body) bytes.now) (taken_by self.new)) }
@@ -357,10 +357,10 @@ impl Reader {
         ensures hives { self.new.hives ≡ self.old.hives }
         ensures within { IfOk result (λ n. n ≤ length bytes.now) }
         ensures falls { IfOk result (λ n. waits self.new.next < 2 * n) }
-        ensures reads { IfOk result (λ n. (id file behind : List ℕ) →
-            reading_at (encodings_for id self.old) file self.old.on_device (read_by self.old)
+        ensures reads { IfOk result (λ n. (header file behind : List ℕ) →
+            reading_at (encodings_for header self.old) file self.old.on_device (read_by self.old)
             (NextField.Encoding partial_body len) (bytes.now ++ behind) →
-            IsReading id file self.new (drop n bytes.now ++ behind)) }
+            IsReading header file self.new (drop n bytes.now ++ behind)) }
         ensures takes { TakesOn S.Took sink.old sink.new self.old self.new }
         ensures refused { IfErr result (ReadingFails (S.Denies sink.new)
             (FromBytes self.old (NextField.Encoding partial_body len) bytes.now) (taken_by self.new)) }
@@ -389,10 +389,10 @@ impl Reader {
         ensures hives { self.new.hives ≡ self.old.hives }
         ensures within { IfOk result (λ n. n ≤ length bytes.now) }
         ensures falls { IfOk result (λ n. waits self.new.next < 2 * n) }
-        ensures reads { IfOk result (λ n. (id file behind : List ℕ) →
-            in_partial_body (encodings_for id self.old) file self.old.on_device (read_by self.old) partial_body
+        ensures reads { IfOk result (λ n. (header file behind : List ℕ) →
+            in_partial_body (encodings_for header self.old) file self.old.on_device (read_by self.old) partial_body
             (bytes.now ++ behind) →
-            IsReading id file self.new (drop n bytes.now ++ behind)) }
+            IsReading header file self.new (drop n bytes.now ++ behind)) }
         ensures takes { TakesOn S.Took sink.old sink.new self.old self.new }
         ensures refused { IfErr result (ReadingFails (S.Denies sink.new)
             (FromBytes self.old (NextField.Size partial_body) bytes.now) (taken_by self.new)) }
@@ -431,10 +431,10 @@ impl Reader {
         ensures partial_body { OnOk result (PartialIsSound self.new.on_device (read_by self.new) partial_body.new) }
         ensures tied { OnOk result (IsLastOfPartial self.new.last (read_by self.new) partial_body.new) }
         ensures hives { self.new.hives ≡ self.old.hives }
-        ensures reads { OnOk result ((id file behind : List ℕ) →
-            in_partial_body (encodings_for id self.old) file self.old.on_device (read_by self.old) partial_body.old
+        ensures reads { OnOk result ((header file behind : List ℕ) →
+            in_partial_body (encodings_for header self.old) file self.old.on_device (read_by self.old) partial_body.old
             (bytes.now ++ behind) →
-            in_partial_body (encodings_for id self.new) file self.new.on_device (read_by self.new) partial_body.new
+            in_partial_body (encodings_for header self.new) file self.new.on_device (read_by self.new) partial_body.new
             (drop len bytes.now ++ behind)) }
         ensures takes { TakesOn S.Took sink.old sink.new self.old self.new }
         ensures refused { IfErr result (ReadingFails (S.Denies sink.new)

@@ -10,7 +10,7 @@ ghost use Rattle.disk_model.specs.ReadOnly.{OnlyReads, OnlySyncs};
 ghost use Rattle.change_codec.specs.Encoding.{Fits};
 ghost use Rattle.change_codec.specs.ModelChanges.{TimedOp, timed_elements};
 ghost use Rattle.commit_journal.specs.Encoding.{decoded};
-ghost use Rattle.commit_journal.specs.Store.{IsStore, IsNoJournal, Store, header_bytes, encodings};
+ghost use Rattle.commit_journal.specs.Store.{IsStore, IsNoJournal, Store, all_hives, header_bytes, encodings};
 ghost use Rattle.commit_journal.specs.Numbered.{numbered};
 ghost use Rattle.commit_journal.specs.OnDisk.{is_on};
 ghost use Rattle.commit_journal.specs.Journals.{journal_view, changes_of, choice_of, store_of, encodings_of};
@@ -24,6 +24,7 @@ use crate::journal::Journal;
 use crate::layout::HEADER_BYTES;
 use crate::reader::Reader;
 use crate::sink::ElementSink;
+use crate::store_layout::Layout;
 use crate::{device, header};
 use change_codec::EncodedChange;
 use disk_model::Disk;
@@ -45,8 +46,10 @@ pub struct OpenedJournal {
 pub struct StoreHeader {
     /// The id of the store.
     pub id: Uuid,
-    /// Its number of hives.
+    /// How many hives calls name.
     pub hives: u8,
+    /// Its layout.
+    pub layout: Layout,
 }
 
 // the sink of an opening: all changes
@@ -93,13 +96,13 @@ impl Journal {
     /// Refused with `JournalDamaged` only if the bytes are no store's journal, with `DiskFault` only if the device
     /// failed, and with `NoMemory`. No file changes.
     pub fn owner<D: Disk>(alloc: Global, disk: &mut D) -> Result<StoreHeader, Refusal>
-        ensures store { IfOk result (λ owner. IsStore (record { id = owner.id; hives = owner.hives })) }
+        ensures store { IfOk result (λ owner. IsStore (record { id = owner.id; hives = owner.hives; layout = owner.layout })) }
         ensures header { IfOk result (λ owner. D.faithful disk.new →
             take 64 (journal_bytes_at (D.state_at disk.old) (D.clock disk.old))
-            ≡ header_bytes (record { id = owner.id; hives = owner.hives })) }
+            ≡ header_bytes (record { id = owner.id; hives = owner.hives; layout = owner.layout })) }
         ensures only { IfOk result (λ owner. D.faithful disk.new → (store : Store) (s : Content TimedOp) →
             IsStore store → decoded (encodings store) (journal_bytes_at (D.state_at disk.old) (D.clock disk.old)) ≡ Some s →
-            store ≡ record { id = owner.id; hives = owner.hives }) }
+            store ≡ record { id = owner.id; hives = owner.hives; layout = owner.layout }) }
         ensures fails { IfErr result (FailsBy (D.failures disk.old < D.failures disk.new)
             (D.faithful disk.new →
             IsNoJournal (journal_bytes_at (D.state_at disk.old) (D.clock disk.old)))) }
@@ -114,10 +117,7 @@ impl Journal {
             Ok(()) => {}
             Err(why) => return Err(why),
         }
-        match header::decode(alloc, buffer.bytes()) {
-            Ok((id, hives)) => Ok(StoreHeader { id, hives }),
-            Err(why) => Err(why),
-        }
+        header::decode(alloc, buffer.bytes())
     }
 
     /// Opens the journal of a store: answers all changes that its file decodes to, with the journal that continues from
@@ -133,7 +133,7 @@ impl Journal {
         })) }
         ensures elements { IfOk result (λ opened. opened.elements.items ≡ changes_of opened.journal) }
         ensures fit { IfOk result (λ opened.
-            AllByRecursion (Fits (store_of opened.journal).hives) opened.elements.items) }
+            AllByRecursion (Fits (all_hives (store_of opened.journal))) opened.elements.items) }
         ensures numbers { IfOk result (λ opened.
             top 0 (choice_of opened.journal).now ≤ GREATEST_NUMBER) }
         ensures decodes { IfOk result (λ opened. D.faithful disk.new →
@@ -186,7 +186,7 @@ impl Journal {
         })) }
         ensures took { IfOk result (λ journal. S.Took sink.old sink.new
             (numbered (choice_of journal).now.below (changes_of journal))) }
-        ensures fit { IfOk result (λ journal. AllByRecursion (Fits (store_of journal).hives) (changes_of journal)) }
+        ensures fit { IfOk result (λ journal. AllByRecursion (Fits (all_hives (store_of journal))) (changes_of journal)) }
         ensures numbers { IfOk result (λ journal. top 0 (choice_of journal).now ≤ GREATEST_NUMBER) }
         ensures decodes { IfOk result (λ journal. D.faithful disk.new →
             decoded (encodings_of journal) (journal_bytes_at (D.state_at disk.old) (D.clock disk.old))
@@ -226,7 +226,7 @@ fn scan_at_rest<D: Disk, S: ElementSink>(
     })) }
     ensures took { IfOk result (λ journal. S.Took sink.old sink.new
         (numbered (choice_of journal).now.below (changes_of journal))) }
-    ensures fit { IfOk result (λ journal. AllByRecursion (Fits (store_of journal).hives) (changes_of journal)) }
+    ensures fit { IfOk result (λ journal. AllByRecursion (Fits (all_hives (store_of journal))) (changes_of journal)) }
     ensures numbers { IfOk result (λ journal. top 0 (choice_of journal).now ≤ GREATEST_NUMBER) }
     ensures decodes { IfOk result (λ journal. D.faithful disk.new →
         decoded (encodings_of journal) (journal_bytes_at (D.state_at disk.old) (D.clock disk.old))
@@ -252,17 +252,17 @@ fn scan_at_rest<D: Disk, S: ElementSink>(
         Ok(()) => {}
         Err(why) => return Err(why),
     }
-    let (id, hives) = match header::decode(alloc, buffer.bytes()) {
+    let store = match header::decode(alloc, buffer.bytes()) {
         Ok(store) => store,
         Err(why) => return Err(why),
     };
     buffer.skip(HEADER_BYTES);
-    let mut reader = Reader::new(alloc, hives);
+    let mut reader = Reader::new(alloc, store.layout.all_hives(store.hives));
     match read_to_end(alloc, disk, &mut buffer, &mut reader, sink) {
         Ok(()) => {}
         Err(why) => return Err(why),
     }
-    Ok(Journal::found(alloc, id, hives, reader.on_device))
+    Ok(Journal::found(alloc, store, reader.on_device))
 }
 
 /// Reads to the end of what counts.
@@ -282,9 +282,9 @@ fn read_to_end<D: Disk, S: ElementSink>(
     ensures takes { TakesOn S.Took sink.old sink.new reader.old reader.new }
     ensures reads { OnOk result (D.faithful disk.new →
         buffer.old.end_of_file ≡ length (journal_bytes_at (D.state_at disk.old) (D.clock disk.old)) →
-        (id : List ℕ) → IsReading id (journal_bytes_at (D.state_at disk.old) (D.clock disk.old)) reader.old
+        (header : List ℕ) → IsReading header (journal_bytes_at (D.state_at disk.old) (D.clock disk.old)) reader.old
         (rest_of (journal_bytes_at (D.state_at disk.old) (D.clock disk.old)) buffer.old) →
-        IsReading id (journal_bytes_at (D.state_at disk.old) (D.clock disk.old)) reader.new
+        IsReading header (journal_bytes_at (D.state_at disk.old) (D.clock disk.old)) reader.new
         (rest_of (journal_bytes_at (D.state_at disk.old) (D.clock disk.old)) buffer.new)) }
     ensures fails { IfErr result (StopsReading (S.Denies sink.new) (FromBuffer (D.faithful disk.new) (journal_bytes_at (D.state_at disk.old) (D.clock disk.old)) buffer.old reader.old)
         (D.failures disk.old < D.failures disk.new) (taken_by reader.new)) }

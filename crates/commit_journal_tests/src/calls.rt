@@ -5,7 +5,7 @@ ghost use Rattle.refusals.specs.declared.limits.TheConstants.{MOST_HIVES};
 use crate::driver::{ID, JournalDriver};
 use crate::names::number;
 use crate::steps;
-use commit_journal::{Journal, OpenedJournal};
+use commit_journal::{Journal, Layout, OpenedJournal};
 use disk_model::Progress;
 use refusals::Refusal;
 use refusals::limits::MOST_HIVES;
@@ -13,13 +13,13 @@ use test_support::Fault;
 use uuid::Uuid;
 
 impl JournalDriver {
-    /// Creates the journal of a store of `hives` hives.
-    pub fn create(&mut self, hives: &str, wanted: &[&str]) -> Result<(), Fault> {
+    /// Creates the journal of a store of this layout, in which calls name `hives` hives.
+    pub fn create(&mut self, hives: &str, layout: Layout, wanted: &[&str]) -> Result<(), Fault> {
         let hives = number(hives)?;
         if hives == 0 || hives > MOST_HIVES as u64 {
             return Err(Fault::NotUnderstood);
         }
-        let came = match self.created(hives as u8)? {
+        let came = match self.created(hives as u8, layout)? {
             Ok(journal) => {
                 self.journal = Some(journal);
                 "Done"
@@ -29,14 +29,15 @@ impl JournalDriver {
         expect(came, wanted)
     }
 
-    fn created(&mut self, hives: u8) -> Result<Result<Journal, Refusal>, Fault>
+    fn created(&mut self, hives: u8, layout: Layout) -> Result<Result<Journal, Refusal>, Fault>
         requires { (1 ≤ hives) × (hives ≤ MOST_HIVES) }
     {
+        let id = Uuid::from_bytes(ID);
         let before = self.look()?;
-        match Journal::create(self.alloc, &mut self.disk, Uuid::from_bytes(ID), hives) {
+        match Journal::create(self.alloc, &mut self.disk, id, hives, layout) {
             Err(Refusal::NoMemory) => {
                 self.sees_no_change(before)?;
-                Ok(Journal::create(self.alloc, &mut self.disk, Uuid::from_bytes(ID), hives))
+                Ok(Journal::create(self.alloc, &mut self.disk, id, hives, layout))
             }
             made => Ok(made),
         }
@@ -126,6 +127,19 @@ impl JournalDriver {
         };
         are_numbers(&[journal.used(), journal.last_number()], wanted)
     }
+
+    /// The layout, how many hives calls name, and how many there are.
+    pub fn layout(&mut self, wanted: &[&str]) -> Result<(), Fault> {
+        let Some(journal) = &self.journal else {
+            return Err(Fault::NotUnderstood);
+        };
+        let Some((layout, numbers)) = wanted.split_first() else {
+            return Err(Fault::NotUnderstood);
+        };
+        let hives = [u64::from(journal.hives()), u64::from(journal.all_hives())];
+        expect(layout_text(journal.layout()), &[*layout])?;
+        are_numbers(&hives, numbers)
+    }
 }
 
 /// Sees that this and nothing else is wanted.
@@ -147,6 +161,13 @@ pub(crate) fn are_numbers(came: &[u64], wanted: &[&str]) -> Result<(), Fault> {
         }
     }
     Ok(())
+}
+
+fn layout_text(layout: Layout) -> &'static str {
+    match layout {
+        Layout::HivesAlone => "HivesAlone",
+        Layout::WithOutcomes => "WithOutcomes",
+    }
 }
 
 fn answer_text(answer: Result<Progress, Refusal>) -> &'static str {

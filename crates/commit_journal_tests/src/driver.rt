@@ -2,7 +2,7 @@
 use crate::files::tear_of;
 use crate::names::{NamedBytes, number};
 use change_codec::EncodedChange;
-use commit_journal::Journal;
+use commit_journal::{Journal, Layout};
 use disk_model::{Disk, MemDisk, Plan};
 use refusals::limits::MOST_HIVES;
 use std::alloc::{AllocError, Global};
@@ -105,6 +105,7 @@ impl JournalDriver {
             "step" => self.steps(wanted),
             "trim" => self.trims(wanted),
             "numbers" => self.numbers(wanted),
+            "layout" => self.layout(wanted),
             "file" => self.file(wanted),
             "read" => self.read(wanted),
             _ => Err(Fault::NotUnderstood),
@@ -114,7 +115,8 @@ impl JournalDriver {
     /// A line of two words.
     fn make(&mut self, verb: &str, word: &str, wanted: &[&str]) -> Result<(), Fault> {
         match verb {
-            "create" => self.create(word, wanted),
+            "create" => self.create(word, Layout::HivesAlone, wanted),
+            "create-with-outcomes" => self.create(word, Layout::WithOutcomes, wanted),
             "stop" => self.stop(word),
             "fail" => self.fail(word),
             "crash" => self.crash(word),
@@ -178,15 +180,16 @@ fn done(is_done: bool) -> Result<(), Fault> {
     }
 }
 
-/// The elements whose encodings the bytes are, one after another.
+/// The elements whose encodings the bytes are, one after another, on whatever hives a store may have.
 fn elements_of(alloc: Global, bytes: &[u8]) -> Result<Vec<EncodedChange>, Fault> {
+    let hives = Layout::WithOutcomes.all_hives(MOST_HIVES as u8);
     let mut elements = Vec::new(alloc);
     let mut rest = bytes;
     for _ in 0..bytes.len() {
         if rest.is_empty() {
             break;
         }
-        let (element, behind) = EncodedChange::take(alloc, MOST_HIVES as u8, rest)?;
+        let (element, behind) = EncodedChange::take(alloc, hives, rest)?;
         elements.push(element)?;
         rest = behind;
     }

@@ -8,12 +8,14 @@
 //! | `let NAME BYTES` | gives the bytes a name |
 //! | `disk BYTES` | a new disk; its journal's file has these bytes, and they are synced |
 //! | `create HIVES > WANTED` | creates the journal of the store 0102..10: `Done`, or a refusal's name |
+//! | `create-with-outcomes HIVES > WANTED` | the same in the layout with one hive more |
 //! | `open > WANTED` | opens it: the number of hives, the number before the first element and the used room, or a refusal's name |
 //! | `opened > BYTES` | the elements that the last opening answered, by their encodings |
 //! | `hand BYTES` | the elements that are handed in at each step from here on, by their encodings |
 //! | `step > WANTED..` | a step for each answer: what each answers |
 //! | `trim > WANTED..` | a step of a trim for each answer |
 //! | `numbers > USED LAST` | the used room and the last number |
+//! | `layout > LAYOUT HIVES ALL` | the layout, how many hives calls name, and how many there are |
 //! | `file > BYTES` | the bytes of the journal's file, as a read gives them |
 //! | `stop K`, `fail K` | the K-th changing call and all after it fail; the K-th call fails alone |
 //! | `crash old`, `crash new`, `crash torn` | what a crash leaves is the disk, and no journal is there |

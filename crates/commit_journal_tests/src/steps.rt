@@ -3,7 +3,7 @@ ghost use Rattle.std.specs.Prelude.{◌≡◌, ◌⊎◌, ◌+◌, ◌<◌, ◌�
 ghost use Rattle.std.specs.List.{AllByRecursion};
 ghost use Rattle.crash_model.specs.Promises.{nothing, top};
 ghost use Rattle.reg_tree.specs.Operations.{hive_of};
-ghost use Rattle.commit_journal.specs.Store.{room_of};
+ghost use Rattle.commit_journal.specs.Store.{all_hives, room_of};
 ghost use Rattle.commit_journal.specs.Handed.{OnHives, IsHanded};
 ghost use Rattle.commit_journal.specs.Journals.{choice_of, store_of};
 
@@ -27,7 +27,7 @@ fn is_on_hives(change: &EncodedChange, hives: u8) -> bool
 
 /// Whether the journal may be handed these elements after the durable content.
 pub fn may_hand(journal: &Journal, handed: &[EncodedChange]) -> bool
-    ensures { result ≡ true → IsHanded (store_of journal.now).hives
+    ensures { result ≡ true → IsHanded (all_hives (store_of journal.now))
         (65 + room_of (choice_of journal.now).now.elements)
         (top 0 (choice_of journal.now).now + 1) handed.now (choice_of journal.now).now }
 {
@@ -35,7 +35,7 @@ pub fn may_hand(journal: &Journal, handed: &[EncodedChange]) -> bool
     if last > GREATEST_NUMBER || handed.len() as u64 > GREATEST_NUMBER - last {
         return false;
     }
-    let hives = journal.hives();
+    let hives = journal.all_hives();
     let mut room = journal.used();
     for element in handed {
         let len = element.text_len();

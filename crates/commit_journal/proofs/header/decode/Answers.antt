@@ -26,6 +26,6 @@ returns-then-ne c = inl (
   λ store is begin_batch.
       let bytes = c.args.bytes.now in
       let n = c.read_u32-hives.ensures ∙ ap (little_number 4) (take_all (length bytes - 24) (drop 24 bytes) (omega (arith, length-drop 24 bytes))) in
-      no_other bytes c.from_bytes-id.result c.read_u32-hives.result c.deref.result.now (c.from_bytes-id.ensures ∙ c.copy_from_slice.ensures.after) n (c.deref.ensures.value ∙ c.in_ok-header.ensures)
+      no_other bytes c.from_bytes-id.result c.read_u32-hives.result c.of_mark-layout.result c.deref.result.now (c.from_bytes-id.ensures ∙ c.copy_from_slice.ensures.after) n c.of_mark-layout.ensures (c.deref.ensures.value ∙ c.in_ok-header.ensures)
       (λ same. let yes = (bytes_eq-Decides (take 64 bytes) c.deref.result.now).1 same in let wrong = c.if-ne.ensures ∙ ap not yes in (cc)) store is begin_batch,
 )

@@ -13,7 +13,7 @@ invariant-reading g l =
       takes : TakesOn g.S.ElementSink.Took l.fn.sink l.sink l.fn.reader l.reader;
       hives : l.reader.hives ≡ l.fn.reader.hives;
       end : l.buffer.end_of_file ≡ l.fn.buffer.end_of_file;
-      reads : g.D.Disk.faithful l.disk → l.fn.buffer.end_of_file ≡ length file → (id : List ℕ) → IsReading id file l.fn.reader (rest_of file l.fn.buffer) → IsReading id file l.reader (rest_of file l.buffer);
+      reads : g.D.Disk.faithful l.disk → l.fn.buffer.end_of_file ≡ length file → (header : List ℕ) → IsReading header file l.fn.reader (rest_of file l.fn.buffer) → IsReading header file l.reader (rest_of file l.buffer);
       no_change : OnlyReads (g.D.Disk.state_at l.fn.disk) (g.D.Disk.state_at l.disk) (g.D.Disk.clock l.fn.disk) (g.D.Disk.clock l.disk);
       failures : g.D.Disk.failures l.fn.disk ≤ g.D.Disk.failures l.disk;
       faithful : g.D.Disk.faithful l.disk → g.D.Disk.faithful l.fn.disk;

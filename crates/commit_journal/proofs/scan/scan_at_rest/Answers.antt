@@ -6,7 +6,7 @@ use Rattle.change_codec.specs.ModelChanges.{TimedOp}
 use Rattle.commit_journal.specs.Encoding.{Encodings, decoded}
 use Rattle.commit_journal.specs.Numbered.{NumberedChange, numbered}
 use Rattle.commit_journal.specs.Scans.{DecodeFirst}
-use Rattle.commit_journal.specs.Store.{Store, IsStore, encodings}
+use Rattle.commit_journal.specs.Store.{Store, IsStore, all_hives, header_bytes, encodings, encodings_after}
 use Rattle.commit_journal.specs.OnDisk.{JournalView, is_on}
 use Rattle.commit_journal.specs.Journals.{changes_of, choice_of, journal_view}
 use Rattle.commit_journal.specs.Reading.{AtGate, FileDecodesTo, FromBuffer, IsReading, sound_at, numbers_agree_at, read_by, reading_at, encodings_for, taken_by}
@@ -56,7 +56,9 @@ returns-in-Err-read_to_end-clause-fails g c =
     let reader = c.new-reader.result in
     let own = c.in-Err-read_to_end.ensures.fails in
     let taken = taken_by c.read_to_end.new.reader in
-    let store : Store = record { id = c.in-Ok-decode.store.0; hives = c.in-Ok-decode.store.1 } in
+    let got = c.in-Ok-decode.store in
+    let store : Store = record { id = got.id; hives = got.hives; layout = got.layout } in
+    let hives_are : reader.hives ≡ all_hives store = c.new-reader.ensures.hives ∙ c.all_hives.ensures in
     let same : journal_bytes_at (g.D.Disk.state_at c.len.new.disk) (g.D.Disk.clock c.len.new.disk) ≡ file = ap (λ (s : FileState). s.seen) (no_change c.in-Ok.ensures.no_change 0) in
     let later : journal_bytes_at (g.D.Disk.state_at c.fill.new.disk) (g.D.Disk.clock c.fill.new.disk) ≡ file = ap (λ (s : FileState). s.seen) (no_change c.in-Ok-fill.ensures.no_change 0) ∙ same in
     let header : g.D.Disk.faithful c.read_to_end.new.disk → take 64 file ≡ take 64 c.bytes.result.now
@@ -76,9 +78,9 @@ returns-in-Err-read_to_end-clause-fails g c =
     let behind = behind_there file w skipped rest c.in-Ok-fill.ensures.there c.skip.ensures.held c.skip.ensures.at in
     let gate : AtGate (encodings store) file nothing 64 (rest_of file skipped)
     = subst (λ (l : List ℕ). AtGate (encodings store) file nothing 64 l) (sym behind) (at_first file store c.in-Ok-decode.ensures.0 begin_batch) in
-    let here : IsReading store.id file reader (rest_of file skipped) = c.new-reader.ensures.begins store.id file (rest_of file skipped) gate in
-    subst (λ (h : ℕ). P (encodings (record { id = store.id; hives = h })) file) c.new-reader.ensures.hives
-    (subst (λ (l : List ℕ). FromBuffer (g.D.Disk.faithful c.read_to_end.new.disk) l skipped reader P) later said faithful (c.skip.ensures.end ∙ c.in-Ok-fill.ensures.end ∙ end) store.id here) in
+    let here : IsReading (header_bytes store) file reader (rest_of file skipped) = c.new-reader.ensures.begins (header_bytes store) file (rest_of file skipped) (subst (λ (h : ℕ). AtGate (encodings_after (header_bytes store) h) file nothing 64 (rest_of file skipped)) (sym c.all_hives.ensures) gate) in
+    subst (λ (h : ℕ). P (encodings_after (header_bytes store) h) file) hives_are
+    (subst (λ (l : List ℕ). FromBuffer (g.D.Disk.faithful c.read_to_end.new.disk) l skipped reader P) later said faithful (c.skip.ensures.end ∙ c.in-Ok-fill.ensures.end ∙ end) (header_bytes store) here) in
     let of_any : (l : List NumberedChange) → FromBuffer (g.D.Disk.faithful c.read_to_end.new.disk) (journal_bytes_at (g.D.Disk.state_at c.fill.new.disk) (g.D.Disk.clock c.fill.new.disk)) skipped reader (DecodeFirst l) → g.D.Disk.faithful c.read_to_end.new.disk → (any : Store) → IsStore any → DecodeFirst l (encodings any) file
     = λ l said faithful any is s decodes.
     let one : any ≡ store = only_one file any store s is c.in-Ok-decode.ensures.0 decodes (header faithful ∙ c.in-Ok-decode.ensures.1) in
@@ -100,7 +102,9 @@ returns-clause-decodes g c = λ faithful.
     let skipped = c.skip.new.self in
     let reader = c.new-reader.result in
     let read = c.read_to_end.new.reader in
-    let store : Store = record { id = c.in-Ok-decode.store.0; hives = c.in-Ok-decode.store.1 } in
+    let got = c.in-Ok-decode.store in
+    let store : Store = record { id = got.id; hives = got.hives; layout = got.layout } in
+    let hives_are : reader.hives ≡ all_hives store = c.new-reader.ensures.hives ∙ c.all_hives.ensures in
     let same : journal_bytes_at (g.D.Disk.state_at c.len.new.disk) (g.D.Disk.clock c.len.new.disk) ≡ file = ap (λ (s : FileState). s.seen) (no_change c.in-Ok.ensures.no_change 0) in
     let later : journal_bytes_at (g.D.Disk.state_at c.fill.new.disk) (g.D.Disk.clock c.fill.new.disk) ≡ file = ap (λ (s : FileState). s.seen) (no_change c.in-Ok-fill.ensures.no_change 0) ∙ same in
     let filled = c.in-Ok-read_to_end.ensures.faithful faithful in
@@ -111,12 +115,12 @@ returns-clause-decodes g c = λ faithful.
     let behind = behind_there file w skipped rest c.in-Ok-fill.ensures.there c.skip.ensures.held c.skip.ensures.at in
     let gate : AtGate (encodings store) file nothing 64 (rest_of file skipped)
     = subst (λ (l : List ℕ). AtGate (encodings store) file nothing 64 l) (sym behind) (at_first file store c.in-Ok-decode.ensures.0 begin_batch) in
-    let here : IsReading store.id file reader (rest_of file skipped) = c.new-reader.ensures.begins store.id file (rest_of file skipped) gate in
-    let all : skipped.end_of_file ≡ length file → (id : List ℕ) → IsReading id file reader (rest_of file skipped) → IsReading id file read (rest_of file c.read_to_end.new.buffer)
-    = subst (λ (l : List ℕ). skipped.end_of_file ≡ length l → (id : List ℕ) → IsReading id l reader (rest_of l skipped) → IsReading id l read (rest_of l c.read_to_end.new.buffer)) later (c.in-Ok-read_to_end.ensures.reads faithful) in
-    let found : FileDecodesTo (encodings_for store.id read) file read.on_device
-    = subst (λ (n : NextField). reading_at (encodings_for store.id read) file read.on_device (read_by read) n (rest_of file c.read_to_end.new.buffer)) c.in-Ok-read_to_end.ensures.done (all (c.skip.ensures.end ∙ c.in-Ok-fill.ensures.end ∙ end) store.id here) in
-    let encodings_are = ap (λ (h : ℕ). encodings (record { id = store.id; hives = h })) (c.in-Ok-read_to_end.ensures.hives ∙ c.new-reader.ensures.hives) in
+    let here : IsReading (header_bytes store) file reader (rest_of file skipped) = c.new-reader.ensures.begins (header_bytes store) file (rest_of file skipped) (subst (λ (h : ℕ). AtGate (encodings_after (header_bytes store) h) file nothing 64 (rest_of file skipped)) (sym c.all_hives.ensures) gate) in
+    let all : skipped.end_of_file ≡ length file → (header : List ℕ) → IsReading header file reader (rest_of file skipped) → IsReading header file read (rest_of file c.read_to_end.new.buffer)
+    = subst (λ (l : List ℕ). skipped.end_of_file ≡ length l → (header : List ℕ) → IsReading header l reader (rest_of l skipped) → IsReading header l read (rest_of l c.read_to_end.new.buffer)) later (c.in-Ok-read_to_end.ensures.reads faithful) in
+    let found : FileDecodesTo (encodings_for (header_bytes store) read) file read.on_device
+    = subst (λ (n : NextField). reading_at (encodings_for (header_bytes store) read) file read.on_device (read_by read) n (rest_of file c.read_to_end.new.buffer)) c.in-Ok-read_to_end.ensures.done (all (c.skip.ensures.end ∙ c.in-Ok-fill.ensures.end ∙ end) (header_bytes store) here) in
+    let encodings_are = ap (encodings_after (header_bytes store)) (c.in-Ok-read_to_end.ensures.hives ∙ hives_are) in
     let made = ap encodings c.found.ensures.store ∙ sym encodings_are in
     ap (λ (t : Encodings TimedOp). decoded t file) made ∙ found.decodes ∙ sym (ap (λ (v : JournalView TimedOp). Some v.choice.now) c.found.ensures.value)
 
@@ -127,7 +131,9 @@ returns-clause-on g c = λ faithful.
     let skipped = c.skip.new.self in
     let reader = c.new-reader.result in
     let read = c.read_to_end.new.reader in
-    let store : Store = record { id = c.in-Ok-decode.store.0; hives = c.in-Ok-decode.store.1 } in
+    let got = c.in-Ok-decode.store in
+    let store : Store = record { id = got.id; hives = got.hives; layout = got.layout } in
+    let hives_are : reader.hives ≡ all_hives store = c.new-reader.ensures.hives ∙ c.all_hives.ensures in
     let same : journal_bytes_at (g.D.Disk.state_at c.len.new.disk) (g.D.Disk.clock c.len.new.disk) ≡ file = ap (λ (s : FileState). s.seen) (no_change c.in-Ok.ensures.no_change 0) in
     let later : journal_bytes_at (g.D.Disk.state_at c.fill.new.disk) (g.D.Disk.clock c.fill.new.disk) ≡ file = ap (λ (s : FileState). s.seen) (no_change c.in-Ok-fill.ensures.no_change 0) ∙ same in
     let filled = c.in-Ok-read_to_end.ensures.faithful faithful in
@@ -138,15 +144,15 @@ returns-clause-on g c = λ faithful.
     let behind = behind_there file w skipped rest c.in-Ok-fill.ensures.there c.skip.ensures.held c.skip.ensures.at in
     let gate : AtGate (encodings store) file nothing 64 (rest_of file skipped)
     = subst (λ (l : List ℕ). AtGate (encodings store) file nothing 64 l) (sym behind) (at_first file store c.in-Ok-decode.ensures.0 begin_batch) in
-    let here : IsReading store.id file reader (rest_of file skipped) = c.new-reader.ensures.begins store.id file (rest_of file skipped) gate in
-    let all : skipped.end_of_file ≡ length file → (id : List ℕ) → IsReading id file reader (rest_of file skipped) → IsReading id file read (rest_of file c.read_to_end.new.buffer)
-    = subst (λ (l : List ℕ). skipped.end_of_file ≡ length l → (id : List ℕ) → IsReading id l reader (rest_of l skipped) → IsReading id l read (rest_of l c.read_to_end.new.buffer)) later (c.in-Ok-read_to_end.ensures.reads faithful) in
-    let found : FileDecodesTo (encodings_for store.id read) file read.on_device
-    = subst (λ (n : NextField). reading_at (encodings_for store.id read) file read.on_device (read_by read) n (rest_of file c.read_to_end.new.buffer)) c.in-Ok-read_to_end.ensures.done (all (c.skip.ensures.end ∙ c.in-Ok-fill.ensures.end ∙ end) store.id here) in
-    let encodings_are = ap (λ (h : ℕ). encodings (record { id = store.id; hives = h })) (c.in-Ok-read_to_end.ensures.hives ∙ c.new-reader.ensures.hives) in
+    let here : IsReading (header_bytes store) file reader (rest_of file skipped) = c.new-reader.ensures.begins (header_bytes store) file (rest_of file skipped) (subst (λ (h : ℕ). AtGate (encodings_after (header_bytes store) h) file nothing 64 (rest_of file skipped)) (sym c.all_hives.ensures) gate) in
+    let all : skipped.end_of_file ≡ length file → (header : List ℕ) → IsReading header file reader (rest_of file skipped) → IsReading header file read (rest_of file c.read_to_end.new.buffer)
+    = subst (λ (l : List ℕ). skipped.end_of_file ≡ length l → (header : List ℕ) → IsReading header l reader (rest_of l skipped) → IsReading header l read (rest_of l c.read_to_end.new.buffer)) later (c.in-Ok-read_to_end.ensures.reads faithful) in
+    let found : FileDecodesTo (encodings_for (header_bytes store) read) file read.on_device
+    = subst (λ (n : NextField). reading_at (encodings_for (header_bytes store) read) file read.on_device (read_by read) n (rest_of file c.read_to_end.new.buffer)) c.in-Ok-read_to_end.ensures.done (all (c.skip.ensures.end ∙ c.in-Ok-fill.ensures.end ∙ end) (header_bytes store) here) in
+    let encodings_are = ap (encodings_after (header_bytes store)) (c.in-Ok-read_to_end.ensures.hives ∙ hives_are) in
     let made = ap encodings c.found.ensures.store ∙ sym encodings_are in
     subst (λ (t : Encodings TimedOp). is_on t (journal_view c.found.result) (at_rest file)) (sym made)
-    (subst (λ (v : JournalView TimedOp). is_on (encodings_for store.id read) v (at_rest file)) (sym c.found.ensures.value) found.on)
+    (subst (λ (v : JournalView TimedOp). is_on (encodings_for (header_bytes store) read) v (at_rest file)) (sym c.found.ensures.value) found.on)
 
 pub returns-clause-took : goal.returns-clause-took
 returns-clause-took g c =

@@ -1,4 +1,4 @@
-use Rattle.std.proofs.Common.{◌≤◌, length, arith}
+use Rattle.std.proofs.Common.{arith}
 use Rattle.commit_journal.specs.ReadBuffers.{journal_bytes_at}
 use Rattle.commit_journal.proofs.Pieces.{piece_on}
 use Rattle.commit_journal.proofs.buffer.ReadBuffer.read_piece.Goals as goal

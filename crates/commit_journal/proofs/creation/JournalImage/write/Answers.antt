@@ -9,14 +9,14 @@ use Rattle.commit_journal.proofs.creation.JournalImage.write.Goals as goal
 
 pub returns-clause-file : goal.returns-clause-file
 returns-clause-file g c = λ faithful.
-    let store : Store = record { id = c.args.self.id; hives = c.args.self.hives } in
+    let store : Store = record { id = c.args.self.id; hives = c.args.self.hives; layout = c.args.self.layout } in
     let after = c.sync.ensures.faithful faithful in
     created_file store c.deref.result.now (c.deref.ensures.value ∙ c.args.self.whole) _ _ _ _ (c.in_ok-clear.ensures.done (c.write.ensures.faithful after)) (c.in_ok-write.ensures.done after) (c.in_ok-sync.ensures.done faithful)
     ∙ ap (λ (s : Store). at_rest (created_bytes s)) (sym c.found.ensures.store)
 
 pub returns-clause-on : goal.returns-clause-on
 returns-clause-on g c = λ faithful.
-    let store : Store = record { id = c.args.self.id; hives = c.args.self.hives } in
+    let store : Store = record { id = c.args.self.id; hives = c.args.self.hives; layout = c.args.self.layout } in
     let state = g.D.Disk.state_at c.sync.new.disk (g.D.Disk.clock c.sync.new.disk) 0 in
     let after = c.sync.ensures.faithful faithful in
     let file = created_file store c.deref.result.now (c.deref.ensures.value ∙ c.args.self.whole) _ _ _ _ (c.in_ok-clear.ensures.done (c.write.ensures.faithful after)) (c.in_ok-write.ensures.done after) (c.in_ok-sync.ensures.done faithful) in

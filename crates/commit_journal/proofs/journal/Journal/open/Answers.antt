@@ -6,6 +6,7 @@ use Rattle.change_codec.specs.Encoding.{Fits}
 use Rattle.change_codec.specs.ModelChanges.{timed_elements}
 use Rattle.commit_journal.specs.ChangeListLaws.{list_is}
 use Rattle.commit_journal.specs.Journals.{changes_of, choice_of, store_of}
+use Rattle.commit_journal.specs.Store.{all_hives}
 use Rattle.commit_journal.proofs.journal.Journal.open.Goals as goal
 
 pub returns-in-Ok-clause-elements : goal.returns-in-Ok-clause-elements
@@ -21,4 +22,4 @@ pub returns-in-Ok-clause-fit : goal.returns-in-Ok-clause-fit
 returns-in-Ok-clause-fit g c =
     let j = c.in-Ok.journal in
     let are = list_is c.new-list.result c.scan.new.sink (choice_of j).now.below (changes_of j) c.new-list.ensures c.in-Ok.ensures.took in
-    subst (λ (l : List Element). AllByRecursion (Fits (store_of j).hives) l) (sym are) c.in-Ok.ensures.fit
+    subst (λ (l : List Element). AllByRecursion (Fits (all_hives (store_of j))) l) (sym are) c.in-Ok.ensures.fit

@@ -3,7 +3,7 @@ use Rattle.disk_model.proofs.Unwritten.{no_change}
 use Rattle.disk_model.specs.FileState.{FileState}
 use Rattle.commit_journal.specs.ReadBuffers.{journal_bytes_at, rest_of}
 use Rattle.commit_journal.proofs.HeaderRead.{none_short, none_without, only_one}
-use Rattle.commit_journal.proofs.Pieces.{fails_on, fails_of, front_there}
+use Rattle.commit_journal.proofs.Pieces.{fails_on, value_of, refusal_of, front_there}
 use Rattle.commit_journal.proofs.journal.Journal.owner.Goals as goal
 
 pub returns-in-Err-clause-fails : goal.returns-in-Err-clause-fails
@@ -21,28 +21,28 @@ returns-clause-fails g c =
     let file = journal_bytes_at (g.D.Disk.state_at c.args.disk.now) (g.D.Disk.clock c.args.disk.now) in
     let w = c.fill.new.self in
     let same : journal_bytes_at (g.D.Disk.state_at c.len.new.disk) (g.D.Disk.clock c.len.new.disk) ≡ file = ap (λ (s : FileState). s.seen) (no_change c.in_ok-end.ensures.no_change 0) in
-    fails_of _ _ _ c.in-Err-decode.why (λ none faithful.
+    refusal_of c.decode.result _ _ _ _ (λ none faithful.
     let end : c.in_ok-buffer.buffer.end_of_file ≡ length file = c.in_ok-buffer.ensures.end ∙ c.in_ok-end.ensures.len (c.in-Ok.ensures.faithful faithful) in
     let rest : rest_of file w ≡ file
     = subst (λ (l : List ℕ). rest_of l w ≡ rest_of l c.in_ok-buffer.buffer) same (c.in-Ok.ensures.rest faithful (end ∙ ap (λ (l : List ℕ). length l) (sym same))) ∙ c.in_ok-buffer.ensures.rest file in
-    none_without file (λ store is begin_batch. none store is (ap (take 64) c.bytes.ensures ∙ front_there file w rest c.in-Ok.ensures.there ∙ begin_batch))) c.in-Err-decode.ensures
+    none_without file (λ store is begin_batch. none store is (ap (take 64) c.bytes.ensures ∙ front_there file w rest c.in-Ok.ensures.there ∙ begin_batch))) c.decode.ensures
 
-pub returns-in-Ok-decode-clause-header : goal.returns-in-Ok-decode-clause-header
-returns-in-Ok-decode-clause-header g c = λ faithful.
+pub returns-clause-header : goal.returns-clause-header
+returns-clause-header g c = value_of c.decode.result _ _ _ (λ owner is faithful.
     let file = journal_bytes_at (g.D.Disk.state_at c.args.disk.now) (g.D.Disk.clock c.args.disk.now) in
     let w = c.fill.new.self in
     let same : journal_bytes_at (g.D.Disk.state_at c.len.new.disk) (g.D.Disk.clock c.len.new.disk) ≡ file = ap (λ (s : FileState). s.seen) (no_change c.in_ok-end.ensures.no_change 0) in
     let end : c.in_ok-buffer.buffer.end_of_file ≡ length file = c.in_ok-buffer.ensures.end ∙ c.in_ok-end.ensures.len (c.in-Ok.ensures.faithful faithful) in
     let rest : rest_of file w ≡ file
     = subst (λ (l : List ℕ). rest_of l w ≡ rest_of l c.in_ok-buffer.buffer) same (c.in-Ok.ensures.rest faithful (end ∙ ap (λ (l : List ℕ). length l) (sym same))) ∙ c.in_ok-buffer.ensures.rest file in
-    sym (front_there file w rest c.in-Ok.ensures.there) ∙ ap (take 64) (sym c.bytes.ensures) ∙ c.in-Ok-decode.ensures.1
+    sym (front_there file w rest c.in-Ok.ensures.there) ∙ ap (take 64) (sym c.bytes.ensures) ∙ is.1) c.decode.ensures
 
-pub returns-in-Ok-decode-clause-only : goal.returns-in-Ok-decode-clause-only
-returns-in-Ok-decode-clause-only g c = λ faithful store s is decodes.
+pub returns-clause-only : goal.returns-clause-only
+returns-clause-only g c = value_of c.decode.result _ _ _ (λ owner is faithful store s is_store decodes.
     let file = journal_bytes_at (g.D.Disk.state_at c.args.disk.now) (g.D.Disk.clock c.args.disk.now) in
     let w = c.fill.new.self in
     let same : journal_bytes_at (g.D.Disk.state_at c.len.new.disk) (g.D.Disk.clock c.len.new.disk) ≡ file = ap (λ (s : FileState). s.seen) (no_change c.in_ok-end.ensures.no_change 0) in
     let end : c.in_ok-buffer.buffer.end_of_file ≡ length file = c.in_ok-buffer.ensures.end ∙ c.in_ok-end.ensures.len (c.in-Ok.ensures.faithful faithful) in
     let rest : rest_of file w ≡ file
     = subst (λ (l : List ℕ). rest_of l w ≡ rest_of l c.in_ok-buffer.buffer) same (c.in-Ok.ensures.rest faithful (end ∙ ap (λ (l : List ℕ). length l) (sym same))) ∙ c.in_ok-buffer.ensures.rest file in
-    only_one file store _ s is c.in-Ok-decode.ensures.0 decodes (sym (front_there file w rest c.in-Ok.ensures.there) ∙ ap (take 64) (sym c.bytes.ensures) ∙ c.in-Ok-decode.ensures.1)
+    only_one file store _ s is_store is.0 decodes (sym (front_there file w rest c.in-Ok.ensures.there) ∙ ap (take 64) (sym c.bytes.ensures) ∙ is.1)) c.decode.ensures

@@ -11,7 +11,7 @@ invariant-elements g l = record {
   takes : TakesOn g.S.ElementSink.Took l.fn.sink l.sink l.fn.self l.self;
   some : 1 ≤ l.taken;
   within : l.taken ≤ length l.bytes;
-  reads : (id file behind : List ℕ) → in_partial_body (encodings_for id l.fn.self) file l.fn.self.on_device (read_by l.fn.self) l.fn.partial_body (l.bytes ++ behind) → in_partial_body (encodings_for id l.self) file l.self.on_device (read_by l.self) l.partial_body (drop l.taken l.bytes ++ behind);
+  reads : (header file behind : List ℕ) → in_partial_body (encodings_for header l.fn.self) file l.fn.self.on_device (read_by l.fn.self) l.fn.partial_body (l.bytes ++ behind) → in_partial_body (encodings_for header l.self) file l.self.on_device (read_by l.self) l.partial_body (drop l.taken l.bytes ++ behind);
 }
 
 abbrev pub decreases-elements : goal.decreases-elements

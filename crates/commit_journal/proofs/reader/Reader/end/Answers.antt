@@ -17,9 +17,9 @@ use Rattle.commit_journal.proofs.reader.Reader.end.Goals as goal
 pub returns-then-partial_body-gt0-clause-refused : goal.returns-then-partial_body-gt0-clause-refused
 returns-then-partial_body-gt0-clause-refused c = inl (
   refl,
-  λ id file rest here.
+  λ header file rest here.
       let r = c.args.self.now in
-      end_none id r.hives r.few file r.on_device (read_by r) c.args.partial_body rest here c.requires.none c.if-partial_body-gt0.true,
+      end_none header r.hives r.few file r.on_device (read_by r) c.args.partial_body rest here c.requires.none c.if-partial_body-gt0.true,
 )
 
 pub with_body-requires : goal.with_body-requires
@@ -74,14 +74,14 @@ returns-clause-tied c =
     omega (arith, c.with_body.result.kept.last_is, last, count, c.requires.tied, c.requires.partial_body.number)
 
 pub returns-clause-reads : goal.returns-clause-reads
-returns-clause-reads c = λ id file rest here.
+returns-clause-reads c = λ header file rest here.
     let r = c.args.self.now in
     let es = (read_by r) in
     let partial_body = c.args.partial_body in
     let decodes : content_of c.with_body.result ≡ with_elements (content_of r.on_device) (partial_body.first - 1) (timed_elements (drop partial_body.start es))
     = c.with_body.ensures.decodes ∙ ap (λ (l : List Element). with_elements (content_of r.on_device) (partial_body.first - 1) (timed_elements (drop partial_body.start l))) c.same.ensures.changes in
     let empty : partial_body.left ≡ 0 = omega (arith, c.if-partial_body-gt0.false) in
-    end_on id r.hives r.few file r.on_device es partial_body rest here c.requires.none empty c.requires.partial_body c.with_body.result decodes c.with_body.ensures.gate
+    end_on header r.hives r.few file r.on_device es partial_body rest here c.requires.none empty c.requires.partial_body c.with_body.result decodes c.with_body.ensures.gate
 
 pub overflow_mul-room : goal.overflow_mul-room
 overflow_mul-room c = let small = least (drop c.args.partial_body.start (read_by c.args.self.now)) in omega (arith, small, c.requires.tied, c.requires.partial_body.size, c.requires.partial_body.short, c.requires.partial_body.number)

@@ -7,4 +7,4 @@ pub returns-clause-refused : goal.returns-clause-refused
 returns-clause-refused g c =
     let r = c.args.self.now in
     answer_from c.encodings.result _ (FromBytes r (Size c.args.partial_body) c.args.bytes.now) (FromBytes r (Encoding c.args.partial_body c.args.len) c.args.bytes.now) (taken_by c.encodings.new.self)
-    (λ P said id file behind here. said id file behind here.0) c.encodings.ensures.refused
+    (λ P said header file behind here. said header file behind here.0) c.encodings.ensures.refused

@@ -6,11 +6,11 @@ use Rattle.commit_journal.proofs.Parts.{short_gate, short_head}
 use Rattle.commit_journal.proofs.reader.Reader.wants.Goals as goal
 
 pub returns-in-Gate-clause-short : goal.returns-in-Gate-clause-short
-returns-in-Gate-clause-short c = λ id file rest here few.
+returns-in-Gate-clause-short c = λ header file rest here few.
     let r = c.args.self.now in
-    short_gate (encodings_for id r) file (content_of r.on_device) r.on_device.gate rest (subst (λ (n : NextField). reading_at (encodings_for id r) file r.on_device (read_by r) n rest) c.in-Gate.is here) few
+    short_gate (encodings_for header r) file (content_of r.on_device) r.on_device.gate rest (subst (λ (n : NextField). reading_at (encodings_for header r) file r.on_device (read_by r) n rest) c.in-Gate.is here) few
 
 pub returns-in-Head-clause-short : goal.returns-in-Head-clause-short
-returns-in-Head-clause-short c = λ id file rest here few.
+returns-in-Head-clause-short c = λ header file rest here few.
     let r = c.args.self.now in
-    short_head (encodings_for id r) file (content_of r.on_device) r.on_device.gate rest (subst (λ (n : NextField). reading_at (encodings_for id r) file r.on_device (read_by r) n rest) c.in-Head.is here) few
+    short_head (encodings_for header r) file (content_of r.on_device) r.on_device.gate rest (subst (λ (n : NextField). reading_at (encodings_for header r) file r.on_device (read_by r) n rest) c.in-Head.is here) few
