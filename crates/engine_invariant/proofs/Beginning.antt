@@ -17,9 +17,10 @@ use Rattle.crash_model.proofs.Lists.{drop_nil}
 use Rattle.crash_model.proofs.KeepSteps.{begun}
 use Rattle.crash_model.proofs.MemoryCounts.{remembered}
 use Rattle.store_model.specs.Machine.{opened_machine, room_with}
-use Rattle.store_model.specs.Invariant.{InvariantHolds}
+use Rattle.store_model.specs.Invariant.{InvariantHolds, OutcomesFit}
 use Rattle.store_model.specs.declared.bounds.StoreBounds.{StoreBounds}
-use Rattle.change_codec.specs.ModelChanges.{TimedOp, tree_rules, timed_element, timed_elements}
+use Rattle.change_codec.specs.ModelChanges.{TimedOp, timed_element, timed_elements}
+use Rattle.engine_invariant.specs.Rules.{rules}
 use Rattle.engine_invariant.specs.States.{HiveView}
 use Rattle.engine_invariant.specs.States.{tree_of, counted, files_in, state_of, IsConsistent}
 use Rattle.commit_journal.specs.Store.{room_of}
@@ -37,9 +38,10 @@ nothing_left : (k : ℕ) (none : List Element) → none ≡ [] → drop k none �
 nothing_left k [] e = drop_nil {A = Element} k
 nothing_left k (x ∷ xs) e = absurd cc
 
-module _ (bounds : StoreBounds) (trees : List TreeMap) (n failures base : ℕ) (opened : List Element) (journal : Choice (Content TimedOp)) (hives : List HiveView) (found : OpeningRecovers trees n base opened journal hives) where
-  first : law.InvariantHolds tree_rules GREATEST_NUMBER (length trees) (opened_state n (tree_of trees) (content_of found.below opened) (held_by hives))
-  first = begun tree_rules GREATEST_NUMBER (length trees) (content_of found.below opened) (held_by hives) n (tree_of trees) found.recovers found.named
+module _ (bounds : StoreBounds) (trees : List TreeMap) (n failures base : ℕ) (opened : List Element) (journal : Choice (Content TimedOp)) (hives : List HiveView) (found : OpeningRecovers bounds.hives trees n base opened journal hives)
+    (few : length trees ≤ bounds.hives + 1) (fit : OutcomesFit bounds trees n) where
+  first : law.InvariantHolds (rules bounds.hives) GREATEST_NUMBER (length trees) (opened_state n (tree_of trees) (content_of found.below opened) (held_by hives))
+  first = begun (rules bounds.hives) GREATEST_NUMBER (length trees) (content_of found.below opened) (held_by hives) n (tree_of trees) found.recovers found.changes
 
   settled_is : (h : HiveView) → h.files ≡ settled h.memory → with_memory h.files h.memory ≡ with_memory (settled h.files.now) h.files.now
   settled_is h e = ap (λ (x : TreeMap × ℕ). under_way h.files.now x) (sym (ap (λ (c : Choice (TreeMap × ℕ)). c.now) e))
@@ -51,11 +53,11 @@ module _ (bounds : StoreBounds) (trees : List TreeMap) (n failures base : ℕ) (
       by_slot None e = absurd (none-some _ (sym e ∙ slice_get-get_or hives i (record { files = settled (fresh_tree, 0); memory = (fresh_tree, 0) }) (omega (arith, lt, found.all))))
       by_slot (Some h) e = settled_is h (found.each i h e)
 
-  pub begins : ((w : StoreBounds) (ts : List TreeMap) (number : ℕ) (es : List Element) (f : ℕ) → AreTrees ts → number ≤ GREATEST_NUMBER → InvariantHolds (opened_machine w ts number es f)) → IsConsistent (opened_machine bounds trees n opened failures) base opened journal hives
+  pub begins : ((w : StoreBounds) (ts : List TreeMap) (number : ℕ) (es : List Element) (f : ℕ) → AreTrees ts → number ≤ GREATEST_NUMBER → OutcomesFit w ts number → InvariantHolds (opened_machine w ts number es f)) → IsConsistent (opened_machine bounds trees n opened failures) base opened journal hives
   begins kept = record {
-    kept = kept bounds trees n opened failures found.are_trees found.recovers.limit;
+    kept = kept bounds trees n opened failures found.are_trees found.recovers.limit fit;
     fits = λ some. absurd (omega (arith, some, ap (λ (es : List Element). length es) (nothing_left (n - n) [] refl)));
-    law = remembered tree_rules GREATEST_NUMBER (length trees) (held_by hives) (opened_state n (tree_of trees) (content_of found.below opened) (held_by hives)) (state_of (opened_machine bounds trees n opened failures) base opened journal hives) first (record {
+    law = remembered (rules bounds.hives) GREATEST_NUMBER (length trees) (held_by hives) (opened_state n (tree_of trees) (content_of found.below opened) (held_by hives)) (state_of (opened_machine bounds trees n opened failures) base opened journal hives) first (record {
       fits = λ i lt. record { fits = first.hive_fits i lt (held_by hives i) (inl refl); higher = omega arith };
       life = ap (λ b. let l : Life TreeMap TimedOp = record { trees = tree_of trees; base = b; opened = timed_elements opened; accepted = [] } in l) found.base_is;
       durable = refl;
@@ -64,12 +66,13 @@ module _ (bounds : StoreBounds) (trees : List TreeMap) (n failures base : ℕ) (
     });
     begun = begun_at (length trees) n found.below base (λ i. (held_by hives i).1) opened found.base_is found.recovers.last;
     all = found.all;
+    one_more = few;
     own = λ i h e. inl (ap (λ (c : Choice (TreeMap × ℕ)). c.next) (found.each i h e));
     onward = λ next e. absurd (none-some next (sym (ap (λ (c : Choice (Content TimedOp)). c.next) found.journal_is) ∙ e));
     room = omega (arith, rooms_are opened, ap (λ (c : Choice (Content TimedOp)). room_of c.now.elements) found.journal_is, ap (λ (l : List Element). room_of (timed_elements l)) (nothing_left (n - n) [] refl));
   }
 
-  pub begins_told : ((w : StoreBounds) (ts : List TreeMap) (number : ℕ) (es : List Element) (f : ℕ) → AreTrees ts → number ≤ GREATEST_NUMBER → InvariantHolds (opened_machine w ts number es f)) → IsConsistent (record (opened_machine bounds trees n [] failures) { room = 65 + room_of journal.now.elements }) base opened journal hives
+  pub begins_told : ((w : StoreBounds) (ts : List TreeMap) (number : ℕ) (es : List Element) (f : ℕ) → AreTrees ts → number ≤ GREATEST_NUMBER → OutcomesFit w ts number → InvariantHolds (opened_machine w ts number es f)) → IsConsistent (record (opened_machine bounds trees n [] failures) { room = 65 + room_of journal.now.elements }) base opened journal hives
   begins_told kept =
       let room : room_with opened ≡ 65 + room_of journal.now.elements = omega (arith, rooms_are opened, ap (λ (c : Choice (Content TimedOp)). room_of c.now.elements) found.journal_is) in
       subst (λ r. IsConsistent (record (opened_machine bounds trees n [] failures) { room = r }) base opened journal hives) room (begins kept)

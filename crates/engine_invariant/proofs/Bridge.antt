@@ -24,6 +24,7 @@ use Rattle.store_model.specs.Machine.{Machine, trees_now, last_number}
 use Rattle.store_model.specs.Invariant.{AreLegalChanges}
 use Rattle.change_codec.specs.ModelChanges.{TimedOp, tree_rules, is_legal, timed, timed_element, timed_elements}
 use Rattle.store_model.proofs.TreeCounts.{one_long}
+use Rattle.engine_invariant.specs.Rules.{rules}
 use Rattle.engine_invariant.specs.States.{tree_of, life_of}
 use Rattle.engine_invariant.specs.Prefixes.{trees_after}
 
@@ -39,21 +40,21 @@ set_none f [] h e = refl
 set_none f (u ∷ ts) zero e = absurd (none-some u (sym e))
 set_none f (u ∷ ts) (suc h) e = ap (λ (x : List TreeMap). u ∷ x) (set_none f ts h e)
 
-one_is : (ts : List TreeMap) (moment : ℕ) (op : Op) → applied_one ts op moment ≡ changed_at (tree_rules.apply (moment, op)) ts (hive_of op)
-unfolding tree_rules
-one_is ts moment op = by_slot (slice_get ts (hive_of op)) refl
+one_is : (named : ℕ) (ts : List TreeMap) (moment : ℕ) (op : Op) → applied_one ts op moment ≡ changed_at ((rules named).apply (moment, op)) ts (hive_of op)
+unfolding tree_rules rules
+one_is named ts moment op = by_slot (slice_get ts (hive_of op)) refl
   where
     by_slot : (o : Option TreeMap) → slice_get ts (hive_of op) ≡ o → applied_if ts o op moment ≡ changed_at (λ t. changed t op moment) ts (hive_of op)
     by_slot None e = set_none (λ t. changed t op moment) ts (hive_of op) e
     by_slot (Some t) e = set_is (λ t. changed t op moment) ts (hive_of op) t e
 
-ops_are : (ts : List TreeMap) (moment : ℕ) (ops : List Op) → applied ts ops moment ≡ after_element tree_rules (map (timed moment) ops) ts
-ops_are ts moment [] = refl
-ops_are ts moment (op ∷ ops) = ops_are (applied_one ts op moment) moment ops ∙ ap (after_element tree_rules (map (timed moment) ops)) (one_is ts moment op)
+pub ops_are : (named : ℕ) (ts : List TreeMap) (moment : ℕ) (ops : List Op) → applied ts ops moment ≡ after_element (rules named) (map (timed moment) ops) ts
+ops_are named ts moment [] = refl
+ops_are named ts moment (op ∷ ops) = ops_are named (applied_one ts op moment) moment ops ∙ ap (after_element (rules named) (map (timed moment) ops)) (one_is named ts moment op)
 
-all_are : (ts : List TreeMap) (es : List Element) → after_elements ts es ≡ all.after_elements tree_rules (timed_elements es) ts
-all_are ts [] = refl
-all_are ts (e ∷ es) = all_are (applied ts e.ops e.moment) es ∙ ap (all.after_elements tree_rules (timed_elements es)) (ops_are ts e.moment e.ops)
+all_are : (named : ℕ) (ts : List TreeMap) (es : List Element) → after_elements ts es ≡ all.after_elements (rules named) (timed_elements es) ts
+all_are named ts [] = refl
+all_are named ts (e ∷ es) = all_are named (applied ts e.ops e.moment) es ∙ ap (all.after_elements (rules named) (timed_elements es)) (ops_are named ts e.moment e.ops)
 
 -- The crash model's trees are the project's
 
@@ -63,29 +64,29 @@ number_is m base opened e = omega (arith, e, length-map opened timed_element)
 pub last_is : (m : Machine) (base : ℕ) (opened : List Element) → m.before ≡ base + length opened → life.last_number (life_of m base opened) ≡ last_number m
 last_is m base opened e = omega (arith, number_is m base opened e, length-map m.accepted timed_element)
 
-pub tree_is : (m : Machine) (base : ℕ) (opened : List Element) → m.before ≡ base + length opened → (n i : ℕ) → i < length m.opened
-    → slice_get (trees_after m n) i ≡ Some (tree_at tree_rules (life_of m base opened) n i)
-tree_is m base opened begun n i lt =
-    ap (λ (ts : List TreeMap). slice_get ts i) (all_are m.opened (take (n - m.before) m.accepted))
-    ∙ after_elements_at tree_rules i (timed_elements (take (n - m.before) m.accepted)) m.opened
-    ∙ ap (option_map (law.applied tree_rules (ops_on i (timed_elements (take (n - m.before) m.accepted))))) (slice_get-get_or m.opened i fresh_tree lt)
-    ∙ ap (λ (es : List (law.Element TimedOp)). Some (law.applied tree_rules (ops_on i es) (tree_of m.opened i))) (sym (take-map timed_element (n - m.before) m.accepted))
-    ∙ ap (λ k. Some (law.applied tree_rules (ops_on i (take (n - k) (timed_elements m.accepted))) (tree_of m.opened i))) (sym (number_is m base opened begun))
+pub tree_is : (named : ℕ) (m : Machine) (base : ℕ) (opened : List Element) → m.before ≡ base + length opened → (n i : ℕ) → i < length m.opened
+    → slice_get (trees_after m n) i ≡ Some (tree_at (rules named) (life_of m base opened) n i)
+tree_is named m base opened begun n i lt =
+    ap (λ (ts : List TreeMap). slice_get ts i) (all_are named m.opened (take (n - m.before) m.accepted))
+    ∙ after_elements_at (rules named) i (timed_elements (take (n - m.before) m.accepted)) m.opened
+    ∙ ap (option_map (law.applied (rules named) (ops_on i (timed_elements (take (n - m.before) m.accepted))))) (slice_get-get_or m.opened i fresh_tree lt)
+    ∙ ap (λ (es : List (law.Element TimedOp)). Some (law.applied (rules named) (ops_on i es) (tree_of m.opened i))) (sym (take-map timed_element (n - m.before) m.accepted))
+    ∙ ap (λ k. Some (law.applied (rules named) (ops_on i (take (n - k) (timed_elements m.accepted))) (tree_of m.opened i))) (sym (number_is m base opened begun))
 
-pub tree_of_is : (m : Machine) (base : ℕ) (opened : List Element) → m.before ≡ base + length opened → (n i : ℕ) → i < length m.opened
-    → tree_of (trees_after m n) i ≡ tree_at tree_rules (life_of m base opened) n i
-tree_of_is m base opened begun n i lt = get_or_from_slice_get (trees_after m n) i (tree_at tree_rules (life_of m base opened) n i) fresh_tree (tree_is m base opened begun n i lt)
+pub tree_of_is : (named : ℕ) (m : Machine) (base : ℕ) (opened : List Element) → m.before ≡ base + length opened → (n i : ℕ) → i < length m.opened
+    → tree_of (trees_after m n) i ≡ tree_at (rules named) (life_of m base opened) n i
+tree_of_is named m base opened begun n i lt = get_or_from_slice_get (trees_after m n) i (tree_at (rules named) (life_of m base opened) n i) fresh_tree (tree_is named m base opened begun n i lt)
 
 pub trees_at_last : (m : Machine) → trees_after m (last_number m) ≡ trees_now m
 trees_at_last m = ap (after_elements m.opened) (take_all (last_number m - m.before) m.accepted (omega arith))
 
 -- What the machine finds legal is legal in the crash model
 
-legal_is : (ts : List TreeMap) (op : Op) (moment : ℕ) → legal ts op ≡ Ok Legal → legal_there tree_rules (moment, op) (slice_get ts (hive_of op)) ≡ true
-unfolding tree_rules
-legal_is ts op moment e = by_slot (slice_get ts (hive_of op)) e
+legal_is : (named : ℕ) (ts : List TreeMap) (op : Op) (moment : ℕ) → legal ts op ≡ Ok Legal → legal_there (rules named) (moment, op) (slice_get ts (hive_of op)) ≡ true
+unfolding tree_rules rules
+legal_is named ts op moment e = by_slot (slice_get ts (hive_of op)) e
   where
-    by_slot : (o : Option TreeMap) → legal_if o op ≡ Ok Legal → legal_there tree_rules (moment, op) o ≡ true
+    by_slot : (o : Option TreeMap) → legal_if o op ≡ Ok Legal → legal_there (rules named) (moment, op) o ≡ true
     by_slot None f = absurd cc
     by_slot (Some t) f = ap is_legal f
 
@@ -96,11 +97,11 @@ there ts op e = by_slot (slice_get ts (hive_of op)) refl e
     by_slot None is f = absurd cc
     by_slot (Some t) is f = slice_get_within ts (hive_of op) t is
 
-pub run_ops : (ts : List TreeMap) (ops : List Op) (moment : ℕ) → AreLegalChanges ts ops moment → run_element tree_rules (map (timed moment) ops) ts ≡ Some (after_element tree_rules (map (timed moment) ops) ts)
-run_ops ts [] moment l = refl
-run_ops ts (op ∷ ops) moment (first, rest) =
-    ap (λ b. cond b (run_element tree_rules (map (timed moment) ops) (changed_at (tree_rules.apply (moment, op)) ts (hive_of op))) None) (legal_is ts op moment first)
-    ∙ run_ops (changed_at (tree_rules.apply (moment, op)) ts (hive_of op)) ops moment (subst (λ x. AreLegalChanges x ops moment) (one_is ts moment op) rest)
+pub run_ops : (named : ℕ) (ts : List TreeMap) (ops : List Op) (moment : ℕ) → AreLegalChanges ts ops moment → run_element (rules named) (map (timed moment) ops) ts ≡ Some (after_element (rules named) (map (timed moment) ops) ts)
+run_ops named ts [] moment l = refl
+run_ops named ts (op ∷ ops) moment (first, rest) =
+    ap (λ b. cond b (run_element (rules named) (map (timed moment) ops) (changed_at ((rules named).apply (moment, op)) ts (hive_of op))) None) (legal_is named ts op moment first)
+    ∙ run_ops named (changed_at ((rules named).apply (moment, op)) ts (hive_of op)) ops moment (subst (λ x. AreLegalChanges x ops moment) (one_is named ts moment op) rest)
 
 on_own : (h : ℕ) (o : TimedOp) (ps : law.Element TimedOp) → on_hive h ((h, o) ∷ ps) ≡ o ∷ on_hive h ps
 on_own h o ps = grind (arith, nat_tests)
@@ -112,8 +113,3 @@ names ts op ops moment l = (hive_of op, there ts op l.0, (moment, op), on_hive (
 pub ops_there : (ts : List TreeMap) (ops : List Op) (moment : ℕ) → AreLegalChanges ts ops moment → AllByRecursion (λ op. hive_of op < length ts) ops
 ops_there ts [] moment l = tt
 ops_there ts (op ∷ ops) moment (first, rest) = (there ts op first, subst (λ n. AllByRecursion (λ op. hive_of op < n) ops) (one_long ts op moment) (ops_there (applied_one ts op moment) ops moment rest))
-
--- nothing more is asked of a tree
-pub all_allowed : (i n : ℕ) (t : TreeMap) → IsTrue (tree_rules.allows i n t)
-unfolding tree_rules
-all_allowed i n t = refl

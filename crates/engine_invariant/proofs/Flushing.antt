@@ -29,9 +29,11 @@ use Rattle.change_codec.specs.ModelChanges.{TimedOp, tree_rules, timed_element, 
 use Rattle.crash_model.specs.StepAnswers.{Says}
 use Rattle.disk_model.specs.declared.progress.Progress.{Progress}
 use Rattle.disk_model.specs.declared.progress.Progress.TheVariants as progress
+use Rattle.engine_invariant.specs.Rules.{rules}
 use Rattle.engine_invariant.specs.States.{HiveView, counted, files_in, life_of, state_of, IsConsistent}
 use Rattle.engine_invariant.specs.Answers.{reply_to, failed, after_flush, opened_above, accepted_above, absorbed}
 use Rattle.engine_invariant.proofs.HiveLists.{get_same, get_other}
+use Rattle.engine_invariant.proofs.Rules.{same_replay, same_legal}
 use Rattle.engine_invariant.proofs.Bridge.{number_is, last_is}
 use Rattle.engine_invariant.proofs.Accepting.{Keeps}
 
@@ -91,7 +93,7 @@ module _ (m : Machine) (base : ℕ) (opened : List Element) (journal : Choice (C
   counted_is : files_in hives k ≡ with_memory old.files old.memory
   counted_is = ap counted is
 
-  fits_memory : MemoryFits tree_rules (state_of m base opened journal hives) k old.memory
+  fits_memory : MemoryFits (rules m.bounds.hives) (state_of m base opened journal hives) k old.memory
   fits_memory = record {
     fits = i.law.hive_fits k there old.memory (inr (ap (λ (c : Choice (TreeMap × ℕ)). c.next) counted_is));
     higher = i.law.rises k there old.memory (inr (ap (λ (c : Choice (TreeMap × ℕ)). c.next) counted_is));
@@ -110,15 +112,16 @@ module _ (m : Machine) (base : ℕ) (opened : List Element) (journal : Choice (C
   lacks = drop (old.memory.1 - base) opened ++ drop (old.memory.1 - m.before) (take (m.durable - m.before) m.accepted)
 
   pub may_take : (es : List Element) → es ≡ drop (old.memory.1 - base) opened ++ drop (old.memory.1 - m.before) (take (m.durable - m.before) m.accepted) → AreLegal tree_rules (ops_on k (timed_elements es)) old.memory.0
-  may_take es are = subst (λ (os : List TimedOp). AreLegal tree_rules os old.memory.0) (lacked_is m base opened i.begun since k old.memory.1 ∙ ap (λ (l : List Element). ops_on k (timed_elements l)) (sym are))
-      (may_absorb tree_rules GREATEST_NUMBER (length m.opened) (state_of m base opened journal hives) k old.memory m.durable fits_memory up (omega arith))
+  may_take es are = same_legal m.bounds.hives (ops_on k (timed_elements es)) old.memory.0 (subst (λ (os : List TimedOp). AreLegal (rules m.bounds.hives) os old.memory.0) (lacked_is m base opened i.begun since k old.memory.1 ∙ ap (λ (l : List Element). ops_on k (timed_elements l)) (sym are))
+      (may_absorb (rules m.bounds.hives) GREATEST_NUMBER (length m.opened) (state_of m base opened journal hives) k old.memory m.durable fits_memory up (omega arith)))
 
-  with_hive : (v : HiveView) → IsOfMemory v.files v.memory → law_kept.InvariantHolds tree_rules GREATEST_NUMBER (length m.opened) (state_of m base opened journal (slice_set hives k v)) → IsConsistent m base opened journal (slice_set hives k v)
+  with_hive : (v : HiveView) → IsOfMemory v.files v.memory → law_kept.InvariantHolds (rules m.bounds.hives) GREATEST_NUMBER (length m.opened) (state_of m base opened journal (slice_set hives k v)) → IsConsistent m base opened journal (slice_set hives k v)
   with_hive v own l = record {
     kept = i.kept;
     law = l;
     begun = i.begun;
     all = length-set hives k v ∙ i.all;
+    one_more = i.one_more;
     fits = i.fits;
     onward = i.onward;
     room = i.room;
@@ -134,7 +137,7 @@ module _ (m : Machine) (base : ℕ) (opened : List Element) (journal : Choice (C
   pub takes : (es : List Element) (v : HiveView) → es ≡ drop (old.memory.1 - base) opened ++ drop (old.memory.1 - m.before) (take (m.durable - m.before) m.accepted) → old.files.next ≡ None
       → v ≡ record { files = old.files; memory = (applied tree_rules (ops_on k (timed_elements es)) old.memory.0, m.durable) } → IsConsistent m base opened journal (slice_set hives k v)
   takes es v are idle v_is = with_hive v (inl (ap (λ (x : HiveView). x.files.next) v_is ∙ idle))
-      (memory_absorbs tree_rules GREATEST_NUMBER (length m.opened) (state_of m base opened journal hives) (state_of m base opened journal (slice_set hives k v)) i.law (record {
+      (memory_absorbs (rules m.bounds.hives) GREATEST_NUMBER (length m.opened) (state_of m base opened journal hives) (state_of m base opened journal (slice_set hives k v)) i.law (record {
         hive = k;
         file = old.files;
         memory = old.memory;
@@ -143,7 +146,7 @@ module _ (m : Machine) (base : ℕ) (opened : List Element) (journal : Choice (C
         before = counted_is;
         low = up;
         high = omega arith;
-        replayed = subst (λ (os : List TimedOp). replay tree_rules os old.memory.0 ≡ Some (applied tree_rules (ops_on k (timed_elements es)) old.memory.0)) (sym (lacked_is m base opened i.begun since k old.memory.1 ∙ ap (λ (l : List Element). ops_on k (timed_elements l)) (sym are))) (may_take es are);
+        replayed = subst (λ (os : List TimedOp). replay (rules m.bounds.hives) os old.memory.0 ≡ Some (applied tree_rules (ops_on k (timed_elements es)) old.memory.0)) (sym (lacked_is m base opened i.begun since k old.memory.1 ∙ ap (λ (l : List Element). ops_on k (timed_elements l)) (sym are))) (same_replay m.bounds.hives (ops_on k (timed_elements es)) old.memory.0 ∙ may_take es are);
         after = new_is v ∙ ap (λ (x : HiveView). with_memory x.files x.memory) v_is;
         life = refl;
         durable = refl;
@@ -153,7 +156,7 @@ module _ (m : Machine) (base : ℕ) (opened : List Element) (journal : Choice (C
 
   pub steps : (a : Answer) (v : HiveView) → v.memory ≡ old.memory → HiveSays old.memory a old.files v.files → IsConsistent m base opened journal (slice_set hives k v)
   steps a v same says = with_hive v (subst (IsOfMemory v.files) (sym same) (own_after old.memory a old.files v.files (i.own k old is) says))
-      (memory_flushes tree_rules GREATEST_NUMBER (length m.opened) a (state_of m base opened journal hives) (state_of m base opened journal (slice_set hives k v)) i.law (record {
+      (memory_flushes (rules m.bounds.hives) GREATEST_NUMBER (length m.opened) a (state_of m base opened journal hives) (state_of m base opened journal (slice_set hives k v)) i.law (record {
         hive = k;
         memory = old.memory;
         file = old.files;
@@ -203,6 +206,7 @@ module _ (keeps : Keeps) (m : Machine) (base : ℕ) (opened : List Element) (jou
           law = c.law;
           begun = c.begun;
           all = c.all;
+          one_more = c.one_more;
           own = c.own;
           onward = c.onward;
           room = c.room;

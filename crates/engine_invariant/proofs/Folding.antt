@@ -17,8 +17,9 @@ use Rattle.store_model.specs.Steps.{Folds}
 use Rattle.store_model.specs.declared.event.Event.TheVariants as event
 use Rattle.store_model.specs.declared.event.Reply.TheVariants as reply
 use Rattle.store_model.proofs.TreeCounts.{all_long}
-use Rattle.change_codec.specs.ModelChanges.{TimedOp, tree_rules, timed_element, timed_elements}
+use Rattle.change_codec.specs.ModelChanges.{TimedOp, timed_element, timed_elements}
 use Rattle.commit_journal.specs.Store.{room_of}
+use Rattle.engine_invariant.specs.Rules.{rules}
 use Rattle.engine_invariant.specs.States.{HiveView, tree_of, files_in, life_of, state_of, IsBatch, IsConsistent}
 use Rattle.engine_invariant.proofs.Accepting.{Keeps}
 use Rattle.engine_invariant.proofs.Bridge.{last_is, tree_of_is, trees_at_last}
@@ -65,16 +66,16 @@ module _ (base : ℕ) (opened : List Element) (journal : Choice (Content TimedOp
   both : timed_elements (opened ++ old.accepted) ≡ timed_elements opened ++ timed_elements old.accepted
   both = map-append timed_element opened old.accepted
 
-  tree_stays : (k : ℕ) → k < length old.opened → tree_of (trees_now old) k ≡ tree_at tree_rules was (life.last_number was) k
-  tree_stays k lt = ap (λ (ts : List TreeMap). tree_of ts k) (sym (trees_at_last old)) ∙ tree_of_is old base opened i.begun (last_number old) k lt
-      ∙ ap (λ n. tree_at tree_rules was n k) (sym (last_is old base opened i.begun))
+  tree_stays : (k : ℕ) → k < length old.opened → tree_of (trees_now old) k ≡ tree_at (rules old.bounds.hives) was (life.last_number was) k
+  tree_stays k lt = ap (λ (ts : List TreeMap). tree_of ts k) (sym (trees_at_last old)) ∙ tree_of_is old.bounds.hives old base opened i.begun (last_number old) k lt
+      ∙ ap (λ n. tree_at (rules old.bounds.hives) was n k) (sym (last_is old base opened i.begun))
 
-  law_folds : law.InvariantHolds tree_rules GREATEST_NUMBER (length (trees_now old)) (state_of (folded old) base (opened ++ old.accepted) journal hives)
+  law_folds : law.InvariantHolds (rules old.bounds.hives) GREATEST_NUMBER (length (trees_now old)) (state_of (folded old) base (opened ++ old.accepted) journal hives)
   law_folds =
-      subst (λ n. law.InvariantHolds tree_rules GREATEST_NUMBER n (state_of (folded old) base (opened ++ old.accepted) journal hives)) (sym (all_long old.opened old.accepted))
-      (subst (λ es. EngineFits tree_rules GREATEST_NUMBER (length old.opened) (opened_with (tree_of (trees_now old)) base es) old.durable journal (files_in hives)) (sym both)
-      (other_trees tree_rules GREATEST_NUMBER (length old.opened) (tree_at tree_rules was (life.last_number was)) (tree_of (trees_now old)) base (timed_elements opened ++ timed_elements old.accepted) old.durable journal (files_in hives) tree_stays
-      (keep_fold tree_rules GREATEST_NUMBER (length old.opened) was old.durable journal (files_in hives) i.law (omega (arith, all, i.kept.within.known, last_is old base opened i.begun)))))
+      subst (λ n. law.InvariantHolds (rules old.bounds.hives) GREATEST_NUMBER n (state_of (folded old) base (opened ++ old.accepted) journal hives)) (sym (all_long old.opened old.accepted))
+      (subst (λ es. EngineFits (rules old.bounds.hives) GREATEST_NUMBER (length old.opened) (opened_with (tree_of (trees_now old)) base es) old.durable journal (files_in hives)) (sym both)
+      (other_trees (rules old.bounds.hives) GREATEST_NUMBER (length old.opened) (tree_at (rules old.bounds.hives) was (life.last_number was)) (tree_of (trees_now old)) base (timed_elements opened ++ timed_elements old.accepted) old.durable journal (files_in hives) tree_stays
+      (keep_fold (rules old.bounds.hives) GREATEST_NUMBER (length old.opened) was old.durable journal (files_in hives) i.law (omega (arith, all, i.kept.within.known, last_is old base opened i.begun)))))
 
   onward_is : (next : Content TimedOp) → (next ≡ nothing) ⊎ IsBatch old journal.now next → (next ≡ nothing) ⊎ IsBatch (folded old) journal.now next
   onward_is next (inl e) = inl e
@@ -87,6 +88,7 @@ module _ (base : ℕ) (opened : List Element) (journal : Choice (Content TimedOp
     law = law_folds;
     begun = omega (arith, i.begun, length-append opened old.accepted);
     all = i.all ∙ sym (all_long old.opened old.accepted);
+    one_more = omega (arith, i.one_more, all_long old.opened old.accepted);
     own = i.own;
     onward = λ next is. onward_is next (i.onward next is);
     room = omega (arith, i.room, ap (λ (l : List Element). room_of (timed_elements l)) (nothing_pending old all), ap (λ (l : List Element). room_of (timed_elements l)) none);

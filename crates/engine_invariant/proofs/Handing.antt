@@ -13,9 +13,10 @@ use Rattle.crash_model.specs.Invariant as kept
 use Rattle.crash_model.specs.Steps.{pending_elements}
 use Rattle.store_model.specs.Machine.{Machine, pending}
 use Rattle.store_model.specs.Invariant.{AreLegalHistory}
-use Rattle.change_codec.specs.ModelChanges.{TimedOp, tree_rules, timed_element, timed_elements}
+use Rattle.change_codec.specs.ModelChanges.{TimedOp, timed_element, timed_elements}
 use Rattle.commit_journal.specs.Handed.{IsHanded, OnHives, IsShort}
 use Rattle.commit_journal.specs.Store.{room_of}
+use Rattle.engine_invariant.specs.Rules.{rules}
 use Rattle.engine_invariant.specs.States.{HiveView, state_of, IsConsistent}
 use Rattle.store_model.proofs.TreeCounts.{ops_long}
 use Rattle.engine_invariant.proofs.Bridge.{number_is, ops_there}
@@ -31,7 +32,7 @@ all_dropped P zero (x ∷ xs) h = h
 all_dropped P (suc k) [] h = h
 all_dropped P (suc k) (x ∷ xs) h = all_dropped P k xs h.1
 
-pub may_be_handed : ((s : State TreeMap TimedOp) (hives : ℕ) → kept.InvariantHolds tree_rules GREATEST_NUMBER hives s → MayFollow GREATEST_NUMBER s.durable (pending_elements s) s.journal.now)
+pub may_be_handed : ((named : ℕ) (s : State TreeMap TimedOp) (hives : ℕ) → kept.InvariantHolds (rules named) GREATEST_NUMBER hives s → MayFollow GREATEST_NUMBER s.durable (pending_elements s) s.journal.now)
     → (m : Machine) (base : ℕ) (opened : List Element) (journal : Choice (Content TimedOp)) (hives : List HiveView) → IsConsistent m base opened journal hives → AllByRecursion IsShort (pending m)
     → IsHanded (length hives) (65 + room_of journal.now.elements) (m.durable + 1) (pending m) journal.now
 may_be_handed follows m base opened journal hives i short =
@@ -40,7 +41,7 @@ may_be_handed follows m base opened journal hives i short =
     record {
       number = omega arith;
       continue_at = subst (λ d. MayFollow GREATEST_NUMBER d (timed_elements (pending m)) journal.now) one
-          (subst (λ (es : List (law.Element TimedOp)). MayFollow GREATEST_NUMBER m.durable es journal.now) pending_is (follows (state_of m base opened journal hives) (length m.opened) i.law));
+          (subst (λ (es : List (law.Element TimedOp)). MayFollow GREATEST_NUMBER m.durable es journal.now) pending_is (follows m.bounds.hives (state_of m base opened journal hives) (length m.opened) i.law));
       there = all_dropped (OnHives (length hives)) (m.durable - m.before) m.accepted (all_there m.opened m.accepted (length hives) (sym i.all) i.kept.history);
       short = short;
       room = λ some. omega (arith, i.fits some, i.room, rooms_are (pending m));

@@ -1,6 +1,8 @@
 pub mod HiveLists
+pub mod Rules
 pub mod Bridge
 mod Room
+mod Outcomes
 mod Accepting
 mod Beginning
 mod Handing

@@ -46,6 +46,7 @@ module _ (settle : Settle) (old new : Machine) (k : InvariantHolds old) where
   rises (event.Rollback session tx) r s = non_step old new (settle old new (event.Rollback session tx) r k refl s)
   rises (event.Close session tx) r s = non_step old new (settle old new (event.Close session tx) r k refl s)
   rises (event.Outcome session tx) r s = non_step old new (settle old new (event.Outcome session tx) r k refl s)
+  rises (event.OutcomeOf id) r s = non_step old new (settle old new (event.OutcomeOf id) r k refl s)
   rises event.FlushAsk r s = non_step old new (settle old new event.FlushAsk r k refl s)
   rises (event.Acked number) r s = non_step old new (settle old new (event.Acked number) r k refl s)
 
@@ -64,6 +65,7 @@ held_then old new (event.CommitAccept session tx moment) n s = absurd s
 held_then old new (event.Rollback session tx) n s = absurd s
 held_then old new (event.Close session tx) n s = absurd s
 held_then old new (event.Outcome session tx) n s = absurd s
+held_then old new (event.OutcomeOf id) n s = absurd s
 held_then old new event.FlushAsk n s = absurd s
 held_then old new event.Fold n s = absurd s
 held_then old new event.JournalStep n s = absurd s
@@ -82,6 +84,7 @@ by_reply b (reply.Read found) f = tt
 by_reply b (reply.Begun tx) f = tt
 by_reply b (reply.Awaits number) f = tt
 by_reply b (reply.OutcomeIs outcome) f = tt
+by_reply b (reply.CommittedAs number) f = tt
 by_reply b reply.NotYet f = tt
 by_reply b (reply.Stepped progress) f = tt
 by_reply b (reply.Refused why) f = tt

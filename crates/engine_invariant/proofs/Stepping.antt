@@ -22,11 +22,12 @@ use Rattle.store_model.specs.declared.event.Event.{Event}
 use Rattle.store_model.specs.declared.event.Event.TheVariants as event
 use Rattle.store_model.specs.declared.event.Reply.{Reply}
 use Rattle.store_model.specs.declared.event.Reply.TheVariants as reply
-use Rattle.change_codec.specs.ModelChanges.{TimedOp, tree_rules, timed_element, timed_elements}
+use Rattle.change_codec.specs.ModelChanges.{TimedOp, timed_element, timed_elements}
 use Rattle.crash_model.specs.StepAnswers.{Says}
 use Rattle.disk_model.specs.declared.progress.Progress.{Progress}
 use Rattle.disk_model.specs.declared.progress.Progress.TheVariants as progress
 use Rattle.commit_journal.specs.Store.{room_of}
+use Rattle.engine_invariant.specs.Rules.{rules}
 use Rattle.engine_invariant.specs.States.{HiveView, counted, life_of, state_of, IsBatch, IsConsistent}
 use Rattle.engine_invariant.specs.Answers.{reply_to, failed, freed, after_step, after_flush, HaveAll}
 use Rattle.engine_invariant.specs.Answers as answers
@@ -52,8 +53,8 @@ module _ (keeps : Keeps) (m : Machine) (base : ℕ) (opened : List Element) (old
   pending_is = ap (λ k. drop (m.durable - k) (timed_elements m.accepted)) (number_is m base opened i.begun) ∙ drop-map timed_element (m.durable - m.before) m.accepted
 
   journal_law : (a : Answer) (d r : ℕ) → JournalSays (m.durable + 1) (timed_elements (pending m)) a old new → d ≡ durable_after a m.durable new
-      → law_kept.InvariantHolds tree_rules GREATEST_NUMBER (length m.opened) (state_of (moved_to m d r) base opened new hives)
-  journal_law a d r says e = journal_step tree_rules GREATEST_NUMBER (length m.opened) a (state_of m base opened old hives) (state_of (moved_to m d r) base opened new hives) i.law (record {
+      → law_kept.InvariantHolds (rules m.bounds.hives) GREATEST_NUMBER (length m.opened) (state_of (moved_to m d r) base opened new hives)
+  journal_law a d r says e = journal_step (rules m.bounds.hives) GREATEST_NUMBER (length m.opened) a (state_of m base opened old hives) (state_of (moved_to m d r) base opened new hives) i.law (record {
     journal = subst (λ (es : List (law.Element TimedOp)). JournalSays (m.durable + 1) es a old new) (sym pending_is) says;
     life = refl;
     durable = e;
@@ -61,8 +62,8 @@ module _ (keeps : Keeps) (m : Machine) (base : ℕ) (opened : List Element) (old
   })
 
   trim_law : (a : Answer) (d r : ℕ) → (old.next ≡ None → (0 < length old.now.elements) × HaveAll m base opened hives)
-      → TrimSays a old new → d ≡ durable_after a m.durable new → law_kept.InvariantHolds tree_rules GREATEST_NUMBER (length m.opened) (state_of (moved_to m d r) base opened new hives)
-  trim_law a d r may says e = trim_step tree_rules GREATEST_NUMBER (length m.opened) a (state_of m base opened old hives) (state_of (moved_to m d r) base opened new hives) i.law (record {
+      → TrimSays a old new → d ≡ durable_after a m.durable new → law_kept.InvariantHolds (rules m.bounds.hives) GREATEST_NUMBER (length m.opened) (state_of (moved_to m d r) base opened new hives)
+  trim_law a d r may says e = trim_step (rules m.bounds.hives) GREATEST_NUMBER (length m.opened) a (state_of m base opened old hives) (state_of (moved_to m d r) base opened new hives) i.law (record {
     may = λ idle. (some_of old.now.elements (may idle).0, has idle);
     journal = says;
     life = refl;
@@ -75,7 +76,7 @@ module _ (keeps : Keeps) (m : Machine) (base : ℕ) (opened : List Element) (old
       some_of (e ∷ es) lt = (e, es, refl)
 
       has : old.next ≡ None → MayTrim (length m.opened) (state_of m base opened old hives)
-      has idle = (trim_test tree_rules GREATEST_NUMBER (length m.opened) (state_of m base opened old hives) i.law).1 (λ j lt. by_slot j lt (slice_get hives j) refl)
+      has idle = (trim_test (rules m.bounds.hives) GREATEST_NUMBER (length m.opened) (state_of m base opened old hives) i.law).1 (λ j lt. by_slot j lt (slice_get hives j) refl)
         where
           by_slot : (j : ℕ) → j < length m.opened → (o : Option HiveView) → slice_get hives j ≡ o → ops_in (life_of m base opened) j (counted o).now.1 m.durable ≡ []
           by_slot j lt None e = absurd (none-some _ (sym e ∙ slice_get-get_or hives j (record { files = settled (fresh_tree, 0); memory = (fresh_tree, 0) }) (omega (arith, lt, i.all))))
@@ -88,7 +89,7 @@ module _ (keeps : Keeps) (m : Machine) (base : ℕ) (opened : List Element) (old
       omega (arith, fit, low)
 
   -- the invariant with another durable number, other room and another journal
-  consistent : (d r : ℕ) → m.durable ≤ d → r ≤ m.room → (e : Event) (p : Reply) → Step m e p (moved_to m d r) → law_kept.InvariantHolds tree_rules GREATEST_NUMBER (length m.opened) (state_of (moved_to m d r) base opened new hives)
+  consistent : (d r : ℕ) → m.durable ≤ d → r ≤ m.room → (e : Event) (p : Reply) → Step m e p (moved_to m d r) → law_kept.InvariantHolds (rules m.bounds.hives) GREATEST_NUMBER (length m.opened) (state_of (moved_to m d r) base opened new hives)
       → ((next : Content TimedOp) → new.next ≡ Some next → (next ≡ nothing) ⊎ IsBatch (moved_to m d r) new.now next) → r ≡ 65 + room_of new.now.elements + room_of (timed_elements (pending (moved_to m d r)))
       → IsConsistent (moved_to m d r) base opened new hives
   consistent d r up low e p step l onward room = record {
@@ -97,6 +98,7 @@ module _ (keeps : Keeps) (m : Machine) (base : ℕ) (opened : List Element) (old
     law = l;
     begun = i.begun;
     all = i.all;
+    one_more = i.one_more;
     own = i.own;
     onward = onward;
     room = room;
@@ -180,7 +182,7 @@ module _ (keeps : Keeps) (m : Machine) (base : ℕ) (opened : List Element) (old
   broke : StepFails m (fault m) refusal.DiskFault (failed m)
   broke = inr (not_faulted m free, record { free = not_faulted m free; told = refl; failed = omega arith; next = refl })
 
-  failed_goes : (e : Event) → Step m e (reply.Refused refusal.DiskFault) (failed m) → law_kept.InvariantHolds tree_rules GREATEST_NUMBER (length m.opened) (state_of m base opened new hives)
+  failed_goes : (e : Event) → Step m e (reply.Refused refusal.DiskFault) (failed m) → law_kept.InvariantHolds (rules m.bounds.hives) GREATEST_NUMBER (length m.opened) (state_of m base opened new hives)
       → ((next : Content TimedOp) → new.next ≡ Some next → (next ≡ nothing) ⊎ IsBatch m new.now next) × (new.now ≡ old.now) → Goes e (Err refusal.DiskFault)
   unfolding Goes
   failed_goes e step l b = (
@@ -191,6 +193,7 @@ module _ (keeps : Keeps) (m : Machine) (base : ℕ) (opened : List Element) (old
       law = l;
       begun = i.begun;
       all = i.all;
+      one_more = i.one_more;
       own = i.own;
       onward = b.0;
       room = same_room b.1;

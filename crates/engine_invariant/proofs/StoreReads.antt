@@ -27,14 +27,15 @@ use Rattle.hive_flush.specs.HiveStates as states
 use Rattle.hive_flush.specs.Decoders.{HiveFilesHold}
 use Rattle.hive_flush.specs.declared.hive.HiveFile.{HiveFile}
 use Rattle.store_model.specs.Machine.{Machine}
-use Rattle.change_codec.specs.ModelChanges.{TimedOp, tree_rules}
-use Rattle.engine_invariant.specs.States.{HiveView, counted, state_of, IsConsistent}
-use Rattle.engine_invariant.specs.Prefixes.{IsPrimaryOf, JournalDecodesTo, Holds, view_of, IsPrefix, IsSafeAt, AreOnDisk, ArePlaced}
+use Rattle.change_codec.specs.ModelChanges.{TimedOp}
+use Rattle.engine_invariant.specs.Rules.{rules}
+use Rattle.engine_invariant.specs.States.{HiveView, tree_of, counted, state_of, IsConsistent}
+use Rattle.engine_invariant.specs.Prefixes.{IsPrimaryOf, trees_after, JournalDecodesTo, Holds, view_of, IsPrefix, IsSafeAt, AreOnDisk, ArePlaced}
 use Rattle.engine_invariant.proofs.HiveLists.{at_slot, viewed}
 use Rattle.engine_invariant.proofs.Bridge.{last_is, tree_of_is}
 
 module _ (store : Store) (m : Machine) (base : ℕ) (opened : List Element) (journal : Choice (Content TimedOp)) (hives : List HiveView)
-    (i : IsConsistent m base opened journal hives) where
+    (i : IsConsistent m base opened journal hives) (same : m.bounds.hives ≡ store.hives) where
   abbrev decodes : List ℕ → Content TimedOp → Type 0
   decodes = JournalDecodesTo store
 
@@ -42,7 +43,7 @@ module _ (store : Store) (m : Machine) (base : ℕ) (opened : List Element) (jou
   holds = Holds store
 
   -- the crash model's prefix is the machine's
-  of_law : (files : ℕ → List ℕ) → FilesPrefix tree_rules decodes holds GREATEST_NUMBER (length m.opened) (state_of m base opened journal hives) files → IsPrefix store m files
+  of_law : (files : ℕ → List ℕ) → FilesPrefix (rules m.bounds.hives) decodes holds GREATEST_NUMBER (length m.opened) (state_of m base opened journal hives) files → IsPrefix store m files
   of_law files (n, low, high, found) = (
     n,
     low,
@@ -52,7 +53,8 @@ module _ (store : Store) (m : Machine) (base : ℕ) (opened : List Element) (jou
       decoded = found.decoded;
       last = found.last;
       limit = found.limit;
-      each = λ j lt. subst (HiveRecovers tree_rules (holds (files (1 + 2 * j)) (files (2 + 2 * j))) found.journal j n) (sym (tree_of_is m base opened i.begun n j lt)) (found.each j lt);
+      each = λ j lt. subst (λ k. HiveRecovers (rules k) (holds (files (1 + 2 * j)) (files (2 + 2 * j))) found.journal j n (tree_of (trees_after m n) j)) same
+          (subst (HiveRecovers (rules m.bounds.hives) (holds (files (1 + 2 * j)) (files (2 + 2 * j))) found.journal j n) (sym (tree_of_is m.bounds.hives m base opened i.begun n j lt)) (found.each j lt));
     },
   )
 
@@ -60,7 +62,7 @@ module _ (store : Store) (m : Machine) (base : ℕ) (opened : List Element) (jou
       → ((j : ℕ) (h : HiveView) → slice_get hives j ≡ Some h → HiveOn holds h.files (λ c. file.Leaves (state (1 + 2 * j)) c × IsHonest (state (1 + 2 * j)) c) (file.Leaves (state (2 + 2 * j))))
       → (files : ℕ → List ℕ) → LeavesHonest (IsPrimaryOf (length m.opened)) state files → IsPrefix store m files
   stands state on each files left = of_law files
-      (files_prefix tree_rules decodes holds GREATEST_NUMBER (length m.opened) (state_of m base opened journal hives) i.law (file.Leaves (state 0)) on
+      (files_prefix (rules m.bounds.hives) decodes holds GREATEST_NUMBER (length m.opened) (state_of m base opened journal hives) i.law (file.Leaves (state 0)) on
       (λ j c. file.Leaves (state (1 + 2 * j)) c × IsHonest (state (1 + 2 * j)) c) (λ j. file.Leaves (state (2 + 2 * j))) (λ j lt. by_slot j lt (slice_get hives j) refl)
       files (left.0 0) (λ j lt. ((left.0 (1 + 2 * j), left.1 (1 + 2 * j) (j, lt, refl)), left.0 (2 + 2 * j))))
     where
@@ -77,8 +79,8 @@ abbrev pub HivePromise : Type 0
 HivePromise = (hive : HiveFile) (primary log : FileState) → FilesMatchHive hive primary log → HiveOn (HiveFilesHold (states.store_of hive)) (states.file_choice hive) (λ c. file.Leaves primary c × IsHonest primary c) (file.Leaves log)
 
 pub disk_stands : JournalPromise → HivePromise → (store : Store) (m : Machine) (base : ℕ) (opened : List Element) (journal : Journal) (hives : List HiveFile) (states_at : ℕ → ℕ → FileState) (k : ℕ)
-    → IsConsistent m base opened (choice_of journal) (map view_of hives) → journals.store_of journal ≡ store → ArePlaced store hives → AreOnDisk journal hives (states_at k) → IsSafeAt store states_at k m
-disk_stands decodes_on holds_on store m base opened journal hives states_at k i owner placed on = stands store m base opened (choice_of journal) (map view_of hives) i (states_at k)
+    → IsConsistent m base opened (choice_of journal) (map view_of hives) → journals.store_of journal ≡ store → m.bounds.hives ≡ store.hives → ArePlaced store hives → AreOnDisk journal hives (states_at k) → IsSafeAt store states_at k m
+disk_stands decodes_on holds_on store m base opened journal hives states_at k i owner same placed on = stands store m base opened (choice_of journal) (map view_of hives) i same (states_at k)
     (subst (λ (s : Store). JournalOn (DecodesBy (decoded (encodings s))) (choice_of journal) (file.Leaves (states_at k journal_file))) owner (decodes_on (encodings_of journal) (journal_view journal) (states_at k journal_file) on.decodes)) each
   where
     each : (j : ℕ) (v : HiveView) → slice_get (map view_of hives) j ≡ Some v → HiveOn (Holds store) v.files (λ c. file.Leaves (states_at k (primary_file j)) c × IsHonest (states_at k (primary_file j)) c) (file.Leaves (states_at k (log_file j)))

@@ -1,3 +1,4 @@
+pub mod Rules
 pub mod States
 pub mod Prefixes
 pub mod Openings

@@ -8,7 +8,8 @@ use Rattle.crash_model.specs.Files.{DecodesBy, FilesRecover}
 use Rattle.disk_model.specs.FileState.{FileState}
 use Rattle.disk_model.specs.Crash.{LeavesHonest}
 use Rattle.disk_model.specs.StoreFiles.{primary_file, log_file, journal_file}
-use Rattle.change_codec.specs.ModelChanges.{TimedOp, rules}
+use Rattle.change_codec.specs.ModelChanges.{TimedOp}
+use Rattle.engine_invariant.specs.Rules.{rules}
 use Rattle.commit_journal.specs.Encoding.{decoded}
 use Rattle.commit_journal.specs.Store.{Store, encodings}
 use Rattle.commit_journal.specs.OnDisk.{is_on}

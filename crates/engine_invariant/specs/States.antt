@@ -9,7 +9,8 @@ use Rattle.crash_model.specs.Life.{Life}
 use Rattle.crash_model.specs.Invariant.{State}
 use Rattle.crash_model.specs.Invariant as law
 use Rattle.crash_model.specs.Memory.{with_memory, IsOfMemory}
-use Rattle.change_codec.specs.ModelChanges.{TimedOp, rules, timed_elements}
+use Rattle.change_codec.specs.ModelChanges.{TimedOp, timed_elements}
+use Rattle.engine_invariant.specs.Rules.{rules}
 use Rattle.commit_journal.specs.Store.{room_of}
 use Rattle.store_model.specs.Machine.{Machine, pending}
 use Rattle.store_model.specs.Invariant.{InvariantHolds}
@@ -56,10 +57,10 @@ IsBatch machine now next = (count : ℕ) × (1 ≤ count) × (count ≤ length (
 
 -- The invariant of an engine, without the disk. The machine has its invariant. Its room is within the limit if a change
 -- is pending, while a journal that was opened may have used more. The crash model's invariant holds, with the hives'
--- memory counted as under way. The life begins where the machine does. There are as many hives as trees. What is under
--- way to a hive's files is its memory. What is under way to the journal is the content without elements, by a trim, or
--- a batch of the pending changes. The machine's room is that of the changes that the journal decodes to and of the
--- pending ones.
+-- memory counted as under way. The life begins where the machine does. There are as many hives as trees, and at most
+-- one beside those that calls name. What is under way to a hive's files is its memory. What is under way to the journal is
+-- the content without elements, by a trim, or a batch of the pending changes. The machine's room is that of the changes
+-- that the journal decodes to and of the pending ones.
 pub record IsConsistent (machine : Machine) (base : ℕ) (opened : List Element) (journal : Choice (Content TimedOp))
     (hives : List HiveView) : Type 0 where
   pub kept : InvariantHolds machine
@@ -67,6 +68,7 @@ pub record IsConsistent (machine : Machine) (base : ℕ) (opened : List Element)
   pub law : law.InvariantHolds (rules machine.bounds.hives) GREATEST_NUMBER (length machine.opened) (state_of machine base opened journal hives)
   pub begun : machine.before ≡ base + length opened
   pub all : length hives ≡ length machine.opened
+  pub one_more : length machine.opened ≤ machine.bounds.hives + 1
   pub own : (i : ℕ) (hive : HiveView) → slice_get hives i ≡ Some hive → IsOfMemory hive.files hive.memory
   pub onward : (next : Content TimedOp) → journal.next ≡ Some next → (next ≡ nothing) ⊎ IsBatch machine journal.now next
   pub room : machine.room ≡ 65 + room_of journal.now.elements + room_of (timed_elements (pending machine))

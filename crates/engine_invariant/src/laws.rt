@@ -12,7 +12,7 @@ ghost use Rattle.disk_model.specs.declared.progress.Progress.{Progress};
 ghost use Rattle.disk_model.specs.declared.progress.Progress.TheVariants as progress;
 ghost use Rattle.store_model.specs.Machine.{Machine, last_number, opened_machine, pending, trees_now};
 ghost use Rattle.store_model.specs.Steps.{EndsTrim, Step, Run, is_request};
-ghost use Rattle.store_model.specs.Invariant.{InvariantHolds};
+ghost use Rattle.store_model.specs.Invariant.{InvariantHolds, OutcomesFit};
 ghost use Rattle.store_model.specs.declared.bounds.StoreBounds.{StoreBounds};
 ghost use Rattle.store_model.specs.declared.event.Event.{Event};
 ghost use Rattle.store_model.specs.declared.event.Event.TheVariants as event;
@@ -39,12 +39,14 @@ ghost use Rattle.engine_invariant.specs.Progress.{FlushView, FlushesOn, HasFlush
 
 use reg_tree::{Op, Tree};
 
-/// What an opening finds begins a life that has the invariant, whatever its bounds are. The machine is as it is opened,
-/// and its room is that of the changes that the journal decodes to.
+/// What an opening finds begins a life that has the invariant, if at most one tree is beside those that calls name, and
+/// a tree of outcomes has commits up to the number. The machine is as it is opened, and its room is that of the changes
+/// that the journal decodes to.
 pub fn openings_begin()
     ensures { (bounds : StoreBounds) (trees : List TreeMap) (number failures base : ℕ)
         (opened : List Element) (journal : Choice (Content TimedOp)) (hives : List HiveView) →
-        OpeningRecovers trees number base opened journal hives →
+        OpeningRecovers bounds.hives trees number base opened journal hives →
+        length trees ≤ bounds.hives + 1 → OutcomesFit bounds trees number →
         IsConsistent (record (opened_machine bounds trees number [] failures)
         { room = 65 + room_of journal.now.elements }) base opened journal hives }
 {
@@ -61,6 +63,7 @@ pub fn events_keep()
 {
     store_model::laws::steps_keep_invariant();
     store_model::laws::only_steps_make_durable();
+    commit_outcomes::laws::trees_have_commits();
 }
 
 /// A fold keeps the invariant, if the changes of the history count among those before it from then on.
@@ -146,13 +149,13 @@ pub fn hive_steps_keep()
 }
 
 /// If the invariant holds, and journal and hives are on the disk as they say, whatever a crash leaves at that moment is
-/// a prefix of the machine's changes. That assumes honest first sectors, and stays so of that moment as the disk
-/// changes.
+/// a prefix of the machine's changes. That assumes that calls name as many hives of the machine as the journal's header
+/// says, and honest first sectors. It stays so of that moment as the disk changes.
 pub fn crashes_leave_prefixes()
     ensures safe { (store : Store) (machine : Machine) (base : ℕ) (opened : List Element)
         (journal : Journal) (hives : List HiveFile) (states : ℕ → ℕ → FileState) (moment : ℕ) →
         IsConsistent machine base opened (choice_of journal) (map view_of hives) →
-        store_of journal ≡ store → ArePlaced store hives →
+        store_of journal ≡ store → machine.bounds.hives ≡ store.hives → ArePlaced store hives →
         AreOnDisk journal hives (states moment) → IsSafeAt store states moment machine }
     ensures past { (store : Store) (old new : ℕ → ℕ → FileState) (clock : ℕ) →
         ((k f : ℕ) → k ≤ clock → new k f ≡ old k f) →
