@@ -8,10 +8,12 @@ use Rattle.crash_model.specs.Promises.{Choice, Content}
 use Rattle.crash_model.proofs.Lists.{take_nil}
 use Rattle.disk_model.specs.FileState.{FileState}
 use Rattle.disk_model.specs.Crash.{LeavesHonest}
-use Rattle.store_model.specs.Machine.{Machine, bounds_of, opened_machine}
+use Rattle.store_model.specs.Machine.{Machine, bounds_for, opened_machine}
+use Rattle.store_model.specs.Invariant.{OutcomesFit}
 use Rattle.store_model.specs.declared.bounds.StoreBounds.{StoreBounds}
 use Rattle.change_codec.specs.ModelChanges.{TimedOp}
-use Rattle.commit_journal.specs.Store.{Store, room_of}
+use Rattle.commit_journal.specs.Store.{Store, all_hives, room_of}
+use Rattle.commit_journal.proofs.StoreHives.{most_hives}
 use Rattle.commit_journal.specs.Journals.{changes_of, choice_of, store_of}
 use Rattle.commit_journal.specs.declared.journal.Journal.{Journal}
 use Rattle.hive_flush.specs.declared.hive.HiveFile.{HiveFile}
@@ -28,27 +30,27 @@ use Rattle.recovery.specs.declared.found.RecoveredStore.{RecoveredStore}
 -- The laws that are used
 
 abbrev pub Begins : Type 0
-Begins = (bounds : StoreBounds) (trees : List TreeMap) (number failures base : ℕ) (opened : List Element) (journal : Choice (Content TimedOp)) (hives : List HiveView) → OpeningRecovers trees number base opened journal hives
-    → IsConsistent (record (opened_machine bounds trees number [] failures) { room = 65 + room_of journal.now.elements }) base opened journal hives
+Begins = (bounds : StoreBounds) (trees : List TreeMap) (number failures base : ℕ) (opened : List Element) (journal : Choice (Content TimedOp)) (hives : List HiveView) → OpeningRecovers bounds.hives trees number base opened journal hives
+    → length trees ≤ bounds.hives + 1 → OutcomesFit bounds trees number → IsConsistent (record (opened_machine bounds trees number [] failures) { room = 65 + room_of journal.now.elements }) base opened journal hives
 
 abbrev pub Safe : Type 0
 Safe = (store : Store) (machine : Machine) (base : ℕ) (opened : List Element) (journal : Journal) (hives : List HiveFile) (states : ℕ → ℕ → FileState) (moment : ℕ) → IsConsistent machine base opened (choice_of journal) (map view_of hives)
-    → store_of journal ≡ store → ArePlaced store hives → AreOnDisk journal hives (states moment) → IsSafeAt store states moment machine
+    → store_of journal ≡ store → machine.bounds.hives ≡ store.hives → ArePlaced store hives → AreOnDisk journal hives (states moment) → IsSafeAt store states moment machine
 
 -- what was found has a tree for each hive
-pub found_long : Begins → (found : RecoveredStore) → InvariantHolds found → length found.trees ≡ (store_of found.journal).hives
-found_long begins found kept =
-    let begun = begins (bounds_of found.trees) found.trees found.number 0 found.base (changes_of found.journal) (choice_of found.journal) (map view_of found.hives.items) kept.recovers in
-    sym begun.all ∙ length-map found.hives.items view_of ∙ kept.many
+pub found_long : (found : RecoveredStore) → InvariantHolds found → length found.trees ≡ all_hives (store_of found.journal)
+found_long found kept = sym kept.recovers.all ∙ length-map found.hives.items view_of ∙ kept.many
 
 -- an opened store's files recover what was found, whatever a crash leaves of them
 pub still_recovered : Begins → Safe → (found : RecoveredStore) → InvariantHolds found → (states : ℕ → ℕ → FileState) (moment : ℕ) → AreOnDisk found.journal found.hives.items (states moment)
-    → (files : ℕ → List ℕ) → LeavesHonest (IsPrimaryOf (store_of found.journal).hives) (states moment) files → IsRecovered files (store_of found.journal) found.number found.trees
+    → (files : ℕ → List ℕ) → LeavesHonest (IsPrimaryOf (all_hives (store_of found.journal))) (states moment) files → IsRecovered files (store_of found.journal) found.number found.trees
 still_recovered begins safe found kept states moment on files left =
-    let begun = begins (bounds_of found.trees) found.trees found.number 0 found.base (changes_of found.journal) (choice_of found.journal) (map view_of found.hives.items) kept.recovers in
-    let long = found_long begins found kept in
+    let long = found_long found kept in
+    let its = store_of found.journal in
+    let few : length found.trees ≤ its.hives + 1 = omega (arith, long, most_hives its.layout its.hives) in
+    let begun = begins (bounds_for its.hives) found.trees found.number 0 found.base (changes_of found.journal) (choice_of found.journal) (map view_of found.hives.items) kept.recovers few kept.outcomes in
     let own = subst (λ n. LeavesHonest (IsPrimaryOf n) (states moment) files) (sym long) left in
-    let p = safe (store_of found.journal) _ found.base (changes_of found.journal) found.journal found.hives.items states moment begun refl kept.placed on files own in
+    let p = safe (store_of found.journal) _ found.base (changes_of found.journal) found.journal found.hives.items states moment begun refl refl kept.placed on files own in
     let number : p.0 ≡ found.number = omega (arith, p.1, p.2) in
     record {
       store_is = kept.store;
@@ -68,22 +70,22 @@ module _ {D : Type 0} (state_at : D → ℕ → ℕ → FileState) (clock : D �
     (on_disk : faithful inside.disk → AreOnDisk inside.found.journal inside.found.hives.items (state_at inside.disk (clock inside.disk))) where
   -- whatever a crash leaves at a moment of a disk recovers what is shown
   abbrev pub StillShown : D → ℕ → Type 0
-  StillShown disk moment = faithful disk → (files : ℕ → List ℕ) → LeavesHonest (IsPrimaryOf (shown.store_of it).hives) (state_at disk moment) files → IsRecovered files (shown.store_of it) it.found.number it.found.trees
+  StillShown disk moment = faithful disk → (files : ℕ → List ℕ) → LeavesHonest (IsPrimaryOf (all_hives (shown.store_of it))) (state_at disk moment) files → IsRecovered files (shown.store_of it) it.found.number it.found.trees
 
   pub before_call : (disk : D) → (faithful disk → faithful inside.disk) → ((k f : ℕ) → k ≤ clock inside.disk → state_at disk k f ≡ state_at inside.disk k f) → StillShown disk (clock it.disk)
   before_call disk back past =
-      subst (λ (v : Shown D). faithful disk → (files : ℕ → List ℕ) → LeavesHonest (IsPrimaryOf (shown.store_of v).hives) (state_at disk (clock v.disk)) files → IsRecovered files (shown.store_of v) v.found.number v.found.trees) is
+      subst (λ (v : Shown D). faithful disk → (files : ℕ → List ℕ) → LeavesHonest (IsPrimaryOf (all_hives (shown.store_of v))) (state_at disk (clock v.disk)) files → IsRecovered files (shown.store_of v) v.found.number v.found.trees) is
       (λ f. still_recovered begins safe inside.found kept (state_at disk) (clock inside.disk)
       (subst (AreOnDisk inside.found.journal inside.found.hives.items) (same_moment (state_at inside.disk) (state_at disk) (clock inside.disk) past) (on_disk (back f))))
 
   pub no_call : StillShown it.disk (clock it.disk)
-  no_call = subst (λ (v : Shown D). faithful v.disk → (files : ℕ → List ℕ) → LeavesHonest (IsPrimaryOf (shown.store_of v).hives) (state_at v.disk (clock v.disk)) files → IsRecovered files (shown.store_of v) v.found.number v.found.trees) is
+  no_call = subst (λ (v : Shown D). faithful v.disk → (files : ℕ → List ℕ) → LeavesHonest (IsPrimaryOf (all_hives (shown.store_of v))) (state_at v.disk (clock v.disk)) files → IsRecovered files (shown.store_of v) v.found.number v.found.trees) is
       (λ f. still_recovered begins safe inside.found kept (state_at inside.disk) (clock inside.disk) (on_disk f))
 
   pub after_call : (disk : D) (found : RecoveredStore) → (faithful disk → faithful inside.disk) → found ≡ record inside.found { hives = found.hives } → InvariantHolds found
       → (faithful disk → AreOnDisk inside.found.journal inside.found.hives.items (state_at inside.disk (clock inside.disk)) → AreOnDisk found.journal found.hives.items (state_at disk (clock disk))) → StillShown disk (clock disk)
   after_call disk found back rest no_change on =
-      subst (λ (v : Shown D). faithful disk → (files : ℕ → List ℕ) → LeavesHonest (IsPrimaryOf (shown.store_of v).hives) (state_at disk (clock disk)) files → IsRecovered files (shown.store_of v) v.found.number v.found.trees) is
+      subst (λ (v : Shown D). faithful disk → (files : ℕ → List ℕ) → LeavesHonest (IsPrimaryOf (all_hives (shown.store_of v))) (state_at disk (clock disk)) files → IsRecovered files (shown.store_of v) v.found.number v.found.trees) is
       (λ f files left. subst (λ (x : RecoveredStore). IsRecovered files (journals.store_of x.journal) x.number x.trees) rest
       (still_recovered begins safe found no_change (state_at disk) (clock disk) (on f (on_disk (back f))) files
-      (subst (λ (x : RecoveredStore). LeavesHonest (IsPrimaryOf (journals.store_of x.journal).hives) (state_at disk (clock disk)) files) (sym rest) left)))
+      (subst (λ (x : RecoveredStore). LeavesHonest (IsPrimaryOf (all_hives (journals.store_of x.journal))) (state_at disk (clock disk)) files) (sym rest) left)))

@@ -1,5 +1,5 @@
 -- A store that is made recovers the trees of which it is made, at number 0.
-use Rattle.std.proofs.Common.{◌≡◌, inl, inr, ℕ, ◌+◌, ◌<◌, ◌≤◌, List, [], ◌∷◌, ◌++◌, length, take, refl, sym, ◌∙◌, ap, subst, arith, Result, Ok, Err, OnOk, Some, slice_get, length-append}
+use Rattle.std.proofs.Common.{◌≡◌, inl, inr, ℕ, ◌+◌, ◌<◌, ◌≤◌, List, [], ◌∷◌, ◌++◌, length, take, refl, sym, ◌∙◌, ap, subst, arith, Result, Ok, Err, OnOk, Some, slice_get, length-append, true, IsTrue}
 use Rattle.std.proofs.lemmas.Option.{get_or_from_slice_get, none-some, same_Some, slice_get_within}
 use Rattle.std.proofs.lemmas.Bool.{cases_eq}
 use Rattle.std.specs.Prelude.{min}
@@ -17,9 +17,13 @@ use Rattle.disk_model.specs.Call.{Extends}
 use Rattle.disk_model.specs.Sector.{IsHonest}
 use Rattle.disk_model.specs.StoreFiles.{IsJournal, IsFileOfHive, primary_file, log_file, journal_file}
 use Rattle.disk_model.proofs.Leaves.{left_at_rest}
-use Rattle.change_codec.specs.ModelChanges.{TimedOp, tree_rules}
+use Rattle.change_codec.specs.ModelChanges.{TimedOp}
 use Rattle.commit_journal.specs.Encoding.{decoded}
-use Rattle.commit_journal.specs.Store.{IsStore, Store, encodings}
+use Rattle.commit_journal.specs.Store.{IsStore, Store, all_hives, encodings, hives_in}
+use Rattle.commit_journal.specs.declared.store_layout.Layout.{Layout}
+use Rattle.commit_journal.specs.declared.store_layout.Layout.TheVariants.{HivesAlone, WithOutcomes}
+use Rattle.commit_journal.proofs.StoreHives.{least_hives, most_hives}
+use Rattle.commit_outcomes.specs.Trees.{are_outcomes}
 use Rattle.commit_journal.specs.OnDisk.{JournalView, is_on}
 use Rattle.commit_journal.specs.Journals.{choice_of, store_of, encodings_of, journal_view}
 use Rattle.commit_journal.specs.declared.journal.Journal.{Journal}
@@ -27,15 +31,17 @@ use Rattle.hive_files.specs.Frames.{TouchesOwnFiles}
 use Rattle.hive_files.proofs.Frames.{extends_on}
 use Rattle.hive_file_reader.specs.Hives.{FileHoldsHive}
 use Rattle.hive_file_reader.specs.Readings.{FileRefusedAs}
-use Rattle.hive_flush.specs.Creation.{IsImageOf, IsImageOfFile}
+use Rattle.hive_flush.specs.Creation.{AreCreated, IsImageOf, IsImageOfFile}
 use Rattle.hive_flush.specs.Decoders.{HiveFilesHold}
 use Rattle.hive_flush.specs.declared.image.HiveImage.{HiveImage}
-use Rattle.engine_invariant.specs.Prefixes.{Holds, JournalDecodesTo}
+use Rattle.engine_invariant.specs.Prefixes.{Holds, JournalDecodesTo, Recover}
+use Rattle.engine_invariant.specs.Rules.{rules}
 use Rattle.engine_invariant.specs.States.{tree_of}
 use Rattle.engine_invariant.proofs.HiveLists.{at_slot, each_pushed}
-use Rattle.recovery.specs.Created.{AreImagesOf, AreWritten, HiveIsDurable, HivesAreDurable, HivesAreMade, IsOfHives, IsOfStore, IsWritten, new_store}
+use Rattle.recovery.specs.Created.{AreImagesIn, AreImagesOf, AreWritten, HiveIsDurable, HivesAreDurable, HivesAreMade, IsOfHives, IsOfStore, IsWritten, trees_in}
 use Rattle.recovery.specs.FileCopies.{AreImagesOfFiles, HivesAreCopied, IsRefusalOfFile}
 use Rattle.recovery.specs.Recovered.{IsRecovered}
+use Rattle.recovery.proofs.Outcomes.{allowed_found}
 use Rattle.recovery.proofs.ListEntries.{got_end, got_front, got_next, got_push}
 
 -- The law of a journal's phases that is used
@@ -199,28 +205,69 @@ nothing_left law journal store is empty state on c left =
     stands s (inr next) = absurd (none-some s (sym (ap (λ (c : Choice (Content TimedOp)). c.next) empty) ∙ next))
 
 -- the trees are recovered from hives that store them at number 0, and no change
-fresh : (trees : List TreeMap) → 1 ≤ length trees → Recovers tree_rules GREATEST_NUMBER (length trees) nothing (λ i. (tree_of trees i, 0)) 0 (tree_of trees)
-unfolding tree_rules
-fresh trees some = record {
+fresh : (named : ℕ) (trees : List TreeMap) → 1 ≤ length trees → ((i : ℕ) → i < length trees → IsTrue ((rules named).allows i 0 (tree_of trees i))) → Recovers (rules named) GREATEST_NUMBER (length trees) nothing (λ i. (tree_of trees i, 0)) 0 (tree_of trees)
+fresh named trees some allowed = record {
   last = (0, omega (arith, some), refl);
   limit = omega arith;
   not_above = λ i lt. omega arith;
   tree = λ i lt. refl;
-  allowed = λ i lt. refl;
+  allowed = allowed;
 }
 
-pub recovers_durable : Spelling → (journal : Journal) (id : List ℕ) (trees : List TreeMap) → store_of journal ≡ new_store id trees → choice_of journal ≡ settled nothing → IsStore (new_store id trees)
-    → (state : ℕ → FileState) → is_on (encodings_of journal) (journal_view journal) (state journal_file) → HivesAreDurable id trees state
-    → (files : ℕ → List ℕ) → ((f : ℕ) → Leaves (state f) (files f)) → IsRecovered files (new_store id trees) 0 trees
-recovers_durable law journal id trees is empty store state on hives files left = record {
-  store_is = store;
-  many = refl;
-  recovers = files_recover tree_rules (JournalDecodesTo (new_store id trees)) (Holds (new_store id trees)) GREATEST_NUMBER (length trees) files nothing (λ i. (tree_of trees i, 0)) 0 (tree_of trees)
-      (nothing_left law journal (new_store id trees) is empty (state journal_file) on (files journal_file) (left journal_file)) held (fresh trees store.some_hives);
+pub recovers_durable : Spelling → (journal : Journal) (store : Store) (trees : List TreeMap) → store_of journal ≡ store → choice_of journal ≡ settled nothing → IsStore store → length trees ≡ all_hives store
+    → ((tree : TreeMap) → slice_get trees store.hives ≡ Some tree → are_outcomes 0 tree ≡ true)
+    → (state : ℕ → FileState) → is_on (encodings_of journal) (journal_view journal) (state journal_file) → HivesAreDurable store.id trees state
+    → (files : ℕ → List ℕ) → ((f : ℕ) → Leaves (state f) (files f)) → IsRecovered files store 0 trees
+recovers_durable law journal store trees is empty whole many outcomes state on hives files left = record {
+  store_is = whole;
+  many = many;
+  recovers = subst (λ n. Recover store n files 0 trees) many
+      (files_recover (rules store.hives) (JournalDecodesTo store) (Holds store) GREATEST_NUMBER (length trees) files nothing (λ i. (tree_of trees i, 0)) 0 (tree_of trees)
+      (nothing_left law journal store is empty (state journal_file) on (files journal_file) (left journal_file)) held
+      (fresh store.hives trees (omega (arith, many, whole.some_hives, least_hives store.layout store.hives)) (allowed_found store.hives 0 trees (omega (arith, many, most_hives store.layout store.hives)) outcomes)));
 }
   where
-    held : (i : ℕ) → i < length trees → HiveFilesHold id (files (primary_file i)) (files (log_file i)) (tree_of trees i, 0)
+    held : (i : ℕ) → i < length trees → HiveFilesHold store.id (files (primary_file i)) (files (log_file i)) (tree_of trees i, 0)
     held i lt =
         let at = at_slot trees i lt in
-        subst (λ (t : TreeMap). HiveFilesHold id (files (primary_file i)) (files (log_file i)) (t, 0)) (sym (get_or_from_slice_get trees i at.0 fresh_tree at.1))
-        (left_held id at.0 (state (primary_file i)) (state (log_file i)) (hives i at.0 at.1) (files (primary_file i)) (files (log_file i)) (left (primary_file i)) (left (log_file i)))
+        subst (λ (t : TreeMap). HiveFilesHold store.id (files (primary_file i)) (files (log_file i)) (t, 0)) (sym (get_or_from_slice_get trees i at.0 fresh_tree at.1))
+        (left_held store.id at.0 (state (primary_file i)) (state (log_file i)) (hives i at.0 at.1) (files (primary_file i)) (files (log_file i)) (left (primary_file i)) (left (log_file i)))
+
+-- ---- the hive after those that calls name
+
+pub images_many : (id : List ℕ) (layout : Layout) (images all : List HiveImage) → AreImagesIn id layout images all → length all ≡ hives_in layout (length images)
+images_many id HivesAlone images all is = ap (λ (hs : List HiveImage). length hs) is
+images_many id WithOutcomes images all (image, is, here) = ap (λ (hs : List HiveImage). length hs) is ∙ length-append images (image ∷ [])
+
+pub trees_many : (layout : Layout) (trees : List TreeMap) → length (trees_in layout trees) ≡ hives_in layout (length trees)
+trees_many HivesAlone trees = refl
+trees_many WithOutcomes trees = length-append trees (fresh_tree ∷ [])
+
+-- the images are those of the trees, in either layout
+pub images_are : (id : List ℕ) (layout : Layout) (trees : List TreeMap) (images all : List HiveImage) → length images ≡ length trees → AreImagesOf id trees images → AreImagesIn id layout images all → AreImagesOf id (trees_in layout trees) all
+images_are id HivesAlone trees images all many are is = subst (AreImagesOf id trees) (sym is) are
+images_are id WithOutcomes trees images all many are (image, is, here) = subst (AreImagesOf id (trees ++ fresh_tree ∷ [])) (sym is)
+    (each_pushed images image (λ i x. (t : TreeMap) → slice_get (trees ++ fresh_tree ∷ []) i ≡ Some t → IsImageOf id t x)
+    (λ i x at t there. are i x at t (sym (got_front trees (fresh_tree ∷ []) i (omega (arith, slice_get_within images i x at, many))) ∙ there))
+    (λ t there. subst (λ (u : TreeMap). IsImageOf id u image) (got_end trees fresh_tree [] (length images) t many there) here))
+
+-- that after those of the trees is of outcomes
+pub last_outcomes : (layout : Layout) (trees : List TreeMap) → are_outcomes 0 fresh_tree ≡ true → (tree : TreeMap) → slice_get (trees_in layout trees) (length trees) ≡ Some tree → are_outcomes 0 tree ≡ true
+last_outcomes HivesAlone trees new tree at = absurd (omega (arith, slice_get_within trees (length trees) tree at))
+last_outcomes WithOutcomes trees new tree at = subst (λ (t : TreeMap). are_outcomes 0 t ≡ true) (got_end trees fresh_tree [] (length trees) tree refl at) new
+
+-- the first hives are written, and the one after them
+pub written_front : (images : List HiveImage) (image : HiveImage) (all : List HiveImage) (state : ℕ → FileState) → all ≡ images ++ image ∷ [] → AreWritten all state → AreWritten images state
+written_front images image all state is written i x at =
+    written i x (ap (λ (hs : List HiveImage). slice_get hs i) is ∙ got_front images (image ∷ []) i (slice_get_within images i x at) ∙ at)
+
+pub written_last : (id : List ℕ) (images : List HiveImage) (image : HiveImage) (all : List HiveImage) (state : ℕ → FileState) (count : ℕ) → all ≡ images ++ image ∷ [] → length images ≡ count → IsImageOf id fresh_tree image → AreWritten all state
+    → AreCreated id fresh_tree (state (primary_file count)) (state (log_file count))
+written_last id images image all state count is many here written =
+    (written count image (ap (λ (hs : List HiveImage). slice_get hs count) is ∙ ap (slice_get (images ++ image ∷ [])) (sym many) ∙ got_next images image [])).created id fresh_tree here
+
+-- a tree is durable after others
+pub durable_pushed : (id : List ℕ) (trees : List TreeMap) (state : ℕ → FileState) → HivesAreDurable id trees state → AreCreated id fresh_tree (state (primary_file (length trees))) (state (log_file (length trees)))
+    → HivesAreDurable id (trees ++ fresh_tree ∷ []) state
+durable_pushed id trees state durable last = each_pushed trees fresh_tree (λ i t. HiveIsDurable id t (state (primary_file i)) (state (log_file i))) durable
+    (record { primary_rests = rests _ _ last.made.whole; log_rests = rests _ _ last.made.empty; holds = last.holds })

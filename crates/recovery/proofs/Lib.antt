@@ -1,4 +1,5 @@
 pub mod Replays
+mod Outcomes
 mod Together
 mod Scanned
 mod ReplaySteps
@@ -9,6 +10,7 @@ mod Refused
 mod Repairs
 mod Crashes
 pub mod ListEntries
+pub mod FreshTree
 mod Creations
 mod Beginnings
 mod Counting

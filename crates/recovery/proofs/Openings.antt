@@ -12,7 +12,7 @@ use Rattle.disk_model.proofs.Unwritten.{seen_same}
 use Rattle.change_codec.specs.ModelChanges.{TimedOp}
 use Rattle.change_codec.specs.Encoding.{Fits}
 use Rattle.commit_journal.specs.Encoding.{decoded}
-use Rattle.commit_journal.specs.Store.{Store, IsStore, IsNoJournal, encodings}
+use Rattle.commit_journal.specs.Store.{Store, IsStore, IsNoJournal, all_hives, encodings}
 use Rattle.commit_journal.specs.Journals.{changes_of, choice_of, encodings_of}
 use Rattle.commit_journal.specs.ReadBuffers as journals
 use Rattle.commit_journal.specs.declared.journal.Journal.{Journal}
@@ -42,7 +42,7 @@ wrong files i _ e none = absurd e
 
 -- a refusal of a hive, as one of the store whose journal was read after it
 pub refused_hives : (read faithful : Type 0) → (faithful → read) → (rose risen : Type 0) → (rose → risen) → (store : Store) → IsStore store → (now : Content TimedOp) (old : ℕ → FileState) → (faithful → decoded (encodings store) (old journal_file).seen ≡ Some now)
-    → (why : Refusal) → RefusalHasCause rose (IsNoHive read store.id store.hives old) why → RefusalHasCause risen (IsNoStore faithful (seen_in old)) why
+    → (why : Refusal) → RefusalHasCause rose (IsNoHive read store.id (all_hives store) old) why → RefusalHasCause risen (IsNoStore faithful (seen_in old)) why
 refused_hives read faithful back rose risen up store is now old decodes why (inl hungry) = inl hungry
 refused_hives read faithful back rose risen up store is now old decodes why (inr (inl (fault, r))) = inr (inl (fault, up r))
 refused_hives read faithful back rose risen up store is now old decodes why (inr (inr (i, lt, (of, none)))) =
@@ -85,7 +85,7 @@ opened_still read faithful back store old mid new hives opened others i hive is 
     }
 
 -- What was read of a store: its journal, and its hives.
-module _ (faithful : Type 0) (store : Store) (then now : ℕ → FileState) (journal : Journal) (hives : List HiveFile) (is : IsScanned faithful store then now journal) (many : length hives ≡ store.hives)
+module _ (faithful : Type 0) (store : Store) (then now : ℕ → FileState) (journal : Journal) (hives : List HiveFile) (is : IsScanned faithful store then now journal) (many : length hives ≡ all_hives store)
     (opened : (i : ℕ) (hive : HiveFile) → slice_get hives i ≡ Some hive → IsOpened faithful store.id then now i hive) where
   abbrev changes : List Element
   changes = changes_of journal
@@ -94,9 +94,9 @@ module _ (faithful : Type 0) (store : Store) (then now : ℕ → FileState) (jou
   at_rest = record {
     store = subst IsStore (sym is.of) is.store_is;
     choice = is.choice;
-    fit = subst (λ (s : Store). AllByRecursion (Fits s.hives) changes) (sym is.of) is.fit;
+    fit = subst (λ (s : Store). AllByRecursion (Fits (all_hives s)) changes) (sym is.of) is.fit;
     numbers = is.numbers_fit;
-    many = many ∙ ap (λ (s : Store). s.hives) (sym is.of);
+    many = many ∙ ap (λ (s : Store). all_hives s) (sym is.of);
     rest = λ i h at. (opened i h at).rests;
     place = λ i h at. (opened i h at).place;
     owner = λ i h at. (opened i h at).owner ∙ ap (λ (s : Store). s.id) (sym is.of);

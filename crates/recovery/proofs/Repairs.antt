@@ -34,13 +34,14 @@ pub kept_on : (found : RecoveredStore) (k : ℕ) (old new : HiveFile) (then : Ve
 kept_on found k old new then are kept lt value files memory place owner =
     let is = slice_get_read found.hives.items (length found.hives.items) k old refl lt value in
     record {
-      recovers = subst (λ (v : List HiveView). OpeningRecovers found.trees found.number found.base (changes_of found.journal) (choice_of found.journal) v) (sym (ap (map view_of) are ∙ views_on found.hives.items k old new value files memory)) kept.recovers;
+      recovers = subst (λ (v : List HiveView). OpeningRecovers (store_of found.journal).hives found.trees found.number found.base (changes_of found.journal) (choice_of found.journal) v) (sym (ap (map view_of) are ∙ views_on found.hives.items k old new value files memory)) kept.recovers;
       store = kept.store;
       placed = subst (λ (hs : List HiveFile). ArePlaced (store_of found.journal) hs) (sym are) (record {
         place = each_hive found.hives.items k old new is (λ j h. hive_number h ≡ j) (place ∙ kept.placed.place k old is) (λ j h ne at. kept.placed.place j h at);
         owner = each_hive found.hives.items k old new is (λ j h. states.store_of h ≡ (store_of found.journal).id) (owner ∙ kept.placed.owner k old is) (λ j h ne at. kept.placed.owner j h at);
       });
       many = ap (λ (hs : List HiveFile). length hs) are ∙ length-set found.hives.items k new ∙ kept.many;
+      outcomes = kept.outcomes;
       works = kept.works;
       opened = subst (λ (numbers : List ℕ). numbered_changes found.opened ≡ filter (is_lacked numbers) (numbered found.base (changes_of found.journal)))
           (sym (ap own_numbers are ∙ map-set_same (λ (h : HiveFile). (file_choice h).now.1) found.hives.items k new old (ap (λ (c : Choice (TreeMap × ℕ)). c.now.1) files ∙ ap (λ (h : HiveFile). (file_choice h).now.1) value))) kept.opened;

@@ -23,7 +23,7 @@ use Rattle.commit_journal.specs.Encoding.{decoded}
 use Rattle.commit_journal.specs.LastChangePerHive.{AreLastIn}
 use Rattle.commit_journal.specs.Numbered.{NumberedChange, numbered, changes_in, timed_changes}
 use Rattle.commit_journal.specs.Scans.{DeniesNext, JournalBegins}
-use Rattle.commit_journal.specs.Store.{Store, IsStore, encodings}
+use Rattle.commit_journal.specs.Store.{Store, IsStore, all_hives, encodings}
 use Rattle.commit_journal.proofs.Namings.{none_named}
 use Rattle.hive_flush.specs.Decoders.{HiveFilesHold}
 use Rattle.hive_flush.specs.HiveStates.{file_choice, memory_of}
@@ -133,7 +133,7 @@ module _ (hives : List HiveFile) (rests : (i : ℕ) (hive : HiveFile) → slice_
     names = took.names.each base [] es (all ∙ ap (λ n. numbered n es) (omega arith)) (subst (AreLastIn base []) (sym begins.names) (none_named base (length hives)))
 
   -- a change that isn't replayed leads nowhere from a hive's tree
-  module _ (store : Store) (is : IsStore store) (all : length hives ≡ store.hives) (files : ℕ → List ℕ) (faithful : Type 0) (only : faithful → IsOnlyStore (files journal_file) store)
+  module _ (store : Store) (is : IsStore store) (all : length hives ≡ all_hives store) (files : ℕ → List ℕ) (faithful : Type 0) (only : faithful → IsOnlyStore (files journal_file) store)
       (held : faithful → (i : ℕ) (hive : HiveFile) → slice_get hives i ≡ Some hive → HiveFilesHold store.id (files (primary_file i)) (files (log_file i)) (memory_of hive)) where
     nowhere : (s : Content TimedOp) (change : NumberedChange) (more : List (ℕ × law.Element TimedOp)) → numbered s.below s.elements ≡ timed_changes (taken ++ change ∷ []) ++ more → (i : ℕ) (tree : TreeMap) → slice_get after.trees.items i ≡ Some tree
         → replay tree_rules (ops_lacked i (get_or after.numbers.items i 0) (change ∷ [])) tree ≡ None → (hive : HiveFile) → slice_get hives i ≡ Some hive → replayed_on s i (memory_of hive) ≡ None

@@ -3,12 +3,14 @@ use Rattle.std.specs.Prelude.{◌≡◌, ◌⊎◌, ◌<◌, ℕ, List, length, 
 use Rattle.refusals.specs.declared.refusal.Refusal.{Refusal}
 use Rattle.refusals.specs.declared.refusal.Refusal.TheVariants.{NoMemory}
 use Rattle.reg_tree.specs.Maps.{TreeMap}
+use Rattle.reg_tree.specs.Fresh.{fresh_tree}
 use Rattle.disk_model.specs.FileState.{FileState, at_rest}
 use Rattle.disk_model.specs.StoreFiles.{primary_file, log_file, journal_file}
 use Rattle.commit_journal.specs.Store.{created_bytes}
+use Rattle.commit_journal.specs.declared.store_layout.Layout.TheVariants.{WithOutcomes}
 use Rattle.hive_file_reader.specs.Hives.{FileHoldsHive}
 use Rattle.hive_file_reader.specs.Readings.{FileRefusedAs}
-use Rattle.hive_flush.specs.Creation.{AreCreatedFrom, IsImageOfFile}
+use Rattle.hive_flush.specs.Creation.{AreCreated, AreCreatedFrom, IsImageOfFile}
 use Rattle.hive_flush.specs.declared.image.HiveImage.{HiveImage}
 use Rattle.recovery.specs.Created.{new_store}
 
@@ -23,11 +25,13 @@ pub record FilesHoldTrees (files : List (List ℕ)) (trees : List TreeMap) : Typ
   pub many : length trees ≡ length files
   pub held : (i : ℕ) (file : List ℕ) (tree : TreeMap) → slice_get files i ≡ Some file → slice_get trees i ≡ Some tree → FileHoldsHive file tree
 
--- A store is made of hives' files, which hold these trees: its journal has no change, each hive is a copy of its file at
--- number 0, and all of them are on the disk.
+-- A store is made of hives' files, which hold these trees, and calls name their hives: its journal has no change, each
+-- hive is a copy of its file at number 0, the tree of a new hive is stored at number 0 after them, and all of them are
+-- on the disk.
 pub record StoreIsCreatedFrom (id : List ℕ) (files : List (List ℕ)) (trees : List TreeMap) (state : ℕ → FileState) : Type 0 where
-  pub journal : state journal_file ≡ at_rest (created_bytes (new_store id trees))
+  pub journal : state journal_file ≡ at_rest (created_bytes (new_store id WithOutcomes (length trees)))
   pub hives : HivesAreCopied id files trees state
+  pub outcomes : AreCreated id fresh_tree (state (primary_file (length trees))) (state (log_file (length trees)))
 
 -- A refusal is of one of the files, with the number of its index. Each file before it holds a hive.
 pub record IsRefusalOfFile (files : List (List ℕ)) (why : Refusal) : Type 0 where

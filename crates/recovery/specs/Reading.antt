@@ -1,7 +1,9 @@
 -- What is read of a store's files, before it is judged.
-use Rattle.std.specs.Prelude.{◌≡◌, ◌⊎◌, ℕ, ◌<◌, ◌≤◌, List, [], ◌∷◌, length, map, max, replicate, slice_get, Option, Some, None}
+use Rattle.std.specs.Prelude.{◌≡◌, ◌⊎◌, true, false, ℕ, ◌<◌, ◌≤◌, List, [], ◌∷◌, length, map, max, replicate, slice_get, Option, Some, None}
 use Rattle.std.specs.List.{AllByRecursion}
+use Rattle.refusals.specs.declared.refusal.Cause.TheVariants.{BadStore}
 use Rattle.refusals.specs.declared.refusal.Refusal.{Refusal}
+use Rattle.refusals.specs.declared.refusal.Refusal.TheVariants.{HiveDamaged}
 use Rattle.refusals.specs.declared.limits.TheConstants.{GREATEST_NUMBER}
 use Rattle.reg_tree.specs.Maps.{TreeMap}
 use Rattle.reg_tree.specs.Sequences.{AreTrees}
@@ -14,11 +16,13 @@ use Rattle.disk_model.specs.StoreFiles.{primary_file, log_file, journal_file}
 use Rattle.change_codec.specs.ModelChanges.{TimedOp, tree_rules, timed_elements}
 use Rattle.change_codec.specs.Encoding.{Fits}
 use Rattle.commit_journal.specs.Encoding.{decoded}
-use Rattle.commit_journal.specs.Store.{Store, IsStore, encodings}
+use Rattle.commit_journal.specs.Store.{Store, IsStore, all_hives, encodings}
 use Rattle.commit_journal.specs.Numbered.{numbered}
 use Rattle.commit_journal.specs.OnDisk.{is_on}
 use Rattle.commit_journal.specs.Journals.{changes_of, choice_of, store_of, encodings_of, journal_view}
 use Rattle.commit_journal.specs.declared.journal.Journal.{Journal}
+use Rattle.commit_outcomes.specs.Commits.{Commit, AreUpTo}
+use Rattle.commit_outcomes.specs.Trees.{HasCommits, are_outcomes}
 use Rattle.recovery.specs.Invariant.{own_numbers}
 use Rattle.recovery.specs.Retained.{numbered_changes}
 use Rattle.recovery.specs.Replays.{Replays}
@@ -57,9 +61,9 @@ IsNoHive faithful store count state why = (i : ℕ) × (i < count)
 pub record AreAtRest (journal : Journal) (below : ℕ) (elements : List Element) (hives : List HiveFile) : Type 0 where
   pub store : IsStore (store_of journal)
   pub choice : choice_of journal ≡ settled (record { below = below; elements = timed_elements elements })
-  pub fit : AllByRecursion (Fits (store_of journal).hives) elements
+  pub fit : AllByRecursion (Fits (all_hives (store_of journal))) elements
   pub numbers : top 0 (choice_of journal).now ≤ GREATEST_NUMBER
-  pub many : length hives ≡ (store_of journal).hives
+  pub many : length hives ≡ all_hives (store_of journal)
   pub rest : (i : ℕ) (hive : HiveFile) → slice_get hives i ≡ Some hive → file_choice hive ≡ settled (memory_of hive)
   pub place : (i : ℕ) (hive : HiveFile) → slice_get hives i ≡ Some hive → hive_number hive ≡ i
   pub owner : (i : ℕ) (hive : HiveFile) → slice_get hives i ≡ Some hive → states.store_of hive ≡ (store_of journal).id
@@ -102,7 +106,7 @@ pub record IsScanned (faithful : Type 0) (store : Store) (then now : ℕ → Fil
   pub store_is : IsStore store
   pub of : store_of journal ≡ store
   pub choice : choice_of journal ≡ settled (record { below = (choice_of journal).now.below; elements = timed_elements (changes_of journal) })
-  pub fit : AllByRecursion (Fits store.hives) (changes_of journal)
+  pub fit : AllByRecursion (Fits (all_hives store)) (changes_of journal)
   pub numbers_fit : top 0 (choice_of journal).now ≤ GREATEST_NUMBER
   pub decodes : faithful → decoded (encodings_of journal) (then journal_file).seen ≡ Some (choice_of journal).now
   pub on : faithful → is_on (encodings_of journal) (journal_view journal) (now journal_file)
@@ -120,3 +124,11 @@ pub record AreReplayed (journal : Journal) (hives : List HiveFile) (replay : Rep
   pub begin : Replay
   pub begins : BeginsAt hives begin
   pub replays : Replays begin replay (numbered (choice_of journal).now.below (changes_of journal))
+
+-- a tree is one of outcomes of commits up to a number: it passes the test, and has such commits
+abbrev pub IsOfOutcomes : ℕ → TreeMap → Type 0
+IsOfOutcomes number tree = (are_outcomes number tree ≡ true) × ((commits : List Commit) × HasCommits commits tree × AreUpTo number commits)
+
+-- the tree of a hive is refused as one of outcomes up to the store's number: it does not pass the test
+abbrev pub IsRefusedAsOutcomes : ℕ → ℕ → TreeMap → Refusal → Type 0
+IsRefusedAsOutcomes number hive tree why = (are_outcomes number tree ≡ false) × (why ≡ HiveDamaged hive BadStore)

@@ -4,16 +4,16 @@ use Rattle.refusals.specs.declared.refusal.Refusal.{Refusal}
 use Rattle.refusals.specs.declared.refusal.Refusal.TheVariants as refusal
 use Rattle.reg_tree.specs.Maps.{TreeMap}
 use Rattle.disk_model.specs.FileState.{FileState}
-use Rattle.commit_journal.specs.Store.{Store, IsStore}
+use Rattle.commit_journal.specs.Store.{Store, IsStore, all_hives}
 use Rattle.engine_invariant.specs.Prefixes.{Recover}
 use Rattle.recovery.specs.Refused.{IsWrong}
 
--- Files are those of a store, and recover a number and trees: the journal's header names the store, with its number of
--- hives, and there is a tree for each hive.
+-- Files are those of a store, and recover a number and trees: the journal's header names the store, with its layout and
+-- the number of hives that calls name, and there is a tree for each hive.
 pub record IsRecovered (files : ℕ → List ℕ) (store : Store) (number : ℕ) (trees : List TreeMap) : Type 0 where
   pub store_is : IsStore store
-  pub many : length trees ≡ store.hives
-  pub recovers : Recover store store.hives files number trees
+  pub many : length trees ≡ all_hives store
+  pub recovers : Recover store (all_hives store) files number trees
 
 -- the files are those of no store, or recover nothing
 abbrev pub NothingRecovered : (ℕ → List ℕ) → Type 0

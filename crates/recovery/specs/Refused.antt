@@ -1,5 +1,5 @@
 -- What is wrong with a store's files, by an opening's refusal.
-use Rattle.std.specs.Prelude.{◌≡◌, ◌⊎◌, ◌<◌, ℕ, List, None}
+use Rattle.std.specs.Prelude.{◌≡◌, ◌⊎◌, ◌<◌, ◌≤◌, ℕ, List, [], Some, None, false}
 use Rattle.refusals.specs.declared.limits.TheConstants.{GREATEST_NUMBER}
 use Rattle.refusals.specs.declared.refusal.Cause.TheVariants.{BadStore}
 use Rattle.refusals.specs.declared.refusal.Refusal.{Refusal}
@@ -8,7 +8,8 @@ use Rattle.reg_tree.specs.Maps.{TreeMap}
 use Rattle.crash_model.specs.Promises.{Content, top}
 use Rattle.disk_model.specs.StoreFiles.{primary_file, log_file, journal_file}
 use Rattle.change_codec.specs.ModelChanges.{TimedOp}
-use Rattle.commit_journal.specs.Store.{Store, IsStore, IsNoJournal}
+use Rattle.commit_journal.specs.Store.{Store, IsStore, IsNoJournal, all_hives}
+use Rattle.commit_outcomes.specs.Trees.{are_outcomes}
 use Rattle.hive_flush.specs.Decoders.{FilesHoldNone}
 use Rattle.engine_invariant.specs.Prefixes.{Holds, JournalDecodesTo}
 use Rattle.recovery.specs.Reading.{replayed_on}
@@ -19,7 +20,7 @@ pub record IsInStore (files : ℕ → List ℕ) (hive : ℕ) : Type 0 where
   pub journal : Content TimedOp
   pub store_is : IsStore store
   pub decodes : JournalDecodesTo store (files journal_file) journal
-  pub there : hive < store.hives
+  pub there : hive < all_hives store
 
 -- the hive's two files decode to a tree and a number in that store
 abbrev pub HoldsIn : (files : ℕ → List ℕ) (hive : ℕ) → IsInStore files hive → TreeMap × ℕ → Type 0
@@ -39,11 +40,44 @@ IsAhead files hive = (of : IsInStore files hive) × (held : TreeMap × ℕ) × H
 abbrev pub LeadsNowhere : (ℕ → List ℕ) → ℕ → Type 0
 LeadsNowhere files hive = (of : IsInStore files hive) × (held : TreeMap × ℕ) × HoldsIn files hive of held × (replayed_on of.journal hive held ≡ None)
 
+-- The hive is not one that calls name, and the journal leads from its tree to one that is not of outcomes of commits up
+-- to the number of the last change that the journal decodes to; if it decodes to none, up to the greatest number.
+pub record OutcomesAreWrong (files : ℕ → List ℕ) (hive : ℕ) : Type 0 where
+  pub of : IsInStore files hive
+  pub unnamed : of.store.hives ≤ hive
+  pub held : TreeMap × ℕ
+  pub holds : HoldsIn files hive of held
+  pub tree : TreeMap
+  pub leads : replayed_on of.journal hive held ≡ Some tree
+  pub wrong : are_outcomes (top GREATEST_NUMBER of.journal) tree ≡ false
+
+-- The number is the greatest that the files of a store's hives hold: those of some hive hold it, and none holds more.
+pub record IsGreatestHeld (files : ℕ → List ℕ) (store : Store) (number : ℕ) : Type 0 where
+  pub hive : ℕ
+  pub there : hive < all_hives store
+  pub tree : TreeMap
+  pub holds : Holds store (files (primary_file hive)) (files (log_file hive)) (tree, number)
+  pub greatest : (i : ℕ) (held : TreeMap × ℕ) → i < all_hives store → Holds store (files (primary_file i)) (files (log_file i)) held → held.1 ≤ number
+
+-- The journal decodes to no change, and the hive is not one that calls name. Its tree is not of outcomes of commits up
+-- to the greatest number that the hives' files hold.
+pub record OutcomesAreAhead (files : ℕ → List ℕ) (hive : ℕ) : Type 0 where
+  pub of : IsInStore files hive
+  pub unnamed : of.store.hives ≤ hive
+  pub empty : of.journal.elements ≡ []
+  pub held : TreeMap × ℕ
+  pub holds : HoldsIn files hive of held
+  pub number : ℕ
+  pub is_number : IsGreatestHeld files of.store number
+  pub ahead : are_outcomes number held.0 ≡ false
+
 -- The files are wrong as a refusal says. The files of a damaged hive decode to nothing in the journal's store for the
--- reported cause; or the cause is `BadStore`, and the hive is ahead. If something isn't supported, the files of some
--- hive decode to nothing for that. A damaged journal is no store's, or leads nowhere from some hive's tree.
+-- reported cause; or the cause is `BadStore`, and the hive is ahead, or its outcomes are wrong or ahead. If something
+-- isn't supported, the files of some hive decode to nothing for that. A damaged journal is no store's, or leads nowhere
+-- from some hive's tree.
 abbrev pub IsWrong : (ℕ → List ℕ) → Refusal → Type 0
-IsWrong files (refusal.HiveDamaged hive cause) = HoldsNothing files hive (refusal.HiveDamaged hive cause) ⊎ ((cause ≡ BadStore) × IsAhead files hive)
+IsWrong files (refusal.HiveDamaged hive cause) =
+    HoldsNothing files hive (refusal.HiveDamaged hive cause) ⊎ ((cause ≡ BadStore) × (IsAhead files hive ⊎ (OutcomesAreWrong files hive ⊎ OutcomesAreAhead files hive)))
 IsWrong files refusal.Unsupported = (hive : ℕ) × HoldsNothing files hive refusal.Unsupported
 IsWrong files refusal.JournalDamaged = IsNoJournal (files journal_file) ⊎ ((hive : ℕ) × LeadsNowhere files hive)
 IsWrong files _ = ⊥

@@ -1,21 +1,25 @@
 //! Making a store: a journal without a change, and a hive of each tree or of each file.
-ghost use Rattle.std.specs.Prelude.{◌≡◌, ◌⊎◌, ◌<◌, ◌≤◌, ℕ, List, true, false, length, map, slice_get, Some, Err, IfErr, IfOk, OnOk};
+ghost use Rattle.std.specs.Prelude.{◌≡◌, ◌⊎◌, ◌<◌, ◌≤◌, ◌+◌, ◌++◌, ◌∷◌, [], ℕ, List, true, false, length, map, slice_get, Some, Err, IfErr, IfOk, OnOk};
 ghost use Rattle.reg_tree.specs.Maps.{TreeMap};
-ghost use Rattle.refusals.specs.declared.limits.TheConstants.{MOST_HIVES};
+ghost use Rattle.reg_tree.specs.Fresh.{fresh_tree};
+ghost use Rattle.refusals.specs.declared.limits.TheConstants.{MOST_HIVES, MOST_TREES};
 ghost use Rattle.refusals.specs.declared.refusal.Refusal.TheVariants.{DiskFault, NoMemory, TooLarge};
 ghost use Rattle.reg_tree.specs.Sequences.{AreWithin};
 ghost use Rattle.disk_model.specs.Call.{CountsFailure};
 ghost use Rattle.disk_model.specs.Crash.{LeavesHonest};
 ghost use Rattle.disk_model.specs.FileState.{at_rest};
 ghost use Rattle.disk_model.specs.StoreFiles.{journal_file};
-ghost use Rattle.commit_journal.specs.Store.{created_bytes};
+ghost use Rattle.commit_journal.specs.Store.{created_bytes, hives_in};
+ghost use Rattle.commit_journal.specs.declared.store_layout.Layout.TheVariants.{HivesAlone, WithOutcomes};
+ghost use Rattle.commit_outcomes.specs.Trees.{are_outcomes};
 ghost use Rattle.engine_invariant.specs.Prefixes.{IsPrimaryOf};
 ghost use Rattle.hive_files.specs.Frames.{TouchesOwnFiles};
-ghost use Rattle.recovery.specs.Created.{AreImagesOf, AreWritten, HivesAreDurable, StoreIsCreated, IsOfHives, IsOfStore, IsRefusedFor, RecoversTrees, SomeIsHeavy, new_store};
+ghost use Rattle.hive_flush.specs.Creation.{IsImageOf};
+ghost use Rattle.recovery.specs.Created.{AreImagesIn, AreImagesOf, AreWritten, HivesAreDurable, StoreIsCreated, IsOfHives, IsOfStore, IsRefusedFor, RecoversTrees, SomeIsHeavy, new_store, trees_in};
 ghost use Rattle.recovery.specs.FileCopies.{AreImagesOfFiles, AreRefusedFor, FilesHoldTrees, StoreIsCreatedFrom};
 ghost use Rattle.recovery.specs.Recovered.{IsRecovered, seen_in};
 
-use commit_journal::JournalImage;
+use commit_journal::{JournalImage, Layout};
 use disk_model::{Disk, Failed};
 use hive_flush::HiveImage;
 use refusals::Refusal;
@@ -25,9 +29,9 @@ use std::alloc::Global;
 use uuid::Uuid;
 
 /// Makes the files of a store under an id, whatever they contained: a journal without a change, and of each tree, of
-/// which there are at most 16, the files of a hive at number 0. All of them are synced. All is made in memory before
-/// the first device call. The journal's file comes last, so a store that is made where none was is found only once it
-/// is whole.
+/// which there are at most 16, the files of a hive at number 0. Calls name these hives. After them comes a new hive for
+/// the outcomes of commits. All files are synced. All is made in memory before the first device call. The journal's
+/// file comes last, so a store that is made where none was is found only once it is whole.
 ///
 /// Refused with `TooLarge` exactly if a tree is over the weight, and with `NoMemory`: nothing has changed then. Refused
 /// with `DiskFault` if the device failed in a call, which was the last one: nothing is promised of the store's files
@@ -35,14 +39,48 @@ use uuid::Uuid;
 pub fn create<D: Disk>(alloc: Global, disk: &mut D, id: Uuid, trees: &Trees) -> Result<(), Refusal>
     requires few { length trees.now ≤ MOST_HIVES }
     ensures made { OnOk result (D.faithful disk.new →
-        StoreIsCreated id trees.now (D.state_at disk.new (D.clock disk.new))) }
+        StoreIsCreated id WithOutcomes trees.now (D.state_at disk.new (D.clock disk.new))) }
+    ensures recovers { OnOk result (D.faithful disk.new → (files : ℕ → List ℕ) →
+        LeavesHonest (IsPrimaryOf (length trees.now + 1))
+        (D.state_at disk.new (D.clock disk.new)) files →
+        IsRecovered files (new_store id WithOutcomes (length trees.now)) 0 (trees.now ++ fresh_tree ∷ [])) }
+    ensures seen { OnOk result (D.faithful disk.new →
+        IsRecovered (seen_in (D.state_at disk.new (D.clock disk.new)))
+        (new_store id WithOutcomes (length trees.now)) 0 (trees.now ++ fresh_tree ∷ [])) }
+    ensures shows { OnOk result (D.faithful disk.new →
+        LeavesHonest (IsPrimaryOf (length trees.now + 1))
+        (D.state_at disk.new (D.clock disk.new))
+        (seen_in (D.state_at disk.new (D.clock disk.new)))) }
+    ensures refused { IfErr result (λ why.
+        ((why ≡ DiskFault) × (D.failures disk.old < D.failures disk.new))
+        ⊎ (IsRefusedFor trees.now why × (disk.new ≡ disk.old))) }
+    ensures heavy { SomeIsHeavy trees.now → result ≡ Err TooLarge }
+    ensures stays { TouchesOwnFiles (IsOfStore (length trees.now + 1)) (D.state_at disk.old)
+        (D.state_at disk.new) (D.clock disk.old) (D.clock disk.new) }
+    ensures faithful { D.faithful disk.new → D.faithful disk.old }
+{
+    create_in(alloc, disk, id, trees, Layout::WithOutcomes)
+}
+
+/// Makes the files of a store as [`create`] does, but in the first layout: the hives of the trees, and no more.
+///
+/// Refused as [`create`] is.
+pub fn create_layout_1<D: Disk>(
+    alloc: Global,
+    disk: &mut D,
+    id: Uuid,
+    trees: &Trees,
+) -> Result<(), Refusal>
+    requires few { length trees.now ≤ MOST_HIVES }
+    ensures made { OnOk result (D.faithful disk.new →
+        StoreIsCreated id HivesAlone trees.now (D.state_at disk.new (D.clock disk.new))) }
     ensures recovers { OnOk result (D.faithful disk.new → (files : ℕ → List ℕ) →
         LeavesHonest (IsPrimaryOf (length trees.now))
         (D.state_at disk.new (D.clock disk.new)) files →
-        IsRecovered files (new_store id trees.now) 0 trees.now) }
+        IsRecovered files (new_store id HivesAlone (length trees.now)) 0 trees.now) }
     ensures seen { OnOk result (D.faithful disk.new →
         IsRecovered (seen_in (D.state_at disk.new (D.clock disk.new)))
-        (new_store id trees.now) 0 trees.now) }
+        (new_store id HivesAlone (length trees.now)) 0 trees.now) }
     ensures shows { OnOk result (D.faithful disk.new →
         LeavesHonest (IsPrimaryOf (length trees.now))
         (D.state_at disk.new (D.clock disk.new))
@@ -55,17 +93,49 @@ pub fn create<D: Disk>(alloc: Global, disk: &mut D, id: Uuid, trees: &Trees) -> 
         (D.state_at disk.new) (D.clock disk.old) (D.clock disk.new) }
     ensures faithful { D.faithful disk.new → D.faithful disk.old }
 {
+    create_in(alloc, disk, id, trees, Layout::HivesAlone)
+}
+
+// makes the files of a store of trees in a layout
+fn create_in<D: Disk>(
+    alloc: Global,
+    disk: &mut D,
+    id: Uuid,
+    trees: &Trees,
+    layout: Layout,
+) -> Result<(), Refusal>
+    requires few { length trees.now ≤ MOST_HIVES }
+    ensures made { OnOk result (D.faithful disk.new →
+        StoreIsCreated id layout trees.now (D.state_at disk.new (D.clock disk.new))) }
+    ensures recovers { OnOk result (D.faithful disk.new →
+        RecoversTrees (new_store id layout (length trees.now)) (trees_in layout trees.now)
+        (D.state_at disk.new (D.clock disk.new))) }
+    ensures shows { OnOk result (D.faithful disk.new →
+        LeavesHonest (IsPrimaryOf (hives_in layout (length trees.now)))
+        (D.state_at disk.new (D.clock disk.new))
+        (seen_in (D.state_at disk.new (D.clock disk.new)))) }
+    ensures refused { IfErr result (λ why.
+        ((why ≡ DiskFault) × (D.failures disk.old < D.failures disk.new))
+        ⊎ (IsRefusedFor trees.now why × (disk.new ≡ disk.old))) }
+    ensures heavy { SomeIsHeavy trees.now → result ≡ Err TooLarge }
+    ensures stays { TouchesOwnFiles (IsOfStore (hives_in layout (length trees.now)))
+        (D.state_at disk.old) (D.state_at disk.new) (D.clock disk.old) (D.clock disk.new) }
+    ensures faithful { D.faithful disk.new → D.faithful disk.old }
+{
+    commit_outcomes::laws::trees_have_commits();
     if some_is_heavy(trees) {
         return Err(Refusal::TooLarge);
     }
-    let images = images_of(alloc, id, trees)?;
-    write_store(alloc, disk, id, &images)
+    let named = images_of(alloc, id, trees)?;
+    let images = images_in(alloc, id, layout, named)?;
+    write_store(alloc, disk, id, layout, trees.len() as u8, &images)
 }
 
 /// Makes the files of a store under an id, whatever they contained: a journal without a change, and of each of 1 to 16
 /// hives' files, given by their bytes, the files of a hive at number 0. Its bins data, root and minor version are the
-/// file's; its base block is a new one of the store. All of them are synced. All is made in memory before the first
-/// device call, and the journal's file comes last, as [`create`] makes it.
+/// file's; its base block is a new one of the store. Calls name these hives. After them comes a new hive for the
+/// outcomes of commits. All files are synced. All is made in memory before the first device call, and the journal's
+/// file comes last, as [`create`] makes it.
 ///
 /// Refused with the refusal of the first file that holds no hive: `HiveDamaged` of the hive that it was to be,
 /// `Unsupported` or `TooLarge`; and with `NoMemory`: nothing has changed then. Refused with `DiskFault` if the device
@@ -82,20 +152,24 @@ pub fn create_from<D: Disk>(
         × FilesHoldTrees (map (λ file. file.items) files.items) trees × (D.faithful disk.new →
         StoreIsCreatedFrom id (map (λ file. file.items) files.items) trees
         (D.state_at disk.new (D.clock disk.new))
-        × RecoversTrees id trees (D.state_at disk.new (D.clock disk.new)))) }
+        × RecoversTrees (new_store id WithOutcomes (length trees)) (trees ++ fresh_tree ∷ [])
+        (D.state_at disk.new (D.clock disk.new)))) }
     ensures shows { OnOk result (D.faithful disk.new →
-        LeavesHonest (IsPrimaryOf (length files.items))
+        LeavesHonest (IsPrimaryOf (length files.items + 1))
         (D.state_at disk.new (D.clock disk.new))
         (seen_in (D.state_at disk.new (D.clock disk.new)))) }
     ensures refused { IfErr result (λ why.
         ((why ≡ DiskFault) × (D.failures disk.old < D.failures disk.new))
         ⊎ (AreRefusedFor (map (λ file. file.items) files.items) why × (disk.new ≡ disk.old))) }
-    ensures stays { TouchesOwnFiles (IsOfStore (length files.items)) (D.state_at disk.old)
+    ensures stays { TouchesOwnFiles (IsOfStore (length files.items + 1)) (D.state_at disk.old)
         (D.state_at disk.new) (D.clock disk.old) (D.clock disk.new) }
     ensures faithful { D.faithful disk.new → D.faithful disk.old }
 {
-    let images = images_of_files(alloc, id, files)?;
-    write_store(alloc, disk, id, &images)
+    commit_outcomes::laws::trees_have_commits();
+    let count = files.len() as u8;
+    let named = images_of_files(alloc, id, files)?;
+    let images = images_in(alloc, id, Layout::WithOutcomes, named)?;
+    write_store(alloc, disk, id, Layout::WithOutcomes, count, &images)
 }
 
 // whether a tree is over the weight
@@ -158,24 +232,58 @@ fn images_of_files(alloc: Global, id: Uuid, files: Vec<Vec<u8>>) -> Result<Vec<H
     Ok(images)
 }
 
-// makes the files of a store: those of hives, each of the image with its number, and then a journal without a change;
-// refused with `NoMemory` before the first device call
+// the images of the hives of a store in a layout, of which calls name these
+fn images_in(
+    alloc: Global,
+    id: Uuid,
+    layout: Layout,
+    named: Vec<HiveImage>,
+) -> Result<Vec<HiveImage>, Refusal>
+    ensures images { IfOk result (λ images. AreImagesIn id layout named.items images.items) }
+    ensures refused { IfErr result (λ why. why ≡ NoMemory) }
+{
+    match layout {
+        Layout::HivesAlone => Ok(named),
+        Layout::WithOutcomes => {
+            let mut images = named;
+            let outcomes = image_of_new(alloc, id)?;
+            images.push(outcomes)?;
+            Ok(images)
+        }
+    }
+}
+
+// the image of a new hive of the store
+fn image_of_new(alloc: Global, id: Uuid) -> Result<HiveImage, Refusal>
+    ensures image { IfOk result (IsImageOf id fresh_tree) }
+    ensures refused { IfErr result (λ why. why ≡ NoMemory) }
+{
+    let trees = Trees::new(alloc, 1)?;
+    HiveImage::of(alloc, id, tree_at(&trees, 0))
+}
+
+// makes the files of a store in a layout, of which calls name so many hives: those of hives, each of the image with its
+// number, and then a journal without a change; refused with `NoMemory` before the first device call
 fn write_store<D: Disk>(
     alloc: Global,
     disk: &mut D,
     id: Uuid,
+    layout: Layout,
+    named: u8,
     images: &[HiveImage],
 ) -> Result<(), Refusal>
-    requires some { 1 ≤ length images.now }
-    requires few { length images.now ≤ MOST_HIVES }
+    requires some { 1 ≤ named }
+    requires few { named ≤ MOST_HIVES }
+    requires many { length images.now ≡ hives_in layout named }
     ensures made { OnOk result (D.faithful disk.new →
         (D.state_at disk.new (D.clock disk.new) journal_file
-        ≡ at_rest (created_bytes (record { id = id; hives = length images.now })))
+        ≡ at_rest (created_bytes (new_store id layout named)))
         × AreWritten images.now (D.state_at disk.new (D.clock disk.new))) }
     ensures recovers { OnOk result (D.faithful disk.new → (trees : List TreeMap) →
         length trees ≡ length images.now →
+        ((tree : TreeMap) → slice_get trees named ≡ Some tree → are_outcomes 0 tree ≡ true) →
         HivesAreDurable id trees (D.state_at disk.new (D.clock disk.new)) →
-        RecoversTrees id trees (D.state_at disk.new (D.clock disk.new))) }
+        RecoversTrees (new_store id layout named) trees (D.state_at disk.new (D.clock disk.new))) }
     ensures shows { OnOk result (D.faithful disk.new → (trees : List TreeMap) →
         HivesAreDurable id trees (D.state_at disk.new (D.clock disk.new)) →
         LeavesHonest (IsPrimaryOf (length trees)) (D.state_at disk.new (D.clock disk.new))
@@ -188,7 +296,7 @@ fn write_store<D: Disk>(
     ensures faithful { D.faithful disk.new → D.faithful disk.old }
 {
     commit_journal::laws::leaves::<(u64, Op)>();
-    let journal = JournalImage::of(alloc, id, images.len() as u8)?;
+    let journal = JournalImage::of(alloc, id, named, layout)?;
     write_hives(disk, images)?;
     journal.write(disk)?;
     Ok(())
@@ -196,7 +304,7 @@ fn write_store<D: Disk>(
 
 // makes the files of the hives, each of the image with its number
 fn write_hives<D: Disk>(disk: &mut D, images: &[HiveImage]) -> Result<(), Failed>
-    requires few { length images.now ≤ MOST_HIVES }
+    requires few { length images.now ≤ MOST_TREES }
     ensures made { OnOk result (D.faithful disk.new →
         AreWritten images.now (D.state_at disk.new (D.clock disk.new))) }
     ensures stays { TouchesOwnFiles (IsOfHives (length images.now)) (D.state_at disk.old)

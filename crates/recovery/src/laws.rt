@@ -1,5 +1,5 @@
 //! What files recover, what is wrong with refused files, and what openings that came to nothing leave of them: laws.
-ghost use Rattle.std.specs.Prelude.{◌≡◌, ℕ, List};
+ghost use Rattle.std.specs.Prelude.{◌≡◌, ◌⊎◌, ℕ, List};
 ghost use Rattle.refusals.specs.declared.refusal.Cause.{Cause};
 ghost use Rattle.refusals.specs.declared.refusal.Refusal.{Refusal};
 ghost use Rattle.refusals.specs.declared.refusal.Refusal.TheVariants.{HiveDamaged};
@@ -10,7 +10,7 @@ ghost use Rattle.commit_journal.specs.Store.{Store};
 ghost use Rattle.engine_invariant.specs.Prefixes.{IsPrimaryOf};
 ghost use Rattle.recovery.specs.Beginnings.{AllCameToNothing, MayBegin, after_crash};
 ghost use Rattle.recovery.specs.Recovered.{IsRecovered, NothingRecovered, seen_in};
-ghost use Rattle.recovery.specs.Refused.{AreAlike, IsWrong};
+ghost use Rattle.recovery.specs.Refused.{AreAlike, IsWrong, OutcomesAreAhead};
 
 /// A law: files recover at most one number and one list of trees, and are those of one store at most.
 pub fn one_is_recovered()
@@ -23,14 +23,15 @@ pub fn one_is_recovered()
 
 /// A law: files that are wrong as an opening's refusal says recover nothing.
 ///
-/// If the refusal names one hive, the files are wrong whatever the files of the other hives contain. So files with the
-/// same journal and the same two files of that hive recover nothing, too.
+/// If the refusal names one hive, the files are wrong whatever the files of the other hives contain, unless its outcomes
+/// are ahead: the number of a store whose journal has no change is the greatest of its hives. So files with the same
+/// journal and the same two files of that hive recover nothing, too.
 pub fn refused_files_recover_nothing()
     ensures none { (files : ℕ → List ℕ) (why : Refusal) → IsWrong files why →
         NothingRecovered files }
     ensures hive { (files others : ℕ → List ℕ) (hive : ℕ) (cause : Cause) →
         AreAlike files others hive → IsWrong files (HiveDamaged hive cause) →
-        IsWrong others (HiveDamaged hive cause) }
+        IsWrong others (HiveDamaged hive cause) ⊎ OutcomesAreAhead files hive }
 {
     commit_journal::laws::one_store();
     hive_flush::laws::at_most_one_tree();

@@ -1,6 +1,7 @@
 //! Making and opening a store: the number and the trees that its files recover.
 //!
-//! [`create`] makes a store of some trees, at number 0, and [`create_from`] one of the hives in some files.
+//! [`create`] makes a store of some trees, at number 0, and [`create_from`] one of the hives in some files. Either
+//! store has one hive more, for the outcomes of commits; [`create_layout_1`] makes one without.
 //!
 //! The journal and the hives are each read by themselves. Together they recover one number and one tree for each hive:
 //! the tree in its files, with the changes of the journal above the hive's own number. [`open`] answers them, and
@@ -22,8 +23,10 @@ mod replay_changes;
 mod retained_changes;
 mod store_opening;
 mod store_read;
+mod trees;
 
-pub use creation::{create, create_from};
+pub use creation::{create, create_from, create_layout_1};
 pub use found::RecoveredStore;
 pub use opened::{Opened, open};
 pub use retained_changes::RetainedChanges;
+pub use trees::named_trees;

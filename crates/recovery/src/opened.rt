@@ -1,5 +1,5 @@
 //! An opened store as its callers see it, and its repair: its type keeps the invariant.
-ghost use Rattle.std.specs.Prelude.{◌≡◌, ◌⊎◌, ◌↔◌, ℕ, ◌+◌, ◌<◌, ◌≤◌, List, length, IsTrue, Ok, Err, IfErr, IfOk, OnOk, false, true};
+ghost use Rattle.std.specs.Prelude.{◌≡◌, ◌⊎◌, ◌↔◌, ℕ, ◌+◌, ◌<◌, ◌≤◌, List, length, take, IsTrue, Ok, Err, IfErr, IfOk, OnOk, false, true};
 ghost use Rattle.refusals.specs.declared.refusal.Refusal.TheVariants.{DiskFault, Faulted};
 ghost use Rattle.disk_model.specs.declared.progress.Progress.TheVariants as Progress;
 ghost use Rattle.disk_model.specs.Call.{Extends, OneCall, HasFailed};
@@ -8,6 +8,7 @@ ghost use Rattle.disk_model.specs.StoreFiles.{journal_file};
 ghost use Rattle.disk_model.specs.ReadOnly.{OnlySyncs};
 ghost use Rattle.hive_files.specs.Frames.{RefusalHasCause};
 ghost use Rattle.commit_journal.specs.Journals.{choice_of};
+ghost use Rattle.commit_journal.specs.Store.{all_hives};
 ghost use Rattle.engine_invariant.specs.Prefixes.{AnyFile, AreOnDisk, IsPrimaryOf, JournalDecodesTo};
 ghost use Rattle.recovery.specs.Invariant.{AllWork, InvariantHolds};
 ghost use Rattle.recovery.specs.Recovered.{IsNoStore, IsRecovered, seen_in};
@@ -16,10 +17,12 @@ ghost use Rattle.recovery.specs.Shown.{StoreIsRepaired, store_of};
 
 use crate::found::RecoveredStore;
 use crate::store_opening::find;
+use crate::trees::named_trees;
+use commit_journal::Layout;
 use disk_model::{Disk, Progress};
 use refusals::Refusal;
 use reg_tree::Trees;
-use std::alloc::Global;
+use std::alloc::{AllocError, Global};
 use std::marker::Model;
 use uuid::Uuid;
 
@@ -82,7 +85,8 @@ impl<D: Disk> Model for Opened<D> {
 ///
 /// - `HiveDamaged` of a hive that has no tree in the journal's store, with the cause that its files have; or, with the
 ///   cause `BadStore`, of a hive with a number above that of the journal's last change, or above the greatest of all if
-///   there is none;
+///   there is none; or, with that cause too, of the hive after those that calls name, if its tree is not of outcomes of
+///   commits up to that number;
 /// - `Unsupported`, if some hive has no tree, for a version, a type or a flag in its files;
 /// - `JournalDamaged`, if the journal is no store's, or one of its changes isn't legal on the tree of some hive;
 /// - `DiskFault`, if the device failed; and `NoMemory`.
@@ -98,7 +102,7 @@ pub fn open<D: Disk>(alloc: Global, disk: D) -> Result<Opened<D>, (Refusal, D)>
     ensures works { IfOk result (λ opened. opened.failed ≡ false) }
     ensures few { IfOk result (λ opened. D.faithful opened.disk →
         repairs_left opened.found.hives.items
-        ≤ most_repairs (seen_in (D.state_at disk (D.clock disk))) (store_of opened).hives) }
+        ≤ most_repairs (seen_in (D.state_at disk (D.clock disk))) (all_hives (store_of opened))) }
     ensures fails { IfErr result (λ back. RefusalHasCause (D.failures disk < D.failures back.1)
         (IsNoStore (D.faithful back.1) (seen_in (D.state_at disk (D.clock disk)))) back.0) }
     ensures synced { IfOk result (λ opened. D.faithful opened.disk → OnlySyncs (D.state_at disk)
@@ -139,6 +143,24 @@ impl<D: Disk> Opened<D> {
         &self.found.trees
     }
 
+    /// The trees of the hives that calls name: the first ones.
+    pub fn named_trees(&self, alloc: Global) -> Result<Trees, AllocError>
+        ensures { IfOk result (λ named. named ≡ take (store_of self.now).hives self.now.found.trees) }
+    {
+        named_trees(
+            alloc,
+            &self.found.trees,
+            usize::from(self.found.journal.hives()),
+        )
+    }
+
+    /// The layout of the store.
+    pub fn layout(&self) -> Layout
+        ensures { result ≡ (store_of self.now).layout }
+    {
+        self.found.journal.layout()
+    }
+
     /// The id of the store.
     pub fn id(&self) -> Uuid
         ensures { result ≡ (store_of self.now).id }
@@ -173,11 +195,11 @@ impl<D: Disk> Opened<D> {
         ensures no_change { (result ≡ Err Faulted) → self.new ≡ self.old }
         ensures works { OnOk result (self.new.failed ≡ self.old.failed) }
         ensures before { D.faithful self.new.disk → (files : ℕ → List ℕ) →
-            LeavesHonest (IsPrimaryOf (store_of self.old).hives)
+            LeavesHonest (IsPrimaryOf (all_hives (store_of self.old)))
             (D.state_at self.new.disk (D.clock self.old.disk)) files →
             IsRecovered files (store_of self.old) self.old.found.number self.old.found.trees }
         ensures after { D.faithful self.new.disk → (files : ℕ → List ℕ) →
-            LeavesHonest (IsPrimaryOf (store_of self.old).hives)
+            LeavesHonest (IsPrimaryOf (all_hives (store_of self.old)))
             (D.state_at self.new.disk (D.clock self.new.disk)) files →
             IsRecovered files (store_of self.old) self.old.found.number self.old.found.trees }
         ensures call { OneCall AnyFile (D.state_at self.old.disk) (D.state_at self.new.disk)
@@ -205,13 +227,13 @@ impl<D: Disk> Opened<D> {
     /// trees that were found, one tree for each hive. As long as the device hasn't failed in the repair, a crash may
     /// also leave what a read gives.
     pub fn keeps_what_was_found(&self)
-        ensures many { length self.now.found.trees ≡ (store_of self.now).hives }
+        ensures many { length self.now.found.trees ≡ all_hives (store_of self.now) }
         ensures crash { D.faithful self.now.disk → (files : ℕ → List ℕ) →
-            LeavesHonest (IsPrimaryOf (store_of self.now).hives)
+            LeavesHonest (IsPrimaryOf (all_hives (store_of self.now)))
             (D.state_at self.now.disk (D.clock self.now.disk)) files →
             IsRecovered files (store_of self.now) self.now.found.number self.now.found.trees }
         ensures read { D.faithful self.now.disk → self.now.failed ≡ false →
-            LeavesHonest (IsPrimaryOf (store_of self.now).hives)
+            LeavesHonest (IsPrimaryOf (all_hives (store_of self.now)))
             (D.state_at self.now.disk (D.clock self.now.disk))
             (seen_in (D.state_at self.now.disk (D.clock self.now.disk))) }
     {
@@ -219,7 +241,7 @@ impl<D: Disk> Opened<D> {
         engine_invariant::laws::crashes_leave_prefixes();
         hive_flush::laws::reads_are_honest();
         // what the type keeps is known once a field is read
-        let _ = self.found.journal.hives(); // for the prover
+        let _ = self.found.journal.all_hives(); // for the prover
     }
 
     /// The disk.

@@ -1,11 +1,11 @@
 //! What the files of a store recover, as they are read.
-ghost use Rattle.std.specs.Prelude.{◌≡◌, ℕ, ◌<◌, ◌≤◌, List, Some, length, slice_get, false, IfOk, IfErr};
+ghost use Rattle.std.specs.Prelude.{◌≡◌, ℕ, ◌<◌, ◌≤◌, List, Some, length, slice_get, false, true, IfOk, IfErr};
 ghost use Rattle.disk_model.specs.Call.{Extends};
 ghost use Rattle.disk_model.specs.FileState.{FileState};
 ghost use Rattle.disk_model.specs.ReadOnly.{OnlySyncs};
 ghost use Rattle.disk_model.specs.StoreFiles.{IsJournal, journal_file};
 ghost use Rattle.commit_journal.specs.Journals.{changes_of, choice_of, store_of};
-ghost use Rattle.commit_journal.specs.Store.{IsStore, IsNoJournal};
+ghost use Rattle.commit_journal.specs.Store.{IsStore, IsNoJournal, all_hives, hives_in};
 ghost use Rattle.commit_journal.specs.Numbered.{numbered};
 ghost use Rattle.commit_journal.specs.Scans.{JournalBegins, ScanFails};
 ghost use Rattle.hive_flush.specs.Decoders.{RefusalNamesHive};
@@ -38,7 +38,7 @@ pub(crate) fn find<D: Disk>(alloc: Global, disk: &mut D) -> Result<RecoveredStor
     ensures works { IfOk result (λ found. AllWork found.hives.items) }
     ensures few { IfOk result (λ found. D.faithful disk.new → repairs_left found.hives.items
         ≤ most_repairs (seen_in (D.state_at disk.old (D.clock disk.old)))
-        (store_of found.journal).hives) }
+        (all_hives (store_of found.journal))) }
     ensures recovered { IfOk result (λ found. D.faithful disk.new →
         IsRecovered (seen_in (D.state_at disk.old (D.clock disk.old)))
         (store_of found.journal) found.number found.trees) }
@@ -59,7 +59,7 @@ pub(crate) fn find<D: Disk>(alloc: Global, disk: &mut D) -> Result<RecoveredStor
 {
     let owner = Journal::owner(alloc, disk)?;
     let read = read_store(alloc, disk, &owner)?;
-    let found = recovered(read)?;
+    let found = recovered(alloc, read)?;
     Ok(found)
 }
 
@@ -70,19 +70,20 @@ fn read_store<D: Disk>(
     disk: &mut D,
     owner: &StoreHeader,
 ) -> Result<StoreRead, Refusal>
-    requires store { IsStore (record { id = owner.now.id; hives = owner.now.hives }) }
+    requires store { IsStore (record { id = owner.now.id; hives = owner.now.hives; layout = owner.now.layout }) }
     requires only { D.faithful disk.old →
         IsOnlyStore (D.state_at disk.old (D.clock disk.old) journal_file).seen
-        (record { id = owner.now.id; hives = owner.now.hives }) }
+        (record { id = owner.now.id; hives = owner.now.hives; layout = owner.now.layout }) }
     ensures scanned { IfOk result (λ it. IsScanned (D.faithful disk.new)
-        (record { id = owner.now.id; hives = owner.now.hives })
+        (record { id = owner.now.id; hives = owner.now.hives; layout = owner.now.layout })
         (D.state_at disk.old (D.clock disk.old)) (D.state_at disk.new (D.clock disk.new)) it.journal) }
     ensures replayed { IfOk result (λ it. AreReplayed it.journal it.hives.items it.replay) }
-    ensures many { IfOk result (λ it. length it.hives.items ≡ owner.now.hives) }
+    ensures many { IfOk result (λ it. length it.hives.items ≡ hives_in owner.now.layout owner.now.hives) }
     ensures opened { IfOk result (λ it. (i : ℕ) (hive : HiveFile) → slice_get it.hives.items i ≡ Some hive →
         IsOpened (D.faithful disk.new) owner.now.id (D.state_at disk.old (D.clock disk.old)) (D.state_at disk.new (D.clock disk.new)) i hive) }
     ensures few { IfOk result (λ it. D.faithful disk.new → repairs_left it.hives.items
-        ≤ most_repairs (seen_in (D.state_at disk.old (D.clock disk.old))) owner.now.hives) }
+        ≤ most_repairs (seen_in (D.state_at disk.old (D.clock disk.old)))
+        (hives_in owner.now.layout owner.now.hives)) }
     ensures fails { IfErr result (RefusalHasCause (D.failures disk.old < D.failures disk.new)
         (IsNoStore (D.faithful disk.new) (seen_in (D.state_at disk.old (D.clock disk.old))))) }
     ensures synced { D.faithful disk.new → OnlySyncs (D.state_at disk.old) (D.state_at disk.new)
@@ -92,9 +93,10 @@ fn read_store<D: Disk>(
     ensures failures { D.failures disk.old ≤ D.failures disk.new }
     ensures faithful { D.faithful disk.new → D.faithful disk.old }
 {
-    match open_hives(alloc, disk, owner.id, owner.hives) {
+    let count = owner.layout.all_hives(owner.hives);
+    match open_hives(alloc, disk, owner.id, count) {
         Ok(hives) => {
-            let mut replay = Replay::new(alloc, &hives, owner.hives)?;
+            let mut replay = Replay::new(alloc, &hives, count)?;
             match scan_store(alloc, disk, owner, &mut replay) {
                 Ok(journal) => Ok(StoreRead {
                     journal,
@@ -121,12 +123,12 @@ fn scan_store<D: Disk, S: ElementSink>(
     owner: &StoreHeader,
     sink: &mut S,
 ) -> Result<Journal, Refusal>
-    requires store { IsStore (record { id = owner.now.id; hives = owner.now.hives }) }
+    requires store { IsStore (record { id = owner.now.id; hives = owner.now.hives; layout = owner.now.layout }) }
     requires only { D.faithful disk.old →
         IsOnlyStore (D.state_at disk.old (D.clock disk.old) journal_file).seen
-        (record { id = owner.now.id; hives = owner.now.hives }) }
+        (record { id = owner.now.id; hives = owner.now.hives; layout = owner.now.layout }) }
     ensures scanned { IfOk result (IsScanned (D.faithful disk.new)
-        (record { id = owner.now.id; hives = owner.now.hives })
+        (record { id = owner.now.id; hives = owner.now.hives; layout = owner.now.layout })
         (D.state_at disk.old (D.clock disk.old)) (D.state_at disk.new (D.clock disk.new))) }
     ensures took { IfOk result (λ journal. S.Took sink.old sink.new
         (numbered (choice_of journal).now.below (changes_of journal))) }
@@ -148,10 +150,20 @@ fn scan_store<D: Disk, S: ElementSink>(
         Ok(journal) => journal,
         Err(why) => return Err(why),
     };
-    if journal.id() != owner.id || journal.hives() != owner.hives {
+    if !is_of(&journal, owner) {
         return Err(Refusal::JournalDamaged);
     }
     Ok(journal)
+}
+
+// whether a journal is of the store that a header names
+fn is_of(journal: &Journal, owner: &StoreHeader) -> bool
+    ensures same { result ≡ true → store_of journal.now
+        ≡ record { id = owner.now.id; hives = owner.now.hives; layout = owner.now.layout } }
+    ensures other { result ≡ false → ¬ (store_of journal.now
+        ≡ record { id = owner.now.id; hives = owner.now.hives; layout = owner.now.layout }) }
+{
+    journal.id() == owner.id && journal.hives() == owner.hives && journal.layout() == owner.layout
 }
 
 // whether a refusal names a hive of a store

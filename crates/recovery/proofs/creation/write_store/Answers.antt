@@ -3,21 +3,18 @@ use Rattle.disk_model.specs.FileState.{FileState, at_rest}
 use Rattle.disk_model.specs.Sector.{IsHonest}
 use Rattle.disk_model.specs.StoreFiles.{log_file, primary_file}
 use Rattle.commit_journal.specs.Store.{IsStore, Store, created_bytes, encodings}
+use Rattle.commit_journal.specs.declared.store_layout.Layout.{Layout}
 use Rattle.engine_invariant.proofs.HiveLists.{at_slot}
-use Rattle.hive_flush.specs.declared.image.HiveImage.{HiveImage}
 use Rattle.recovery.specs.Created.{new_store}
 use Rattle.recovery.specs.Recovered.{seen_in}
 use Rattle.recovery.proofs.Creations.{durable_honest, recovers_durable, stays_off, written_stay}
 use Rattle.recovery.proofs.creation.write_store.Goals as goal
 
-abbrev store_with : List ℕ → ℕ → Store
-store_with id hives = record { id = id; hives = hives }
+store_is : (id own : List ℕ) (layout its : Layout) (named hives : ℕ) → own ≡ id → its ≡ layout → hives ≡ named → new_store own its hives ≡ new_store id layout named
+store_is id own layout its named hives same kind is = λ i. record { id = same i; hives = is i; layout = kind i }
 
-store_is : (id own : List ℕ) (many hives : ℕ) → own ≡ id → hives ≡ many → store_with own hives ≡ store_with id many
-store_is id own many hives same is = λ i. record { id = same i; hives = is i }
-
-is_store : (id own : List ℕ) (many hives : ℕ) → own ≡ id → length own ≡ 16 → hives ≡ many → 1 ≤ many → many ≤ 16 → IsStore (store_with id many)
-is_store id own many hives same size is some few = record {
+is_store : (id own : List ℕ) (layout : Layout) (named : ℕ) → own ≡ id → length own ≡ 16 → 1 ≤ named → named ≤ 16 → IsStore (new_store id layout named)
+is_store id own layout named same size some few = record {
   id_is_whole = ap (λ (l : List ℕ). length l) (sym same) ∙ size;
   some_hives = some;
   few_hives = few;
@@ -26,23 +23,21 @@ is_store id own many hives same size is some few = record {
 pub returns-clause-made : goal.returns-clause-made
 returns-clause-made g c = λ f.
     let D = g.D.Disk in
-    let journal = c.in_ok-journal in
-    let store = c.in_ok-write.ensures.store ∙ store_is c.args.id journal.journal.id (length c.args.images.now) journal.journal.hives journal.ensures.id journal.ensures.hives in (
+    let j = c.in_ok-journal in
+    let store = c.in_ok-write.ensures.store ∙ store_is c.args.id j.journal.id c.args.layout j.journal.layout c.args.named j.journal.hives j.ensures.id j.ensures.layout j.ensures.hives in (
       c.in_ok-write.ensures.file f ∙ ap (λ (s : Store). at_rest (created_bytes s)) store,
       written_stay c.args.images.now (D.state_at c.write_hives.new.disk (D.clock c.write_hives.new.disk)) (D.state_at c.write.new.disk (D.clock c.write.new.disk))
           c.write.ensures.others (c.in_ok-write_hives.ensures.made (c.write.ensures.faithful f)),
     )
 
 pub returns-clause-recovers : goal.returns-clause-recovers
-returns-clause-recovers g c = λ f trees same durable.
+returns-clause-recovers g c = λ f trees same outcomes durable.
     let D = g.D.Disk in
-    let many = length c.args.images.now in
     let new = D.state_at c.write.new.disk (D.clock c.write.new.disk) in
-    let journal = c.in_ok-journal in
-    let hives = journal.ensures.hives ∙ sym same in
-    let store = c.in_ok-write.ensures.store ∙ store_is c.args.id journal.journal.id (length trees) journal.journal.hives journal.ensures.id hives in
-    let whole = is_store c.args.id journal.journal.id (length trees) journal.journal.hives journal.ensures.id journal.journal.size hives (omega (arith, c.requires.some, same)) (omega (arith, c.requires.few, same)) in
-    let each = recovers_durable (λ v s state on. c.leaves.ensures (encodings s) v state on) c.in_ok-write.field-0 c.args.id trees store c.in_ok-write.ensures.empty whole new (c.in_ok-write.ensures.on f) durable in
+    let j = c.in_ok-journal in
+    let store = c.in_ok-write.ensures.store ∙ store_is c.args.id j.journal.id c.args.layout j.journal.layout c.args.named j.journal.hives j.ensures.id j.ensures.layout j.ensures.hives in
+    let whole = is_store c.args.id j.journal.id c.args.layout c.args.named j.ensures.id j.journal.size c.requires.some c.requires.few in
+    let each = recovers_durable (λ v s state on. c.leaves.ensures (encodings s) v state on) c.in_ok-write.field-0 (new_store c.args.id c.args.layout c.args.named) trees store c.in_ok-write.ensures.empty whole (same ∙ c.requires.many) outcomes new (c.in_ok-write.ensures.on f) durable in
     record {
       left = λ files left. each files left.0;
       seen = each (seen_in new) (λ k. (g.met.D.Disk.sound c.write.new.disk (D.clock c.write.new.disk) k f (omega arith)).left);

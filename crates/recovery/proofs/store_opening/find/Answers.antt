@@ -1,9 +1,9 @@
-use Rattle.std.proofs.Common.{inr, ◌≡◌, ◌<◌, ◌≤◌, Some, sym, subst, arith, List, ℕ}
+use Rattle.std.proofs.Common.{inl, inr, ◌≡◌, ◌<◌, ◌≤◌, Some, sym, subst, arith, List, ℕ}
 use Rattle.std.proofs.lemmas.Result.{err_from_is_err_and}
 use Rattle.disk_model.specs.FileState.{FileState}
 use Rattle.disk_model.specs.StoreFiles.{journal_file}
 use Rattle.disk_model.proofs.Unwritten.{no_change}
-use Rattle.commit_journal.specs.Store.{Store}
+use Rattle.commit_journal.specs.Store.{Store, all_hives}
 use Rattle.commit_journal.specs.Encoding.{decoded}
 use Rattle.commit_journal.specs.Journals.{changes_of, choice_of, store_of, encodings_of}
 use Rattle.commit_journal.specs.declared.journal.Journal.{Journal}
@@ -11,7 +11,8 @@ use Rattle.hive_flush.specs.declared.hive.HiveFile.{HiveFile}
 use Rattle.engine_invariant.specs.Prefixes.{AreOnDisk}
 use Rattle.recovery.specs.Invariant.{AllWork}
 use Rattle.recovery.specs.Reading.{AreOf}
-use Rattle.recovery.specs.Recovered.{seen_in}
+use Rattle.hive_files.specs.Frames.{RefusalHasCause}
+use Rattle.recovery.specs.Recovered.{IsNoStore, seen_in}
 use Rattle.recovery.proofs.Openings.{are_of, are_on, at_rest, refused_journal, refused_still}
 use Rattle.recovery.specs.Repairs.{most_repairs, repairs_left}
 use Rattle.recovery.proofs.Together.{of_found}
@@ -20,7 +21,7 @@ use Rattle.recovery.proofs.store_opening.find.Goals as goal
 pub recovered-requires : goal.recovered-requires
 recovered-requires g c =
     let D = g.D.Disk in
-    let own : Store = record { id = c.in_ok-owner.owner.id; hives = c.in_ok-owner.owner.hives } in
+    let own : Store = record { id = c.in_ok-owner.owner.id; hives = c.in_ok-owner.owner.hives; layout = c.in_ok-owner.owner.layout } in
     let then = D.state_at c.owner.new.disk (D.clock c.owner.new.disk) in
     let now = D.state_at c.read_store.new.disk (D.clock c.read_store.new.disk) in
     let e = c.in_ok-read.ensures in
@@ -49,7 +50,7 @@ pub returns-in_err-found-clause-fails : goal.returns-in_err-found-clause-fails
 returns-in_err-found-clause-fails g c =
     let p = err_from_is_err_and c.from_residual-in_err-found.result c.from_residual-in_err-found.ensures.1 in
     let D = g.D.Disk in
-    let own : Store = record { id = c.in_ok-owner.owner.id; hives = c.in_ok-owner.owner.hives } in
+    let own : Store = record { id = c.in_ok-owner.owner.id; hives = c.in_ok-owner.owner.hives; layout = c.in_ok-owner.owner.layout } in
     let old = D.state_at c.args.disk.now (D.clock c.args.disk.now) in
     let then = D.state_at c.owner.new.disk (D.clock c.owner.new.disk) in
     let now = D.state_at c.read_store.new.disk (D.clock c.read_store.new.disk) in
@@ -57,8 +58,11 @@ returns-in_err-found-clause-fails g c =
     let e = c.in_ok-read.ensures in
     let hs = c.in_ok-read.read.hives.items in
     let of = are_of (D.faithful c.read_store.new.disk) own then now c.in_ok-read.read.journal hs e.scanned e.many e.opened in
-    let wrong = c.in_err-found.ensures.fails in
-    rw (p.1, p.2) (inr (inr (wrong.0, λ f. wrong.1 (seen_in old) (subst (λ (s : ℕ → FileState). AreOf (seen_in s) c.in_ok-read.read.journal hs) same (of f)))))
+    let last = c.read_store.new.disk in
+    rw (p.1, p.2) (elim (c.in_err-found.ensures.fails) as (λ z. RefusalHasCause (D.failures c.args.disk.now < D.failures last) (IsNoStore (D.faithful last) (seen_in old)) c.in_err-found.field-0.0) [
+      | inl memory ↦ inl memory
+      | inr wrong ↦ inr (inr (wrong.0, λ f. wrong.1 (seen_in old) (subst (λ (s : ℕ → FileState). AreOf (seen_in s) c.in_ok-read.read.journal hs) same (of f))))
+    ])
 
 pub returns-clause-works : goal.returns-clause-works
 returns-clause-works g c = subst AllWork (sym c.in_ok-found.ensures.hives) (λ i h is. (c.in_ok-read.ensures.opened i h is).works)
@@ -66,7 +70,7 @@ returns-clause-works g c = subst AllWork (sym c.in_ok-found.ensures.hives) (λ i
 pub returns-clause-recovered : goal.returns-clause-recovered
 returns-clause-recovered g c = λ f.
     let D = g.D.Disk in
-    let own : Store = record { id = c.in_ok-owner.owner.id; hives = c.in_ok-owner.owner.hives } in
+    let own : Store = record { id = c.in_ok-owner.owner.id; hives = c.in_ok-owner.owner.hives; layout = c.in_ok-owner.owner.layout } in
     let old = D.state_at c.args.disk.now (D.clock c.args.disk.now) in
     let then = D.state_at c.owner.new.disk (D.clock c.owner.new.disk) in
     let now = D.state_at c.read_store.new.disk (D.clock c.read_store.new.disk) in
@@ -82,7 +86,7 @@ returns-clause-recovered g c = λ f.
 pub returns-clause-on_disk : goal.returns-clause-on_disk
 returns-clause-on_disk g c = λ f.
     let D = g.D.Disk in
-    let own : Store = record { id = c.in_ok-owner.owner.id; hives = c.in_ok-owner.owner.hives } in
+    let own : Store = record { id = c.in_ok-owner.owner.id; hives = c.in_ok-owner.owner.hives; layout = c.in_ok-owner.owner.layout } in
     let then = D.state_at c.owner.new.disk (D.clock c.owner.new.disk) in
     let now = D.state_at c.read_store.new.disk (D.clock c.read_store.new.disk) in
     let e = c.in_ok-read.ensures in
@@ -93,15 +97,15 @@ returns-clause-on_disk g c = λ f.
 pub returns-clause-few : goal.returns-clause-few
 returns-clause-few g c = λ f.
     let D = g.D.Disk in
-    let own : Store = record { id = c.in_ok-owner.owner.id; hives = c.in_ok-owner.owner.hives } in
+    let own : Store = record { id = c.in_ok-owner.owner.id; hives = c.in_ok-owner.owner.hives; layout = c.in_ok-owner.owner.layout } in
     let old = D.state_at c.args.disk.now (D.clock c.args.disk.now) in
     let then = D.state_at c.owner.new.disk (D.clock c.owner.new.disk) in
     let same : then ≡ old = (λ i f. no_change c.owner.ensures.no_change f i) in
     let e = c.in_ok-read.ensures in
-    subst (λ (x : Journal). repairs_left c.in_ok-found.found.hives.items ≤ most_repairs (seen_in old) (store_of x).hives) (sym c.in_ok-found.ensures.journal)
-    (subst (λ (hs : List HiveFile). repairs_left hs ≤ most_repairs (seen_in old) (store_of c.in_ok-read.read.journal).hives) (sym c.in_ok-found.ensures.hives)
-    (subst (λ (s : Store). repairs_left c.in_ok-read.read.hives.items ≤ most_repairs (seen_in old) s.hives) (sym e.scanned.of)
-    (subst (λ (s : ℕ → FileState). repairs_left c.in_ok-read.read.hives.items ≤ most_repairs (seen_in s) own.hives) same (e.few f))))
+    subst (λ (x : Journal). repairs_left c.in_ok-found.found.hives.items ≤ most_repairs (seen_in old) (all_hives (store_of x))) (sym c.in_ok-found.ensures.journal)
+    (subst (λ (hs : List HiveFile). repairs_left hs ≤ most_repairs (seen_in old) (all_hives (store_of c.in_ok-read.read.journal))) (sym c.in_ok-found.ensures.hives)
+    (subst (λ (s : Store). repairs_left c.in_ok-read.read.hives.items ≤ most_repairs (seen_in old) (all_hives s)) (sym e.scanned.of)
+    (subst (λ (s : ℕ → FileState). repairs_left c.in_ok-read.read.hives.items ≤ most_repairs (seen_in s) (all_hives own)) same (e.few f))))
 
 pub returns-clause-decodes : goal.returns-clause-decodes
 returns-clause-decodes g c = λ f.

@@ -11,7 +11,7 @@ use Rattle.hive_files.specs.Frames.{RefusalHasCause}
 use Rattle.hive_flush.specs.declared.hive.HiveFile.{HiveFile}
 use Rattle.hive_flush.specs.HiveStates.{memory_of}
 use Rattle.recovery.specs.Invariant.{own_numbers}
-use Rattle.recovery.specs.Reading.{BeginsAt}
+use Rattle.recovery.specs.Reading.{BeginsAt, IsNoHive}
 use Rattle.recovery.specs.Recovered.{IsNoStore, seen_in}
 use Rattle.recovery.specs.Replays.{NotReplayed, Replays}
 use Rattle.recovery.proofs.Openings.{opened_still, refused_beside, refused_hives, refused_replay, refused_up, decoded_before}
@@ -47,7 +47,7 @@ returns-in-Err-scan_store-clause-fails g c =
     let old = D.state_at c.args.disk.now (D.clock c.args.disk.now) in
     let mid = D.state_at c.open_hives.new.disk (D.clock c.open_hives.new.disk) in
     let last = c.scan_store.new.disk in
-    let owner : Store = record { id = c.args.owner.now.id; hives = c.args.owner.now.hives } in
+    let owner : Store = record { id = c.args.owner.now.id; hives = c.args.owner.now.hives; layout = c.args.owner.now.layout } in
     let hives = c.in-Ok.hives.items in
     let e = c.in_ok-replay-in-Ok.ensures in
     let begins : BeginsAt hives c.in_ok-replay-in-Ok.replay = record {
@@ -63,7 +63,7 @@ returns-in-Err-scan_store-clause-fails g c =
     refused_up (D.failures c.open_hives.new.disk < D.failures last) (D.failures c.args.disk.now < D.failures last) (λ rose. omega (arith, rose, c.open_hives.ensures.failures)) (IsNoStore (D.faithful last) (seen_in old)) c.in-Err-scan_store.why
     (refused_replay (D.failures c.open_hives.new.disk < D.failures last) (D.faithful last) (seen_in old) c.in_ok-replay-in-Ok.replay c.scan_store.new.sink (λ (changes : List NumberedChange). D.faithful last → JournalBegins (mid journal_file).seen changes) c.in-Err-scan_store.why
     (λ taken took d.
-    scanned.denied hives (λ i h at. (opened.each i h at).rests) c.in_ok-replay-in-Ok.replay c.scan_store.new.sink begins taken took owner c.requires.store c.in-Ok.ensures.many (seen_in old) (D.faithful last)
+    scanned.denied hives (λ i h at. (opened.each i h at).rests) c.in_ok-replay-in-Ok.replay c.scan_store.new.sink begins taken took owner c.requires.store (c.in-Ok.ensures.many ∙ c.all_hives-count.ensures) (seen_in old) (D.faithful last)
     (λ f. c.requires.only (c.open_hives.ensures.faithful (back f)))
     (λ f i h at. (opened.each i h at).held (back f)) c.in-Err-scan_store.why
     (record { change = d.change; denies = d.denies; begins = λ f. subst (λ (l : List ℕ). JournalBegins l (taken ++ d.change ∷ [])) journal (d.begins f) }))
@@ -74,7 +74,7 @@ returns-after-is_hive_refusal-clause-fails g c =
     let D = g.D.Disk in
     let old = D.state_at c.args.disk.now (D.clock c.args.disk.now) in
     let mid = D.state_at c.open_hives.new.disk (D.clock c.open_hives.new.disk) in
-    let owner : Store = record { id = c.args.owner.now.id; hives = c.args.owner.now.hives } in
+    let owner : Store = record { id = c.args.owner.now.id; hives = c.args.owner.now.hives; layout = c.args.owner.now.layout } in
     let rose = D.failures c.args.disk.now < D.failures c.open_hives.new.disk in
     let why = c.in-Err.why in
     let Refuses : g.row.D.Denot → Type 0 = λ disk. RefusalHasCause (D.failures c.args.disk.now < D.failures disk) (IsNoStore (D.faithful disk) (seen_in old)) why in
@@ -85,9 +85,10 @@ returns-after-is_hive_refusal-clause-fails g c =
           let r = w.in_ok-journal-in-Err in
           let decodes = decoded_before (D.faithful o.new.disk) owner old mid last r.journal r.ensures.scanned (λ f. synced_still (c.open_hives.ensures.synced (o.ensures.faithful f))) in
           subst Refuses (sym w.disk-is) (refused_hives (D.faithful c.open_hives.new.disk) (D.faithful o.new.disk) o.ensures.faithful rose (D.failures c.args.disk.now < D.failures o.new.disk) (λ more. omega (arith, more, o.ensures.failures)) owner c.requires.store
-          (choice_of r.journal).now old decodes why c.in-Err.ensures.fails)
+          (choice_of r.journal).now old decodes why
+          (subst (λ n. RefusalHasCause rose (IsNoHive (D.faithful c.open_hives.new.disk) owner.id n old) why) c.all_hives-count.ensures c.in-Err.ensures.fails))
       | else-is_hive_refusal w ↦
-          subst Refuses (sym w.disk-is) (refused_beside (D.faithful c.open_hives.new.disk) (D.faithful c.open_hives.new.disk) rose owner.id owner.hives old why (c.is_hive_refusal.ensures w.if-is_hive_refusal.false) c.in-Err.ensures.fails)
+          subst Refuses (sym w.disk-is) (refused_beside (D.faithful c.open_hives.new.disk) (D.faithful c.open_hives.new.disk) rose owner.id c.all_hives-count.result old why (c.is_hive_refusal.ensures w.if-is_hive_refusal.false) c.in-Err.ensures.fails)
     ]
 
 pub returns-after-is_hive_refusal-clause-synced : goal.returns-after-is_hive_refusal-clause-synced
