@@ -57,6 +57,7 @@ non_step_idles (event.CommitAccept session tx moment) answer m base opened journ
 non_step_idles (event.Rollback session tx) answer m base opened journal hives q = tt
 non_step_idles (event.Close session tx) answer m base opened journal hives q = tt
 non_step_idles (event.Outcome session tx) answer m base opened journal hives q = tt
+non_step_idles (event.OutcomeOf id) answer m base opened journal hives q = tt
 non_step_idles event.FlushAsk answer m base opened journal hives q = tt
 non_step_idles (event.Acked number) answer m base opened journal hives q = tt
 non_step_idles event.Fold answer m base opened journal hives q = absurd cc

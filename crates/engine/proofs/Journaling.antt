@@ -20,7 +20,7 @@ use Rattle.change_codec.specs.ModelChanges.{TimedOp, timed_elements}
 use Rattle.crash_model.specs.StepAnswers.{Says}
 use Rattle.disk_model.specs.declared.progress.Progress.{Progress}
 use Rattle.disk_model.specs.declared.progress.Progress.TheVariants as progress
-use Rattle.commit_journal.specs.Store.{room_of}
+use Rattle.commit_journal.specs.Store.{all_hives, room_of}
 use Rattle.commit_journal.specs.Handed.{IsHanded, IsShort}
 use Rattle.commit_journal.specs.OnDisk.{is_on}
 use Rattle.engine.specs.EarlierChanges.{changes_before}
@@ -70,12 +70,12 @@ module _ (s : StoreView) (base : ℕ) (opened : List Element) (old : Journal) (h
     pending_is : es ≡ pending s.machine
     pending_is = e ∙ ap (λ n. drop (n - s.machine.before) s.machine.accepted) d
 
-    pub may_hand : Hand → AllByRecursion IsShort es → IsHanded (store_of old).hives (65 + room_of (choice_of old).now.elements) (durable + 1) es (choice_of old).now
+    pub may_hand : Hand → AllByRecursion IsShort es → IsHanded (all_hives (store_of old)) (65 + room_of (choice_of old).now.elements) (durable + 1) es (choice_of old).now
     may_hand law short =
         let h = law s.machine base opened (choice_of old) (map view_of hives) a.kept (subst (AllByRecursion IsShort) pending_is short) in
-        let many : length (map view_of hives) ≡ (store_of old).hives = length-map hives view_of ∙ a.many in
-        subst (λ (l : List Element). IsHanded (store_of old).hives (65 + room_of (choice_of old).now.elements) (durable + 1) l (choice_of old).now) (sym pending_is)
-        (subst (λ n. IsHanded (store_of old).hives (65 + room_of (choice_of old).now.elements) (n + 1) (pending s.machine) (choice_of old).now) (sym d)
+        let many : length (map view_of hives) ≡ all_hives (store_of old) = length-map hives view_of ∙ a.many in
+        subst (λ (l : List Element). IsHanded (all_hives (store_of old)) (65 + room_of (choice_of old).now.elements) (durable + 1) l (choice_of old).now) (sym pending_is)
+        (subst (λ n. IsHanded (all_hives (store_of old)) (65 + room_of (choice_of old).now.elements) (n + 1) (pending s.machine) (choice_of old).now) (sym d)
         (subst (λ n. IsHanded n (65 + room_of (choice_of old).now.elements) (s.machine.durable + 1) (pending s.machine) (choice_of old).now) many h))
 
     pub batch_goes : Batch → (new : Journal) (result : Result Progress Refusal) → s.machine.faulted ≡ false → ((result ≡ Err Faulted) ↔ journals.IsBroken old) → Says (JournalSays (durable + 1) (timed_elements es)) result (choice_of old) (choice_of new)

@@ -33,6 +33,16 @@ machine_fits limit m few k = record {
     room = k.within.room;
   };
   history = k.history;
+  outcomes = λ has.
+      let kept = k.outcomes has in record {
+        before = kept.before;
+        opened = kept.opened;
+        up_to = kept.up_to;
+        now = kept.now;
+        numbers = kept.numbers;
+        since = kept.since;
+        each = kept.each;
+      };
 }
 
 consistent_fits : (limit : ℕ) (m : Machine) (base : ℕ) (opened : List Element) (journal : Choice (Content TimedOp)) (hives : List HiveView) → length m.accepted ≤ limit → IsConsistent m base opened journal hives → IsConsistent (with_history limit m) base opened journal hives
@@ -42,6 +52,7 @@ consistent_fits limit m base opened journal hives few i = record {
   law = i.law;
   begun = i.begun;
   all = i.all;
+  one_more = i.one_more;
   own = i.own;
   onward = i.onward;
   room = i.room;
@@ -55,7 +66,9 @@ limit_fits s t limit few is hand sound =
       holds = record {
         kept = subst (λ (m : Machine). IsConsistent m s.base opened (choice_of s.journal) (map view_of s.hives.items)) (sym is) (consistent_fits limit s.store.machine s.base opened (choice_of s.journal) (map view_of s.hives.items) few holds.kept);
         placed = holds.placed;
+        some = holds.some;
         many = holds.many;
+        named = ap (λ (m : Machine). m.bounds.hives) is ∙ holds.named;
         whole = holds.whole;
         journal_works = λ works. holds.journal_works (sym (ap (λ (m : Machine). m.faulted) is) ∙ works);
         hives_work = λ works. holds.hives_work (sym (ap (λ (m : Machine). m.faulted) is) ∙ works);

@@ -10,8 +10,8 @@ use Rattle.disk_model.specs.Crash.{LeavesHonest}
 use Rattle.disk_model.proofs.Leaves.{left_at_rest}
 use Rattle.disk_model.proofs.Sectors.{honest_at_rest}
 use Rattle.disk_model.specs.ReadOnly.{IsSyncedOrSame}
-use Rattle.commit_journal.specs.Store.{Store, IsStore}
-use Rattle.store_model.specs.Machine.{Machine, bounds_of, last_number, opened_machine, with_history}
+use Rattle.commit_journal.specs.Store.{Store, IsStore, all_hives}
+use Rattle.store_model.specs.Machine.{Machine, bounds_for, last_number, opened_machine, with_history}
 use Rattle.store_model.specs.Steps.{Run}
 use Rattle.store_model.specs.declared.event.Event.{Event}
 use Rattle.store_model.specs.declared.event.Reply.{Reply}
@@ -92,7 +92,7 @@ next_seen hives life next reads (inr (seen, is)) =
     )
 
 -- A prefix is recovered
-recovers : (store : Store) (m : Machine) (files : ℕ → List ℕ) → IsStore store → length m.opened ≡ store.hives → (n : ℕ) → Recover store (length m.opened) files n (trees_after m n) → IsRecovered files store n (trees_after m n)
+recovers : (store : Store) (m : Machine) (files : ℕ → List ℕ) → IsStore store → length m.opened ≡ all_hives store → (n : ℕ) → Recover store (length m.opened) files n (trees_after m n) → IsRecovered files store n (trees_after m n)
 recovers store m files is many n found = record {
   store_is = is;
   many = all_long m.opened (take (n - m.before) m.accepted) ∙ many;
@@ -100,7 +100,7 @@ recovers store m files is many n found = record {
 }
 
 module _ (one : OneRecovered) (store : Store) (is : IsStore store) where
-  opens_from : (m : Machine) (state : ℕ → FileState) (number : ℕ) (trees : List TreeMap) → length m.opened ≡ store.hives → IsSafe store m state → ReadsSafely store.hives state → IsRecovered (seen_in state) store number trees → OpensFrom m number trees
+  opens_from : (m : Machine) (state : ℕ → FileState) (number : ℕ) (trees : List TreeMap) → length m.opened ≡ all_hives store → IsSafe store m state → ReadsSafely (all_hives store) state → IsRecovered (seen_in state) store number trees → OpensFrom m number trees
   opens_from m state number trees many safe seen found = by_prefix (safe (seen_in state) (subst (λ n. ReadsSafely n state) (sym many) seen))
     where
       by_prefix : (n : ℕ) × (m.durable ≤ n) × (n ≤ last_number m) × Recover store (length m.opened) (seen_in state) n (trees_after m n) → OpensFrom m number trees
@@ -109,21 +109,21 @@ module _ (one : OneRecovered) (store : Store) (is : IsStore store) where
           record { low = omega (arith, low, same.1); high = omega (arith, high, same.1); trees_are = same.2 ∙ ap (trees_after m) (sym same.1) }
 
   -- what may be left of the next files may have been left of a life's, by the number of a machine's trees
-  left_of : (n : ℕ) (life : Life) (next : ℕ → FileState) → n ≡ store.hives → IsNext store.hives life next → (files : ℕ → List ℕ) → LeavesHonest (IsPrimaryOf n) next files → LeavesHonest (IsPrimaryOf n) (end_of life) files
+  left_of : (n : ℕ) (life : Life) (next : ℕ → FileState) → n ≡ all_hives store → IsNext (all_hives store) life next → (files : ℕ → List ℕ) → LeavesHonest (IsPrimaryOf n) next files → LeavesHonest (IsPrimaryOf n) (end_of life) files
   left_of n life next many on files left =
-      subst (λ k. LeavesHonest (IsPrimaryOf k) (end_of life) files) (sym many) (next_left store.hives life next on files (subst (λ k. LeavesHonest (IsPrimaryOf k) next files) many left))
+      subst (λ k. LeavesHonest (IsPrimaryOf k) (end_of life) files) (sym many) (next_left (all_hives store) life next on files (subst (λ k. LeavesHonest (IsPrimaryOf k) next files) many left))
 
-  pub go_on : (m : Machine) (state : ℕ → FileState) (lives : List Life) → length m.opened ≡ store.hives → IsSafe store m state → ReadsSafely store.hives state → AreLives store state lives → EachLifeContinues m lives
+  pub go_on : (m : Machine) (state : ℕ → FileState) (lives : List Life) → length m.opened ≡ all_hives store → IsSafe store m state → ReadsSafely (all_hives store) state → AreLives store state lives → EachLifeContinues m lives
   go_on m state [] many safe seen rest = tt
   go_on m state (NeverOpened end ∷ lives) many safe seen (kept, (next, on, rest)) =
       go_on m next lives many
-      (λ files left. safe files (subst (λ n. LeavesHonest (IsPrimaryOf n) state files) (sym many) (before store.hives state end seen kept files (next_left store.hives (NeverOpened end) next on files (subst (λ n. LeavesHonest (IsPrimaryOf n) next files) many left)))))
-      (next_seen store.hives (NeverOpened end) next (λ e. seen_after store.hives state end seen kept) on) rest
+      (λ files left. safe files (subst (λ n. LeavesHonest (IsPrimaryOf n) state files) (sym many) (before (all_hives store) state end seen kept files (next_left (all_hives store) (NeverOpened end) next on files (subst (λ n. LeavesHonest (IsPrimaryOf n) next files) many left)))))
+      (next_seen (all_hives store) (NeverOpened end) next (λ e. seen_after (all_hives store) state end seen kept) on) rest
   go_on m state (Opened number trees last end ∷ lives) many safe seen ((found, come, left, reads), (next, on, rest)) =
-      let long : length last.opened ≡ store.hives = run_stays (with_history come.limit (record (opened_machine (bounds_of trees) trees number [] 0) { room = come.room; faulted = come.broken })) last come.events come.replies come.run ∙ found.many in (
+      let long : length last.opened ≡ all_hives store = run_stays (with_history come.limit (record (opened_machine (bounds_for store.hives) trees number [] 0) { room = come.room; faulted = come.broken })) last come.events come.replies come.run ∙ found.many in (
         opens_from m state number trees many safe seen found,
         go_on last next lives long (λ files there. left files (left_of (length last.opened) (Opened number trees last end) next long on files there))
-            (next_seen store.hives (Opened number trees last end) next (λ e. subst (λ n. ReadsSafely n end) long (reads e)) on) rest,
+            (next_seen (all_hives store) (Opened number trees last end) next (λ e. subst (λ n. ReadsSafely n end) long (reads e)) on) rest,
       )
 
 -- Calls
@@ -131,8 +131,8 @@ module _ (one : OneRecovered) (store : Store) (is : IsStore store) where
 none_taken : (n : ℕ) → take {A = Element} (n - n) [] ≡ []
 none_taken n = let e : n - n ≡ 0 = omega arith in ap (λ k. take {A = Element} k []) e
 
-pub repaired : (store : Store) (state end : ℕ → FileState) (number room : ℕ) (failed : Bool) (trees : List TreeMap) → IsRecovered (seen_in state) store number trees → ((files : ℕ → List ℕ) → LeavesHonest (IsPrimaryOf store.hives) end files → IsRecovered files store number trees)
-    → (failed ≡ false → ReadsSafely store.hives end) → IsLife store state (Opened number trees (record (opened_machine (bounds_of trees) trees number [] 0) { room = room; faulted = failed }) end)
+pub repaired : (store : Store) (state end : ℕ → FileState) (number room : ℕ) (failed : Bool) (trees : List TreeMap) → IsRecovered (seen_in state) store number trees → ((files : ℕ → List ℕ) → LeavesHonest (IsPrimaryOf (all_hives store)) end files → IsRecovered files store number trees)
+    → (failed ≡ false → ReadsSafely (all_hives store) end) → IsLife store state (Opened number trees (record (opened_machine (bounds_for store.hives) trees number [] 0) { room = room; faulted = failed }) end)
 repaired store state end number room failed trees found stays reads = (
   found,
   record { room = room; limit = MOST_HISTORY; broken = failed; events = []; replies = []; run = refl },
@@ -144,20 +144,20 @@ repaired store state end number room failed trees found stays reads = (
 
 -- A store that was made
 
-first_at : (trees : List TreeMap) (lives : List Life) → EachLifeContinues (opened_machine (bounds_of trees) trees 0 [] 0) lives → FirstOpensAt 0 trees lives
-first_at trees [] on = tt
-first_at trees (NeverOpened end ∷ lives) on = first_at trees lives on
-first_at trees (Opened number found last end ∷ lives) (from, on) =
+first_at : (store : Store) (trees : List TreeMap) (lives : List Life) → EachLifeContinues (opened_machine (bounds_for store.hives) trees 0 [] 0) lives → FirstOpensAt 0 trees lives
+first_at store trees [] on = tt
+first_at store trees (NeverOpened end ∷ lives) on = first_at store trees lives on
+first_at store trees (Opened number found last end ∷ lives) (from, on) =
     let zero : number ≡ 0 = omega (arith, from.high) in
-    (zero, from.trees_are ∙ ap (trees_after (opened_machine (bounds_of trees) trees 0 [] 0)) zero ∙ ap (λ (l : List Element). after_elements trees l) (none_taken 0))
+    (zero, from.trees_are ∙ ap (trees_after (opened_machine (bounds_for store.hives) trees 0 [] 0)) zero ∙ ap (λ (l : List Element). after_elements trees l) (none_taken 0))
 
 pub opens_as_made : OneRecovered → (store : Store) (trees : List TreeMap) (state : ℕ → FileState) (lives : List Life) → ((files : ℕ → List ℕ) → LeavesHonest (IsPrimaryOf (length trees)) state files → IsRecovered files store 0 trees)
-    → ReadsSafely (length trees) state → AreLives store state lives → FirstOpensAt 0 trees lives × EachLifeContinues (opened_machine (bounds_of trees) trees 0 [] 0) lives
+    → ReadsSafely (length trees) state → AreLives store state lives → FirstOpensAt 0 trees lives × EachLifeContinues (opened_machine (bounds_for store.hives) trees 0 [] 0) lives
 opens_as_made one store trees state lives made seen rest =
     let found = made (seen_in state) seen in
     let safe = repaired store state state 0 0 false trees found (λ files left. made files (subst (λ n. LeavesHonest (IsPrimaryOf n) state files) (sym found.many) left)) (λ works. subst (λ n. ReadsSafely n state) found.many seen) in
-    let on = go_on one store found.store_is (opened_machine (bounds_of trees) trees 0 [] 0) state lives found.many safe.2 (subst (λ n. ReadsSafely n state) found.many seen) rest in
-    (first_at trees lives on, on)
+    let on = go_on one store found.store_is (opened_machine (bounds_for store.hives) trees 0 [] 0) state lives found.many safe.2 (subst (λ n. ReadsSafely n state) found.many seen) rest in
+    (first_at store trees lives on, on)
 
 abbrev pub EachMoment : Type 0
 EachMoment = (store : Store) (states : ℕ → ℕ → FileState) (old new : EngineView) (events : List Event) (replies : List Reply) → RunsSafely (IsSafeAt store states) old events replies new → (moment : ℕ) → old.clock ≤ moment → moment ≤ new.clock
@@ -167,7 +167,7 @@ abbrev pub AreRuns : Type 0
 AreRuns = (old new : EngineView) (events : List Event) (replies : List Reply) → AnswersInTurn old events replies new → Run old.machine events replies new.machine × (length replies ≡ length events)
 
 pub ran : EachMoment → AreRuns → (store : Store) (state : ℕ → FileState) (number room limit : ℕ) (trees : List TreeMap) (states : ℕ → ℕ → FileState) (moment : ℕ) (events : List Event) (replies : List Reply) (old new : EngineView) → IsRecovered (seen_in state) store number trees
-    → old.machine ≡ with_history limit (record (opened_machine (bounds_of trees) trees number [] 0) { room = room }) → RunsSafely (IsSafeAt store states) old events replies new → old.clock ≤ moment → moment ≤ new.clock
+    → old.machine ≡ with_history limit (record (opened_machine (bounds_for store.hives) trees number [] 0) { room = room }) → RunsSafely (IsSafeAt store states) old events replies new → old.clock ≤ moment → moment ≤ new.clock
     → IsBoundary (λ at machine. (machine.faulted ≡ false → ReadsSafely (length machine.opened) (states at)) → IsLife store state (Opened number trees machine (states at))) old events replies new moment
 ran each runs store state number room limit trees states moment events replies old new found begins run low high =
     let b = each store states old new events replies run moment low high in

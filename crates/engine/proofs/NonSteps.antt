@@ -85,6 +85,7 @@ request_opens e (reply.Folded number) old new opened accepted request step = abs
     not_folded (event.Rollback session tx) request s = s
     not_folded (event.Close session tx) request s = s
     not_folded (event.Outcome session tx) request s = s
+    not_folded (event.OutcomeOf id) request s = s
     not_folded event.FlushAsk request s = s
     not_folded (event.Acked number) request s = s
     not_folded event.JournalStep request s = s

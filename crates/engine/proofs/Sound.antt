@@ -9,12 +9,13 @@ use Rattle.refusals.specs.declared.refusal.Refusal.TheVariants as refusal
 use Rattle.reg_tree.specs.declared.element.Element.{Element}
 use Rattle.crash_model.specs.Promises.{Choice, Content, top}
 use Rattle.store_model.specs.Machine.{Machine, last_number}
+use Rattle.store_model.specs.declared.bounds.StoreBounds.{StoreBounds}
 use Rattle.store_model.specs.Invariant.{JournalStateStays, AcceptsOneChange}
 use Rattle.transactions.specs.Stores.{StoreView}
 use Rattle.change_codec.specs.ModelChanges.{TimedOp}
 use Rattle.disk_model.specs.declared.progress.Progress.{Progress}
 use Rattle.disk_model.specs.declared.progress.Progress.TheVariants as progress
-use Rattle.commit_journal.specs.Store.{Store, room_of}
+use Rattle.commit_journal.specs.Store.{Store, all_hives, room_of}
 use Rattle.commit_journal.specs.Journals.{choice_of, store_of}
 use Rattle.commit_journal.specs.Journals as journals
 use Rattle.commit_journal.specs.declared.journal.Journal.{Journal}
@@ -33,7 +34,9 @@ pub non_step_sound : (s t : StoreView) (base : ℕ) (opened : List Element) (jou
 non_step_sound s t base opened journal hives a kept how = record {
   kept = kept;
   placed = a.placed;
+  some = a.some;
   many = a.many;
+  named = ap (λ (b : StoreBounds). b.hives) (bounds how) ∙ a.named;
   whole = a.whole;
   journal_works = λ free. a.journal_works (sym (faulted how) ∙ free);
   hives_work = λ free. a.hives_work (sym (faulted how) ∙ free);
@@ -43,12 +46,18 @@ non_step_sound s t base opened journal hives a kept how = record {
     faulted (inl x) = x.faulted
     faulted (inr x) = x.faulted
 
+    bounds : JournalStateStays s.machine t.machine ⊎ AcceptsOneChange s.machine t.machine → t.machine.bounds ≡ s.machine.bounds
+    bounds (inl x) = x.bounds
+    bounds (inr x) = x.bounds
+
 -- the store changes nothing of an engine's invariant
 pub told_sound : (s t : StoreView) (base : ℕ) (opened : List Element) (journal : Journal) (hives : List HiveFile) → t.machine ≡ s.machine → AreSound s base opened journal hives → AreSound t base opened journal hives
 told_sound s t base opened journal hives same a = record {
   kept = subst (λ (m : Machine). IsConsistent m base opened (choice_of journal) (map view_of hives)) (sym same) a.kept;
   placed = a.placed;
+  some = a.some;
   many = a.many;
+  named = ap (λ (m : Machine). m.bounds.hives) same ∙ a.named;
   whole = a.whole;
   journal_works = λ free. a.journal_works (sym (ap (λ (m : Machine). m.faulted) same) ∙ free);
   hives_work = λ free. a.hives_work (sym (ap (λ (m : Machine). m.faulted) same) ∙ free);
@@ -96,6 +105,20 @@ pub flush_before : (m : Machine) (result : Result Progress Refusal) → (after_f
 flush_before m (Ok come) = refl
 flush_before m (Err why) = refused_before m why
 
+refused_bounds : (m : Machine) (why : Refusal) → (refused_by m why).bounds ≡ m.bounds
+refused_bounds m refusal.DiskFault = refl
+refused_bounds m _ = refl
+
+step_bounds : (m : Machine) (old new : Choice (Content TimedOp)) (result : Result Progress Refusal) → (after_step m old new result).bounds ≡ m.bounds
+step_bounds m old new (Ok progress.Done) = refl
+step_bounds m old new (Ok progress.Idle) = refl
+step_bounds m old new (Ok progress.More) = refl
+step_bounds m old new (Err why) = refused_bounds m why
+
+flush_bounds : (m : Machine) (result : Result Progress Refusal) → (after_flush m result).bounds ≡ m.bounds
+flush_bounds m (Ok come) = refl
+flush_bounds m (Err why) = refused_bounds m why
+
 -- a step of the journal or of a trim
 pub journal_sound : (s t : StoreView) (base : ℕ) (opened : List Element) (old new : Journal) (hives : List HiveFile) (result : Result Progress Refusal) → AreSound s base opened old hives → s.machine.faulted ≡ false
     → IsConsistent (after_step s.machine (choice_of old) (choice_of new) result) base opened (choice_of new) (map view_of hives) → store_of new ≡ store_of old → (journals.IsBroken new → journals.IsBroken old ⊎ (result ≡ Err refusal.DiskFault))
@@ -103,7 +126,9 @@ pub journal_sound : (s t : StoreView) (base : ℕ) (opened : List Element) (old 
 journal_sound s t base opened old new hives result a free kept same broken is = record {
   kept = subst (λ (m : Machine). IsConsistent m base opened (choice_of new) (map view_of hives)) (sym is) kept;
   placed = subst (λ (x : Store). ArePlaced x hives) (sym same) a.placed;
-  many = a.many ∙ ap (λ (x : Store). x.hives) (sym same);
+  some = subst (λ (x : Store). 1 ≤ x.hives) (sym same) a.some;
+  many = a.many ∙ ap all_hives (sym same);
+  named = ap (λ (m : Machine). m.bounds.hives) is ∙ ap (λ (b : StoreBounds). b.hives) (step_bounds s.machine (choice_of old) (choice_of new) result) ∙ a.named ∙ ap (λ (x : Store). x.hives) (sym same);
   whole = a.whole;
   journal_works = λ no_change bad. elim (broken bad) [ inl b ↦ a.journal_works free b | inr f ↦ step_faults s.machine (choice_of old) (choice_of new) result free (ap (λ (m : Machine). m.faulted) (sym is) ∙ no_change) f ];
   hives_work = λ no_change. a.hives_work free;
@@ -117,14 +142,16 @@ at_place hives k h lt e = slice_get_read hives (length hives) k h refl lt e
 -- a hive that has absorbed something, or made a step
 pub hive_sound : (s t : StoreView) (base : ℕ) (opened : List Element) (journal : Journal) (hives : List HiveFile) (k : ℕ) (old new : HiveFile) → AreSound s base opened journal hives → slice_get hives k ≡ Some old
     → IsConsistent t.machine base opened (choice_of journal) (slice_set (map view_of hives) k (view_of new)) → hive_number new ≡ hive_number old → states.store_of new ≡ states.store_of old → HiveIsRepaired new
-    → (t.machine.faulted ≡ false → (s.machine.faulted ≡ false) × ¬ (IsBroken new)) → AreSound t base opened journal (slice_set hives k new)
-hive_sound s t base opened journal hives k old new a is kept place owner whole works = record {
+    → (t.machine.faulted ≡ false → (s.machine.faulted ≡ false) × ¬ (IsBroken new)) → t.machine.bounds ≡ s.machine.bounds → AreSound t base opened journal (slice_set hives k new)
+hive_sound s t base opened journal hives k old new a is kept place owner whole works bounds = record {
   kept = subst (λ (v : List HiveView). IsConsistent t.machine base opened (choice_of journal) v) (sym (map-set view_of hives k new)) kept;
   placed = record {
     place = each_hive hives k old new is (λ j h. hive_number h ≡ j) (place ∙ a.placed.place k old is) (λ j h ne at. a.placed.place j h at);
     owner = each_hive hives k old new is (λ j h. states.store_of h ≡ (store_of journal).id) (owner ∙ a.placed.owner k old is) (λ j h ne at. a.placed.owner j h at);
   };
   many = length-set hives k new ∙ a.many;
+  some = a.some;
+  named = ap (λ (b : StoreBounds). b.hives) bounds ∙ a.named;
   whole = each_hive hives k old new is (λ j h. HiveIsRepaired h) whole (λ j h ne at. a.whole j h at);
   journal_works = λ no_change. a.journal_works (works no_change).0;
   hives_work = λ no_change. each_hive hives k old new is (λ j h. ¬ (IsBroken h)) (works no_change).1 (λ j h ne at. a.hives_work (works no_change).0 j h at);
@@ -136,6 +163,7 @@ pub flush_sound : (s t : StoreView) (base : ℕ) (opened : List Element) (journa
 flush_sound s t base opened journal hives k old new result a free is kept place owner whole broken told =
     hive_sound s t base opened journal hives k old new a is (subst (λ (m : Machine). IsConsistent m base opened (choice_of journal) (slice_set (map view_of hives) k (view_of new))) (sym told) kept) place owner whole
     (λ no_change. (free, λ bad. elim (broken bad) [ inl b ↦ a.hives_work free k old is b | inr f ↦ flush_faults s.machine result (ap (λ (m : Machine). m.faulted) (sym told) ∙ no_change) f ]))
+    (ap (λ (m : Machine). m.bounds) told ∙ flush_bounds s.machine result)
 
 pub same_hive : (hives : List HiveFile) (k : ℕ) (a b : HiveFile) → slice_get hives k ≡ Some a → slice_get hives k ≡ Some b → a ≡ b
 same_hive hives k a b x y = same_Some a b (sym x ∙ y)

@@ -1,5 +1,5 @@
 -- What a hive says of its steps, and what it absorbs, is what the engine answers and keeps.
-use Rattle.std.proofs.Common.{◌≡◌, ◌⊎◌, ◌↔◌, inl, inr, ℕ, ◌+◌, ◌-◌, ◌≤◌, max, false, List, ◌++◌, map, take, drop, sym, ◌∙◌, ap, subst, arith, Some, None, Result, Ok, Err, slice_get}
+use Rattle.std.proofs.Common.{◌≡◌, ◌⊎◌, ◌↔◌, inl, inr, ℕ, ◌+◌, ◌-◌, ◌≤◌, max, false, List, ◌++◌, map, take, drop, sym, ◌∙◌, ap, subst, arith, Some, None, Result, Ok, Err, slice_get, refl}
 use Rattle.std.specs.Prelude.{slice_set, OnOk, OnErr}
 use Rattle.std.specs.List.{filter}
 use Rattle.std.proofs.lemmas.List.{drop-take, map-append}
@@ -101,7 +101,7 @@ module _ (s : StoreView) (base : ℕ) (opened : List Element) (journal : Journal
       → ops_on k (timed_elements es) ≡ ops_on k (timed_elements (opened_above base opened (memory_of old).1 ++ accepted_above s.machine (memory_of old).1)) → OnOk result (memory_of new ≡ (tree_after_changes (hive_number old) es (memory_of old).0, durable)) → OnErr result (new ≡ old)
       → hive_number new ≡ hive_number old → states.store_of new ≡ states.store_of old → HiveIsRepaired new → (IsBroken new → IsBroken old) → AreSound s base opened journal (slice_set hives k new)
   taken takes flush new es durable result files idle d e ok err place owner whole sound =
-      hive_sound s s base opened journal hives k old new a is (kept result ok err) place owner whole (λ _. (free, λ bad. a.hives_work free k old is (sound bad)))
+      hive_sound s s base opened journal hives k old new a is (kept result ok err) place owner whole (λ _. (free, λ bad. a.hives_work free k old is (sound bad))) refl
     where
       kept : (r : Result (Unit {0}) Refusal) → OnOk r (memory_of new ≡ (tree_after_changes (hive_number old) es (memory_of old).0, durable)) → OnErr r (new ≡ old) → IsConsistent s.machine base opened (choice_of journal) (slice_set (map view_of hives) k (view_of new))
       kept (Ok u) o f =

@@ -2,6 +2,7 @@ pub mod LastChangePerHive
 pub mod RetainedChanges
 pub mod EarlierChanges
 pub mod Work
+pub mod Outcomes
 pub mod Parts
 pub mod Events
 pub mod Shown

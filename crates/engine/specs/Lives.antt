@@ -4,11 +4,11 @@ use Rattle.reg_tree.specs.Maps.{TreeMap}
 use Rattle.disk_model.specs.FileState.{FileState, at_rest}
 use Rattle.disk_model.specs.Crash.{LeavesHonest}
 use Rattle.disk_model.specs.ReadOnly.{IsSyncedOrSame}
-use Rattle.store_model.specs.Machine.{Machine, bounds_of, last_number, opened_machine, with_history}
+use Rattle.store_model.specs.Machine.{Machine, bounds_for, last_number, opened_machine, with_history}
 use Rattle.store_model.specs.Steps.{Run}
 use Rattle.store_model.specs.declared.event.Event.{Event}
 use Rattle.store_model.specs.declared.event.Reply.{Reply}
-use Rattle.commit_journal.specs.Store.{Store}
+use Rattle.commit_journal.specs.Store.{Store, all_hives}
 use Rattle.engine_invariant.specs.Prefixes.{IsPrefix, IsPrimaryOf, trees_after}
 use Rattle.recovery.specs.Recovered.{IsRecovered, seen_in}
 
@@ -27,15 +27,15 @@ abbrev pub faulted_in : Life → Bool
 faulted_in (NeverOpened end) = false
 faulted_in (Opened number trees last end) = last.faulted
 
--- A machine that was opened at a number and trees, with some room and some limit of its history, and faulted if the
--- device failed in a repair, has reached this one by events.
-pub record ReachedFromOpening (number : ℕ) (trees : List TreeMap) (last : Machine) : Type 0 where
+-- A machine that was opened at a number and trees of a store, with some room and some limit of its history, and faulted
+-- if the device failed in a repair, has reached this one by events.
+pub record ReachedFromOpening (store : Store) (number : ℕ) (trees : List TreeMap) (last : Machine) : Type 0 where
   pub room : ℕ
   pub limit : ℕ
   pub broken : Bool
   pub events : List Event
   pub replies : List Reply
-  pub run : Run (with_history limit (record (opened_machine (bounds_of trees) trees number [] 0) { room = room; faulted = broken })) events replies last
+  pub run : Run (with_history limit (record (opened_machine (bounds_for store.hives) trees number [] 0) { room = room; faulted = broken })) events replies last
 
 -- whatever a crash leaves of these files, with honest first sectors of the store's primary files, is a prefix of a
 -- machine's changes
@@ -52,7 +52,7 @@ ReadsSafely hives state = LeavesHonest (IsPrimaryOf hives) state (seen_in state)
 abbrev pub IsLife : Store → (ℕ → FileState) → Life → Type 0
 IsLife store state (NeverOpened end) = (f : ℕ) → IsSyncedOrSame (state f) (end f)
 IsLife store state (Opened number trees last end) =
-    IsRecovered (seen_in state) store number trees × ReachedFromOpening number trees last × IsSafe store last end × (last.faulted ≡ false → ReadsSafely (length last.opened) end)
+    IsRecovered (seen_in state) store number trees × ReachedFromOpening store number trees last × IsSafe store last end × (last.faulted ≡ false → ReadsSafely (length last.opened) end)
 
 -- The next life begins where a life has ended. After a crash it begins on whatever that left, with honest first
 -- sectors. Without one it begins on the files as they are. If the device failed in the life, what a read gives of them
@@ -64,7 +64,7 @@ IsNext hives life next = ((left : ℕ → List ℕ) × LeavesHonest (IsPrimaryOf
 -- lives, one after another
 abbrev pub AreLives : Store → (ℕ → FileState) → List Life → Type 0
 AreLives store state [] = ⊤
-AreLives store state (life ∷ lives) = IsLife store state life × ((next : ℕ → FileState) × IsNext store.hives life next × AreLives store next lives)
+AreLives store state (life ∷ lives) = IsLife store state life × ((next : ℕ → FileState) × IsNext (all_hives store) life next × AreLives store next lives)
 
 -- An opening continues from a machine: at one of its numbers, not below the durable one, and at the trees after it.
 pub record OpensFrom (machine : Machine) (number : ℕ) (trees : List TreeMap) : Type 0 where

@@ -1,12 +1,12 @@
 -- What holds of an engine's parts.
-use Rattle.std.specs.Prelude.{◌≡◌, ℕ, ◌+◌, ◌-◌, false, Result, Ok, Err, List, length, map, slice_get, Some}
+use Rattle.std.specs.Prelude.{◌≡◌, ◌≤◌, ℕ, ◌+◌, ◌-◌, false, Result, Ok, Err, List, length, map, slice_get, Some}
 use Rattle.reg_tree.specs.declared.element.Element.{Element}
 use Rattle.refusals.specs.declared.refusal.Refusal.{Refusal}
 use Rattle.crash_model.specs.Promises.{Content, top}
 use Rattle.change_codec.specs.ModelChanges.{TimedOp}
 use Rattle.disk_model.specs.declared.progress.Progress.{Progress}
 use Rattle.disk_model.specs.declared.progress.Progress.TheVariants as progress
-use Rattle.commit_journal.specs.Store.{room_of}
+use Rattle.commit_journal.specs.Store.{all_hives, room_of}
 use Rattle.engine_invariant.specs.Answers.{refused_by}
 use Rattle.store_model.specs.Machine.{Machine}
 use Rattle.transactions.specs.Stores.{StoreView}
@@ -24,11 +24,14 @@ use Rattle.engine.specs.LastChangePerHive.{AreLastNaming}
 use Rattle.engine.specs.declared.parts.Parts.{Parts}
 
 -- The store in memory, the journal and the hives of an engine: all of its invariant. Each hive has its number in the
--- store, and no repair left. As long as the store isn't faulted the device has failed in no step.
+-- store, and no repair left. Calls name as many hives as the journal's header says, which is at least one. As long as the
+-- store isn't faulted the device has failed in no step.
 pub record AreSound (store : StoreView) (base : ℕ) (opened : List Element) (journal : Journal) (hives : List HiveFile) : Type 0 where
   pub kept : IsConsistent store.machine base opened (choice_of journal) (map view_of hives)
   pub placed : ArePlaced (store_of journal) hives
-  pub many : length hives ≡ (store_of journal).hives
+  pub many : length hives ≡ all_hives (store_of journal)
+  pub named : store.machine.bounds.hives ≡ (store_of journal).hives
+  pub some : 1 ≤ (store_of journal).hives
   pub whole : (i : ℕ) (hive : HiveFile) → slice_get hives i ≡ Some hive → HiveIsRepaired hive
   pub journal_works : store.machine.faulted ≡ false → ¬ (journals.IsBroken journal)
   pub hives_work : store.machine.faulted ≡ false → (i : ℕ) (hive : HiveFile) → slice_get hives i ≡ Some hive → ¬ (IsBroken hive)

@@ -17,6 +17,8 @@ use Rattle.transactions.specs.Prepared.{change_to_accept}
 use Rattle.transactions.specs.declared.prepared.Prepared.{Prepared}
 use Rattle.transactions.specs.Stores.{machine_code}
 use Rattle.commit_journal.specs.Store.{Store}
+use Rattle.commit_journal.specs.contracts.store_layout.Layout as layout
+use Rattle.commit_journal.specs.declared.store_layout.Layout.{Layout}
 use Rattle.engine_invariant.specs.Engines.{EngineView}
 use Rattle.engine_invariant.specs.States.{HiveView}
 use Rattle.engine_invariant.specs.Progress.{FlushView}
@@ -59,6 +61,9 @@ engine_view clock failures shown = record {
   failures = failures shown.disk;
 }
 
+abbrev pub store_code : Coded Store
+store_code = code_by (List ℕ × (ℕ × Layout)) (coded× (coded_list coded_ℕ) (coded× coded_ℕ layout.the_row.coded)) (λ s. (s.id, (s.hives, s.layout))) (λ p. record { id = p.0; hives = p.1.0; layout = p.1.1 }) (λ _. refl)
+
 abbrev pub held_code : Coded (TreeMap × ℕ)
 held_code = coded× (finite.code (coded_list (coded_list coded_ℕ)) row_code) coded_ℕ
 
@@ -80,7 +85,7 @@ awaiting_code = code_by (Event × Option (Element × List TreeMap)) (coded× eve
 
 abbrev pub shown_code : {D : Type 0} → Coded D → Coded (Shown D)
 shown_code {D = D} code =
-    code_by (Machine × (D × ((List ℕ × ℕ) × (ℕ × (List Element × (Choice (Content TimedOp) × (List HiveView × (ℕ × (List FlushView × Option Awaiting)))))))))
-    (coded× machine_code (coded× code (coded× (coded× (coded_list coded_ℕ) coded_ℕ) (coded× coded_ℕ (coded× (coded_list element.the_row.coded) (coded× (choice_code content_code) (coded× (coded_list hive_code) (coded× coded_ℕ (coded× (coded_list flush_code) (coded_option awaiting_code))))))))))
-    (λ s. (s.machine, (s.disk, ((s.store.id, s.store.hives), (s.base, (s.opened, (s.journal, (s.hives, (s.left, (s.flushes, s.prepared))))))))))
-    (λ p. record { machine = p.0; disk = p.1.0; store = record { id = p.1.1.0.0; hives = p.1.1.0.1 }; base = p.1.1.1.0; opened = p.1.1.1.1.0; journal = p.1.1.1.1.1.0; hives = p.1.1.1.1.1.1.0; left = p.1.1.1.1.1.1.1.0; flushes = p.1.1.1.1.1.1.1.1.0; prepared = p.1.1.1.1.1.1.1.1.1 }) (λ _. refl)
+    code_by (Machine × (D × (Store × (ℕ × (List Element × (Choice (Content TimedOp) × (List HiveView × (ℕ × (List FlushView × Option Awaiting)))))))))
+    (coded× machine_code (coded× code (coded× store_code (coded× coded_ℕ (coded× (coded_list element.the_row.coded) (coded× (choice_code content_code) (coded× (coded_list hive_code) (coded× coded_ℕ (coded× (coded_list flush_code) (coded_option awaiting_code))))))))))
+    (λ s. (s.machine, (s.disk, (s.store, (s.base, (s.opened, (s.journal, (s.hives, (s.left, (s.flushes, s.prepared))))))))))
+    (λ p. record { machine = p.0; disk = p.1.0; store = p.1.1.0; base = p.1.1.1.0; opened = p.1.1.1.1.0; journal = p.1.1.1.1.1.0; hives = p.1.1.1.1.1.1.0; left = p.1.1.1.1.1.1.1.0; flushes = p.1.1.1.1.1.1.1.1.0; prepared = p.1.1.1.1.1.1.1.1.1 }) (λ _. refl)

@@ -1,15 +1,17 @@
 //! The engine as its callers see it: its type keeps the invariant, so no call asks for it.
-ghost use Rattle.std.specs.Prelude.{◌≡◌, ◌⊎◌, ◌↔◌, ◌+◌, ◌<◌, ◌≤◌, ◌^◌, [], ℕ, false, true, IfErr, IfNone, IfOk, IfSome, OnErr, OnOk, None, Some, is_some, length, map, replicate, slice_get};
+ghost use Rattle.std.specs.Prelude.{◌≡◌, ◌⊎◌, ◌↔◌, ◌+◌, ◌<◌, ◌≤◌, ◌^◌, [], ℕ, false, true, IfErr, IfNone, IfOk, IfSome, OnErr, OnOk, None, Some, is_some, length, map, replicate, slice_get, take};
 ghost use Rattle.refusals.specs.declared.refusal.Refusal.TheVariants.{NoMemory};
 ghost use Rattle.refusals.specs.declared.limits.TheConstants.{MOST_HISTORY};
 ghost use Rattle.disk_model.specs.Call.{OneCall};
 ghost use Rattle.disk_model.specs.Crash.{LeavesHonest};
 ghost use Rattle.store_model.specs.Invariant.{IsWithin};
-ghost use Rattle.store_model.specs.Machine.{bounds_of, last_number, opened_machine, trees_now, with_history};
+ghost use Rattle.store_model.specs.Machine as model;
+ghost use Rattle.store_model.specs.Machine.{bounds_for, last_number, opened_machine, trees_now, with_history};
 ghost use Rattle.commit_journal.specs.Store.{room_of};
 ghost use Rattle.engine.specs.EarlierChanges.{changes_before};
 ghost use Rattle.commit_journal.specs.Journals.{changes_of, choice_of};
 ghost use Rattle.commit_journal.specs.Journals as journals;
+ghost use Rattle.recovery.specs.Invariant.{InvariantHolds};
 ghost use Rattle.recovery.specs.Shown.{StoreIsRepaired, store_of};
 ghost use Rattle.engine_invariant.specs.Engines.{EngineAnswers, NeedsNoDevice};
 ghost use Rattle.engine_invariant.specs.Idle.{IsTrimmed};
@@ -21,6 +23,7 @@ ghost use Rattle.recovery.specs.Recovered.{seen_in};
 ghost use Rattle.engine_invariant.specs.Runs.{AnswersInTurn, ReceiptIsDurable, RunsSafely};
 ghost use Rattle.std.specs.List.{AllByRecursion};
 ghost use Rattle.commit_journal.specs.LastChangePerHive.{HasCounted};
+ghost use Rattle.engine.specs.Outcomes.{OutcomesAreKept};
 ghost use Rattle.engine.specs.Shown.{engine_view};
 ghost use Rattle.engine.specs.Work.{AreFlushed, IsNextAround, IsReadable};
 ghost use Rattle.transactions.specs.Prepared.{Predicts, AcceptsJust, change_and_trees};
@@ -29,12 +32,12 @@ ghost use Rattle.std.specs.Option.{option_map};
 use crate::earlier_changes::EarlierChanges;
 use crate::parts::Parts;
 use disk_model::Disk;
-use recovery::{Opened, RecoveredStore};
+use recovery::{Opened, RecoveredStore, named_trees};
 use refusals::Refusal;
 use reg_tree::Trees;
 use std::alloc::{AllocError, Global};
 use std::marker::Model;
-use store_model::{Event, Reply};
+use store_model::{Event, Reply, StoreBounds};
 use transactions::{Next, Prepared, Store};
 
 /// An engine over a disk. Contracts see it as its machine, its disk, and the store that its files are of.
@@ -98,12 +101,13 @@ impl<D: Disk> Model for Engine<D> {
 
 impl<D: Disk> Engine<D> {
     /// An engine that continues from an opened store, of which no repair is left. Its history may have 1,048,576 changes.
+    /// Calls name as many hives as the journal's header says.
     ///
     /// Refused with `NoMemory` alone; the opened store is handed back then.
     pub fn new(alloc: Global, opened: Opened<D>) -> Result<Engine<D>, (Refusal, Opened<D>)>
         requires whole { StoreIsRepaired opened }
         ensures machine { IfOk result (λ engine. engine.machine
-            ≡ record (opened_machine (bounds_of opened.found.trees) opened.found.trees
+            ≡ record (opened_machine (bounds_for (store_of opened).hives) opened.found.trees
             opened.found.number [] 0)
             { room = 65 + room_of (choice_of opened.found.journal).now.elements }) }
         ensures disk { IfOk result (λ engine. engine.disk ≡ opened.disk) }
@@ -149,7 +153,7 @@ impl<D: Disk> Engine<D> {
         requires some { 1 ≤ limit }
         requires most { limit ≤ MOST_HISTORY }
         ensures machine { IfOk result (λ engine. engine.machine ≡ with_history limit
-            (record (opened_machine (bounds_of opened.found.trees) opened.found.trees
+            (record (opened_machine (bounds_for (store_of opened).hives) opened.found.trees
             opened.found.number [] 0)
             { room = 65 + room_of (choice_of opened.found.journal).now.elements })) }
         ensures disk { IfOk result (λ engine. engine.disk ≡ opened.disk) }
@@ -199,7 +203,7 @@ impl<D: Disk> Engine<D> {
     ///
     /// A crash before, within or after it leaves a prefix: at the moment when the event began, of the changes accepted
     /// before it; at the moment when it ended, of those accepted then. A step is idle exactly if there is nothing to
-    /// do.
+    /// do. A store with outcomes keeps those of the last 4,096 units of work that were committed.
     ///
     /// A step of the journal that isn't refused brings what waits nearer to being durable. A trim under way is ended by
     /// the next step of the journal or of a trim that isn't refused. A flush that begins with `p` dirty pages is done
@@ -210,6 +214,7 @@ impl<D: Disk> Engine<D> {
         ensures answers { EngineAnswers event result (engine_view D.clock D.failures self.old)
             (engine_view D.clock D.failures self.new) }
         ensures step { Step self.old.machine event result self.new.machine }
+        ensures outcomes { OutcomesAreKept self.new.machine }
         ensures before { D.faithful self.new.disk → IsSafeAt self.old.store
             (D.state_at self.new.disk) (D.clock self.old.disk) self.old.machine }
         ensures after { D.faithful self.new.disk → IsSafeAt self.old.store
@@ -222,6 +227,7 @@ impl<D: Disk> Engine<D> {
         ensures faithful { D.faithful self.new.disk → D.faithful self.old.disk }
     {
         engine_invariant::laws::crashes_leave_prefixes();
+        store_model::laws::outcomes_are_kept();
         self.prepared = None;
         self.parts.event(event)
     }
@@ -258,6 +264,7 @@ impl<D: Disk> Engine<D> {
             Step self.old.machine awaiting.event result self.new.machine) }
         ensures shown { IfSome self.old.prepared (λ awaiting.
             AcceptsJust awaiting.next self.old.machine self.new.machine) }
+        ensures outcomes { OutcomesAreKept self.new.machine }
         ensures never_no_memory { ¬ (result ≡ reply.Refused NoMemory) }
         ensures same { self.new ≡ record self.old {
           machine = self.new.machine;
@@ -269,6 +276,7 @@ impl<D: Disk> Engine<D> {
             (D.state_at self.new.disk) (D.clock self.new.disk) self.new.machine }
     {
         engine_invariant::laws::crashes_leave_prefixes();
+        store_model::laws::outcomes_are_kept();
         let Some(prepared) = self.prepared.take() else {
             unreachable!();
         };
@@ -287,6 +295,7 @@ impl<D: Disk> Engine<D> {
             (engine_view D.clock D.failures self.new)) }
         ensures run { IfOk result (λ replies.
             Run self.old.machine events.items replies.items self.new.machine) }
+        ensures outcomes { OutcomesAreKept self.new.machine }
         ensures crashes { IfOk result (λ replies. D.faithful self.new.disk →
             RunsSafely (IsSafeAt self.old.store (D.state_at self.new.disk))
             (engine_view D.clock D.failures self.old) events.items replies.items
@@ -299,6 +308,7 @@ impl<D: Disk> Engine<D> {
         ensures faithful { D.faithful self.new.disk → D.faithful self.old.disk }
     {
         engine_invariant::laws::receipts_are_durable();
+        store_model::laws::outcomes_are_kept();
         let replies = self.parts.run(alloc, events)?;
         self.prepared = None;
         Ok(replies)
@@ -348,11 +358,29 @@ impl<D: Disk> Engine<D> {
         let _ = self.parts.store.durable(); // for the prover
     }
 
+    /// How many hives calls may name: the first ones. A store that keeps outcomes has one tree more.
+    pub fn hives(&self) -> u8
+        ensures { result ≡ self.now.machine.bounds.hives }
+    {
+        self.parts.hives()
+    }
+
     /// The trees after all accepted changes.
     pub fn trees(&self) -> &Trees
         ensures { result.now ≡ trees_now self.now.machine }
     {
         self.parts.store.trees()
+    }
+
+    /// The same, of the hives that calls name: the first ones.
+    pub fn named_trees(&self, alloc: Global) -> Result<Trees, AllocError>
+        ensures { IfOk result (λ named. named ≡ model.named_trees self.now.machine) }
+    {
+        named_trees(
+            alloc,
+            self.parts.store.trees(),
+            usize::from(self.parts.hives()),
+        )
     }
 
     /// The number up to which the accepted changes are durable.
@@ -428,11 +456,14 @@ impl<D: Disk> Engine<D> {
 
 // the store in memory of the recovered store
 fn begun(alloc: Global, found: &RecoveredStore) -> Result<Store, AllocError>
+    requires kept { InvariantHolds found.now }
     ensures machine { IfOk result (λ it. it.machine
-        ≡ record (opened_machine (bounds_of found.now.trees) found.now.trees found.now.number [] 0)
+        ≡ record (opened_machine (bounds_for (journals.store_of found.now.journal).hives)
+        found.now.trees found.now.number [] 0)
         { room = 65 + room_of (choice_of found.now.journal).now.elements }) }
     ensures retained { IfOk result (λ it. it.retained ≡ found.now.number) }
 {
     let trees = found.trees.try_clone(alloc)?;
-    Store::new(alloc, trees, found.number, found.journal.used())
+    let bounds = StoreBounds::for_hives(usize::from(found.journal.hives()));
+    Store::within(alloc, bounds, trees, found.number, found.journal.used())
 }

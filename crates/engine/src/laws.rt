@@ -3,8 +3,8 @@ ghost use Rattle.std.specs.Prelude.{◌≡◌, ℕ, ◌≤◌, [], Bool, false, 
 ghost use Rattle.reg_tree.specs.Maps.{TreeMap};
 ghost use Rattle.disk_model.specs.FileState.{FileState};
 ghost use Rattle.disk_model.specs.Crash.{LeavesHonest};
-ghost use Rattle.commit_journal.specs.Store.{Store, IsStore};
-ghost use Rattle.store_model.specs.Machine.{Machine, bounds_of, opened_machine, with_history};
+ghost use Rattle.commit_journal.specs.Store.{Store, IsStore, all_hives};
+ghost use Rattle.store_model.specs.Machine.{Machine, bounds_for, opened_machine, with_history};
 ghost use Rattle.store_model.specs.declared.event.Event.{Event};
 ghost use Rattle.store_model.specs.declared.event.Reply.{Reply};
 ghost use Rattle.engine_invariant.specs.Engines.{EngineView};
@@ -21,8 +21,8 @@ ghost use Rattle.engine.specs.Lives.{AreLives, EachLifeContinues, FirstOpensAt, 
 /// such as of a created store.
 pub fn lives_go_on()
     ensures { (store : Store) (machine : Machine) (state : ℕ → FileState) (lives : List Life) →
-        IsStore store → length machine.opened ≡ store.hives → IsSafe store machine state →
-        ReadsSafely store.hives state → AreLives store state lives → EachLifeContinues machine lives }
+        IsStore store → length machine.opened ≡ all_hives store → IsSafe store machine state →
+        ReadsSafely (all_hives store) state → AreLives store state lives → EachLifeContinues machine lives }
 {
     recovery::laws::one_is_recovered();
 }
@@ -34,7 +34,7 @@ pub fn made_stores_open_as_made()
         ((files : ℕ → List ℕ) → LeavesHonest (IsPrimaryOf (length trees)) state files →
         IsRecovered files store 0 trees) → ReadsSafely (length trees) state →
         AreLives store state lives →
-        FirstOpensAt 0 trees lives × EachLifeContinues (opened_machine (bounds_of trees) trees 0 [] 0) lives }
+        FirstOpensAt 0 trees lives × EachLifeContinues (opened_machine (bounds_for store.hives) trees 0 [] 0) lives }
 {
     recovery::laws::one_is_recovered();
 }
@@ -50,10 +50,10 @@ pub fn made_stores_open_as_made()
 pub fn calls_are_lives()
     ensures repairs { (store : Store) (state end : ℕ → FileState) (number room : ℕ) (failed : Bool)
         (trees : List TreeMap) → IsRecovered (seen_in state) store number trees →
-        ((files : ℕ → List ℕ) → LeavesHonest (IsPrimaryOf store.hives) end files →
-        IsRecovered files store number trees) → (failed ≡ false → ReadsSafely store.hives end) →
+        ((files : ℕ → List ℕ) → LeavesHonest (IsPrimaryOf (all_hives store)) end files →
+        IsRecovered files store number trees) → (failed ≡ false → ReadsSafely (all_hives store) end) →
         IsLife store state (Opened number trees
-        (record (opened_machine (bounds_of trees) trees number [] 0) {
+        (record (opened_machine (bounds_for store.hives) trees number [] 0) {
           room = room;
           faulted = failed;
         }) end) }
@@ -62,7 +62,7 @@ pub fn calls_are_lives()
         (states : ℕ → ℕ → FileState) (moment : ℕ) (events : List Event) (replies : List Reply)
         (old new : EngineView) → IsRecovered (seen_in state) store number trees →
         old.machine ≡ with_history limit
-        (record (opened_machine (bounds_of trees) trees number [] 0) { room = room }) →
+        (record (opened_machine (bounds_for store.hives) trees number [] 0) { room = room }) →
         RunsSafely (IsSafeAt store states) old events replies new →
         old.clock ≤ moment → moment ≤ new.clock → IsBoundary
         (λ at machine. (machine.faulted ≡ false → ReadsSafely (length machine.opened) (states at)) →

@@ -1,5 +1,6 @@
 //! The parts of an engine.
-ghost use Rattle.std.specs.Prelude.{◌≡◌};
+ghost use Rattle.std.specs.Prelude.{◌≡◌, ◌≤◌};
+ghost use Rattle.engine.specs.Parts.{IsSound};
 
 use crate::earlier_changes::EarlierChanges;
 use commit_journal::{Journal, LastChangePerHive};
@@ -32,6 +33,15 @@ pub(crate) struct Parts<D> {
 }
 
 impl<D> Parts<D> {
+    /// How many hives calls may name.
+    pub fn hives(&self) -> u8
+        requires sound { IsSound self.now }
+        ensures named { result ≡ self.now.store.machine.bounds.hives }
+        ensures some { 1 ≤ result }
+    {
+        self.journal.hives()
+    }
+
     /// The disk alone.
     pub fn into_disk(self) -> D
         ensures { result ≡ self.disk }

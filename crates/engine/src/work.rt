@@ -26,7 +26,7 @@ impl<D> Parts<D> {
             (changes_before self.now.earlier) (map view_of self.now.hives.items)
             0 (length (map view_of self.now.hives.items))) }
     {
-        let count = self.journal.hives();
+        let count = self.journal.all_hives();
         let next = place_behind(after, count);
         match self.first_with_work(next, count) {
             Some(hive) => Some(hive),

@@ -9,9 +9,9 @@ use std::alloc::Global;
 use std::sync::Arc;
 use uuid::Uuid;
 
-// the calls of a creation of two hives: a log is cut and synced, a primary file is cut, written, made longer, written
-// and synced, and the journal is cut, written and synced
-const CALLS: u64 = 2 * (2 + 5) + 3;
+// the calls of a creation of two hives and that of outcomes: a log is cut and synced, a primary file is cut, written,
+// made longer, written and synced, and the journal is cut, written and synced
+const CALLS: u64 = 3 * (2 + 5) + 3;
 
 // the answer to a creation whose device fails at a call
 fn failing(alloc: Global, call: u64) -> Result<(), Refusal>

@@ -15,7 +15,7 @@ returns-clause-before g c =
     let p = c.self.inside.parts in
     subst (λ (s : Shown _). g.D.Disk.faithful c.event.new.self.disk → IsSafeAt s.store (g.D.Disk.state_at c.event.new.self.disk) (g.D.Disk.clock s.disk) s.machine) c.self.view_is
     (λ f. c.crashes_leave_prefixes.ensures.past (store_of p.journal) (g.D.Disk.state_at p.disk) (g.D.Disk.state_at c.event.new.self.disk) (g.D.Disk.clock p.disk) c.event.ensures.continues.call.past (g.D.Disk.clock p.disk) p.store.machine (omega arith)
-    (c.crashes_leave_prefixes.ensures.safe (store_of p.journal) p.store.machine p.base (changes_before p.earlier) p.journal p.hives.items (g.D.Disk.state_at p.disk) (g.D.Disk.clock p.disk) c.self.invariant.sound.holds.kept refl c.self.invariant.sound.holds.placed (c.self.invariant.on_disk (c.event.ensures.continues.faithful f))))
+    (c.crashes_leave_prefixes.ensures.safe (store_of p.journal) p.store.machine p.base (changes_before p.earlier) p.journal p.hives.items (g.D.Disk.state_at p.disk) (g.D.Disk.clock p.disk) c.self.invariant.sound.holds.kept refl c.self.invariant.sound.holds.named c.self.invariant.sound.holds.placed (c.self.invariant.on_disk (c.event.ensures.continues.faithful f))))
 
 pub returns-clause-after : goal.returns-clause-after
 returns-clause-after g c =
@@ -23,7 +23,7 @@ returns-clause-after g c =
     let n = c.event.new.self in
     subst (λ (s : Shown _). g.D.Disk.faithful n.disk → IsSafeAt s.store (g.D.Disk.state_at n.disk) (g.D.Disk.clock n.disk) n.store.machine) c.self.view_is
     (λ f. subst (λ (s : Store). IsSafeAt s (g.D.Disk.state_at n.disk) (g.D.Disk.clock n.disk) n.store.machine) c.event.ensures.continues.store
-    (c.crashes_leave_prefixes.ensures.safe (store_of n.journal) n.store.machine n.base (changes_before n.earlier) n.journal n.hives.items (g.D.Disk.state_at n.disk) (g.D.Disk.clock n.disk) c.event.ensures.continues.sound.holds.kept refl c.event.ensures.continues.sound.holds.placed
+    (c.crashes_leave_prefixes.ensures.safe (store_of n.journal) n.store.machine n.base (changes_before n.earlier) n.journal n.hives.items (g.D.Disk.state_at n.disk) (g.D.Disk.clock n.disk) c.event.ensures.continues.sound.holds.kept refl c.event.ensures.continues.sound.holds.named c.event.ensures.continues.sound.holds.placed
     (c.event.ensures.continues.on_disk f (c.self.invariant.on_disk (c.event.ensures.continues.faithful f)))))
 
 pub returns-clause-answers : goal.returns-clause-answers
@@ -40,3 +40,6 @@ returns-clause-quiet g c = subst (λ (s : Shown _). NeedsNoDevice c.args.event c
 
 pub returns-clause-step : goal.returns-clause-step
 returns-clause-step g c = subst (λ (s : Shown _). Step s.machine c.args.event c.event.result c.event.new.self.store.machine) c.self.view_is c.event.ensures.continues.step
+
+pub returns-clause-outcomes : goal.returns-clause-outcomes
+returns-clause-outcomes g c = λ has before had up. c.outcomes_are_kept.ensures.now c.event.new.self.store.machine before c.event.ensures.continues.sound.holds.kept.kept has had up

@@ -6,12 +6,14 @@ use Rattle.engine.specs.EarlierChanges.{changes_before}
 use Rattle.hive_flush.specs.HiveStates.{file_choice}
 use Rattle.hive_flush.specs.declared.hive.HiveFile.{HiveFile}
 use Rattle.std.proofs.lemmas.Option.{slice_get_within}
-use Rattle.commit_journal.specs.Journals.{changes_of, choice_of}
-use Rattle.store_model.specs.Machine.{Machine, bounds_of}
+use Rattle.commit_journal.specs.Journals.{changes_of, choice_of, store_of}
+use Rattle.store_model.specs.Machine.{Machine, bounds_for}
 use Rattle.engine_invariant.specs.Openings.{held_if}
 use Rattle.engine_invariant.specs.States.{HiveView, IsConsistent}
 use Rattle.engine_invariant.specs.Prefixes.{view_of}
 use Rattle.engine_invariant.proofs.HiveLists.{view_at}
+use Rattle.std.proofs.lemmas.List.{length-map}
+use Rattle.commit_journal.proofs.StoreHives.{most_hives}
 use Rattle.recovery.specs.Invariant.{AreWhole}
 use Rattle.recovery.specs.Retained.{numbered_changes}
 use Rattle.recovery.specs.declared.found.RecoveredStore.{RecoveredStore}
@@ -28,7 +30,8 @@ invariant_of-result g c =
     let e = c.into_parts-disk.ensures in
     let told = c.in-Ok.ensures.machine in
     let all = changes_of f.journal in
-    let kept = subst (λ (m : Machine). IsConsistent m f.base all (choice_of f.journal) (map view_of f.hives.items)) (sym told) (c.openings_begin.ensures (bounds_of f.trees) f.trees f.number 0 f.base all (choice_of f.journal) (map view_of f.hives.items) e.kept.recovers) in
+    let kept = subst (λ (m : Machine). IsConsistent m f.base all (choice_of f.journal) (map view_of f.hives.items)) (sym told) (c.openings_begin.ensures (bounds_for (store_of f.journal).hives) f.trees f.number 0 f.base all (choice_of f.journal) (map view_of f.hives.items) e.kept.recovers
+    (let most = most_hives (store_of f.journal).layout (store_of f.journal).hives in let long = length-map f.hives.items view_of in omega (arith, e.kept.recovers.all, long, e.kept.many, most)) e.kept.outcomes) in
     let decoded : changes_before c.of-earlier.result ≡ all = c.of-earlier.ensures in
     let store = c.in-Ok.store in
     let below : (i : ℕ) (hive : HiveFile) → slice_get f.hives.items i ≡ Some hive → (file_choice hive).now.1 ≤ store.machine.before = (λ i hive is.
@@ -41,7 +44,9 @@ invariant_of-result g c =
         holds = subst (λ (l : List Element). AreSound store f.base l f.journal f.hives.items) (sym decoded) (record {
           kept = kept;
           placed = e.kept.placed;
+          some = e.kept.store.some_hives;
           many = e.kept.many;
+          named = ap (λ (m : Machine). m.bounds.hives) told;
           whole = subst (λ (x : RecoveredStore). AreWhole x.hives.items) (sym e.found) c.requires.whole.0;
           journal_works = λ _. e.kept.works;
           hives_work = λ _. e.works c.requires.whole.1;

@@ -31,7 +31,7 @@ returns-clause-prefix g c =
     let state = g.D.Disk.state_at p.disk (g.D.Disk.clock p.disk) in
     let holds = c.self.invariant.sound.holds in
     subst (λ (s : Shown _). g.D.Disk.faithful s.disk → IsReadable s.machine s.hives → IsPrefix s.store s.machine (seen_in (g.D.Disk.state_at s.disk (g.D.Disk.clock s.disk)))) c.self.view_is
-    (λ f may. c.crashes_leave_prefixes.ensures.safe (store_of p.journal) m p.base (changes_before p.earlier) p.journal p.hives.items (g.D.Disk.state_at p.disk) (g.D.Disk.clock p.disk) holds.kept refl holds.placed (c.self.invariant.on_disk f) (seen_in state)
+    (λ f may. c.crashes_leave_prefixes.ensures.safe (store_of p.journal) m p.base (changes_before p.earlier) p.journal p.hives.items (g.D.Disk.state_at p.disk) (g.D.Disk.clock p.disk) holds.kept refl holds.named holds.placed (c.self.invariant.on_disk f) (seen_in state)
     (subst (λ n. LeavesHonest (IsPrimaryOf n) state (seen_in state)) (sym (length-map p.hives.items view_of) ∙ holds.kept.all)
     (reads_honest c.reads_are_honest.ensures state p.journal p.hives.items (λ file. g.met.D.Disk.sound p.disk (g.D.Disk.clock p.disk) file f (omega arith)) (c.self.invariant.on_disk f) holds.whole
     (λ i hive is. elim (may) [ inl works ↦ inl (holds.hives_work works i hive is) | inr rests ↦ inr (rests i (view_of hive) (view_at p.hives.items i hive is)) ]))))
@@ -44,7 +44,7 @@ returns-clause-quiet g c =
     let holds = c.self.invariant.sound.holds in
     subst (λ (s : Shown _). g.D.Disk.faithful s.disk → IsReadable s.machine s.hives → ¬ (HasPending s.machine) → Recover s.store (length s.machine.opened) (seen_in (g.D.Disk.state_at s.disk (g.D.Disk.clock s.disk))) (last_number s.machine) (trees_now s.machine)) c.self.view_is
     (λ f may none. c.quiet_ends_recover.ensures.read (store_of p.journal) m (seen_in state)
-    (c.crashes_leave_prefixes.ensures.safe (store_of p.journal) m p.base (changes_before p.earlier) p.journal p.hives.items (g.D.Disk.state_at p.disk) (g.D.Disk.clock p.disk) holds.kept refl holds.placed (c.self.invariant.on_disk f) (seen_in state)
+    (c.crashes_leave_prefixes.ensures.safe (store_of p.journal) m p.base (changes_before p.earlier) p.journal p.hives.items (g.D.Disk.state_at p.disk) (g.D.Disk.clock p.disk) holds.kept refl holds.named holds.placed (c.self.invariant.on_disk f) (seen_in state)
     (subst (λ n. LeavesHonest (IsPrimaryOf n) state (seen_in state)) (sym (length-map p.hives.items view_of) ∙ holds.kept.all)
     (reads_honest c.reads_are_honest.ensures state p.journal p.hives.items (λ file. g.met.D.Disk.sound p.disk (g.D.Disk.clock p.disk) file f (omega arith)) (c.self.invariant.on_disk f) holds.whole
     (λ i hive is. elim (may) [ inl works ↦ inl (holds.hives_work works i hive is) | inr rests ↦ inr (rests i (view_of hive) (view_at p.hives.items i hive is)) ]))))

@@ -1,7 +1,7 @@
 use Rattle.std.proofs.Common.{◌++◌, ◌∙◌, List, map, refl, sym, ap, subst, arith}
 use Rattle.refusals.specs.declared.refusal.Refusal.TheVariants.{Faulted}
 use Rattle.reg_tree.specs.declared.element.Element.{Element}
-use Rattle.store_model.specs.Machine.{refused_if}
+use Rattle.store_model.specs.Machine.{Machine, refused_if}
 use Rattle.store_model.specs.Steps.{Step}
 use Rattle.store_model.specs.declared.event.Event.TheVariants as event
 use Rattle.store_model.specs.declared.event.Reply.TheVariants as reply
@@ -40,7 +40,9 @@ returns-clause-continues g c =
         holds = subst (λ (l : List Element). AreSound t s.base l s.journal s.hives.items) (sym earlier) (record {
           kept = c.folds_keep.ensures m t.machine number s.base opened (choice_of s.journal) (map view_of s.hives.items) sound.holds.kept step;
           placed = sound.holds.placed;
+          some = sound.holds.some;
           many = sound.holds.many;
+          named = ap (λ (m : Machine). m.bounds.hives) next ∙ sound.holds.named;
           whole = sound.holds.whole;
           journal_works = λ free. sound.holds.journal_works c.requires.works;
           hives_work = λ free. sound.holds.hives_work c.requires.works;

@@ -25,7 +25,7 @@ loop-event-init g c = let s = c.args.self.now in record {
   store = refl;
   run = subst (λ (l : List Reply). Run s.store.machine [] l s.store.machine) (sym c.in_ok-replies.ensures.items) refl;
   safely = λ f. subst (λ (l : List Reply). RunsSafely (IsSafeAt (store_of s.journal) (g.D.Disk.state_at s.disk)) (parts_view g.D.Disk.clock g.D.Disk.failures s) [] l (parts_view g.D.Disk.clock g.D.Disk.failures s)) (sym c.in_ok-replies.ensures.items)
-      (refl, c.crashes_leave_prefixes.ensures.safe (store_of s.journal) s.store.machine s.base (changes_before s.earlier) s.journal s.hives.items (g.D.Disk.state_at s.disk) (g.D.Disk.clock s.disk) c.requires.sound.holds.kept refl c.requires.sound.holds.placed (c.requires.on_disk f));
+      (refl, c.crashes_leave_prefixes.ensures.safe (store_of s.journal) s.store.machine s.base (changes_before s.earlier) s.journal s.hives.items (g.D.Disk.state_at s.disk) (g.D.Disk.clock s.disk) c.requires.sound.holds.kept refl c.requires.sound.holds.named c.requires.sound.holds.placed (c.requires.on_disk f));
   answers = subst (λ (l : List Reply). AnswersInTurn (parts_view g.D.Disk.clock g.D.Disk.failures s) [] l (parts_view g.D.Disk.clock g.D.Disk.failures s)) (sym c.in_ok-replies.ensures.items) (refl, tt);
   faithful = λ f. f;
   parts = c.into_iter-event-iterator.ensures.into_iter_gives.0;
@@ -44,7 +44,7 @@ loop-event-preserved g c = let l = c.loop-event in let i = l.invariant in let e 
           (c.safe_runs_go_on.ensures.continues (store_of c.args.self.now.journal) (g.D.Disk.state_at l.self.disk) (g.D.Disk.state_at n.disk) (parts_view g.D.Disk.clock g.D.Disk.failures c.args.self.now) (parts_view g.D.Disk.clock g.D.Disk.failures l.self) (parts_view g.D.Disk.clock g.D.Disk.failures n)
           l.yielded l.replies.items c.in-Some.event c.event-reply.result (i.safely (e.faithful f)) e.call.past told
           (subst (λ (s : Store). IsSafeAt s (g.D.Disk.state_at n.disk) (g.D.Disk.clock n.disk) n.store.machine) (e.store ∙ i.store)
-          (c.crashes_leave_prefixes.ensures.safe (store_of n.journal) n.store.machine n.base (changes_before n.earlier) n.journal n.hives.items (g.D.Disk.state_at n.disk) (g.D.Disk.clock n.disk) e.sound.holds.kept refl e.sound.holds.placed (e.on_disk f (i.on_disk (e.faithful f))))));
+          (c.crashes_leave_prefixes.ensures.safe (store_of n.journal) n.store.machine n.base (changes_before n.earlier) n.journal n.hives.items (g.D.Disk.state_at n.disk) (g.D.Disk.clock n.disk) e.sound.holds.kept refl e.sound.holds.named e.sound.holds.placed (e.on_disk f (i.on_disk (e.faithful f))))));
       answers = subst (λ (x : List Reply). AnswersInTurn (parts_view g.D.Disk.clock g.D.Disk.failures c.args.self.now) (l.yielded ++ c.in-Some.event ∷ []) x (parts_view g.D.Disk.clock g.D.Disk.failures n)) (sym c.push_reserved.ensures.items)
           (c.safe_runs_go_on.ensures.answers (parts_view g.D.Disk.clock g.D.Disk.failures c.args.self.now) (parts_view g.D.Disk.clock g.D.Disk.failures l.self) (parts_view g.D.Disk.clock g.D.Disk.failures n) l.yielded l.replies.items c.in-Some.event c.event-reply.result i.answers told);
       faithful = λ f. i.faithful (e.faithful f);
