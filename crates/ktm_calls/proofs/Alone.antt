@@ -14,15 +14,15 @@ use Rattle.ktm_calls.specs.declared.registry.Denied.{Denied}
 use Rattle.ktm_calls.specs.declared.registry.Denied.TheVariants as denied
 use Rattle.ktm_calls.proofs.Answering.{write_stands}
 
-module _ (trees : List TreeMap) (number : ℕ) (was is : List Element) (session moment : ℕ) (op : Op) where
-  pub alone_stands : (r : Result Told Denied) → IfOk r (λ t. Tells trees number was is (event.Write session moment op) t) → IfOk r (λ t. WriteStands trees number is moment op t.reply)
-  alone_stands (Ok t) h = write_stands trees number was is session moment op t.reply h.answered
+module _ (trees : List TreeMap) (number hives : ℕ) (was is : List Element) (session moment : ℕ) (op : Op) where
+  pub alone_stands : (r : Result Told Denied) → IfOk r (λ t. Tells trees number hives was is (event.Write session moment op) t) → IfOk r (λ t. WriteStands trees number hives is moment op t.reply)
+  alone_stands (Ok t) h = write_stands trees number hives was is session moment op t.reply h.answered
   alone_stands (Err e) h = tt
 
-  denied_alone : (why : Denied) → IsDenied trees number was is (event.Write session moment op) why → IsDeniedAlone trees number is None moment op why
+  denied_alone : (why : Denied) → IsDenied trees number hives was is (event.Write session moment op) why → IsDeniedAlone trees number hives is None moment op why
   denied_alone denied.NoMemory d = tt
-  denied_alone (denied.Told t) d = write_stands trees number was is session moment op t.reply d.0.answered
+  denied_alone (denied.Told t) d = write_stands trees number hives was is session moment op t.reply d.0.answered
 
-  pub alone_denied : (r : Result Told Denied) → IfErr r (IsDenied trees number was is (event.Write session moment op)) → IfErr r (IsDeniedAlone trees number is None moment op)
+  pub alone_denied : (r : Result Told Denied) → IfErr r (IsDenied trees number hives was is (event.Write session moment op)) → IfErr r (IsDeniedAlone trees number hives is None moment op)
   alone_denied (Ok t) h = tt
   alone_denied (Err e) h = denied_alone e h

@@ -15,7 +15,7 @@ use Rattle.reg_tree.specs.declared.op.Op.{Op}
 use Rattle.reg_tree.specs.declared.op.Legality.{Legality}
 use Rattle.reg_tree.specs.declared.op.Legality.TheVariants.{Legal, Opened}
 use Rattle.store_model.specs.Transactions.{Transaction}
-use Rattle.store_model.specs.Machine.{Machine, change, commit_change, first_of, last_number, refused_if, refusal_by, room_of, trees_now, write_refusal}
+use Rattle.store_model.specs.Machine.{Machine, change, commit_change, next_commit, first_of, last_number, refused_if, refusal_by, room_of, trees_now, write_refusal}
 use Rattle.store_model.specs.declared.handle.Tx.{Tx}
 use Rattle.store_model.specs.declared.event.Event.TheVariants as event
 use Rattle.store_model.specs.declared.event.Reply.{Reply}
@@ -58,37 +58,37 @@ at_least : (hives hive : ℕ) → nat_le hives hive ≡ true → hives ≤ hive
 at_least hives hive e = grind (arith, nat_tests)
 
 -- a refused write names an operation that is illegal on the trees of now
-refused : (old : Machine) (trees : List TreeMap) (session moment : ℕ) (op : Op) (why : Refusal) → old.bounds.hives ≡ length trees
-    → ((write_refusal old session moment op ≡ Some why) ⊎ (why ≡ NoMemory)) → is_of_operation why ≡ true → IsIllegal trees (trees_now old) op why
-refused old trees s m op why hives (inl e) q =
+refused : (old : Machine) (hives session moment : ℕ) (op : Op) (why : Refusal) → old.bounds.hives ≡ hives
+    → ((write_refusal old session moment op ≡ Some why) ⊎ (why ≡ NoMemory)) → is_of_operation why ≡ true → IsIllegal hives (trees_now old) op why
+refused old named s m op why hives (inl e) q =
     elim (illegal old.faulted _ _ _ _ (legal (trees_now old) op) why e q) [ inl l ↦ inl l | inr r ↦ inr (r.0, rw (sym hives) (at_least old.bounds.hives (hive_of op) r.1)) ]
-refused old trees s m op why hives (inr e) q = absurd (true≢false (sym q ∙ ap is_of_operation e))
+refused old named s m op why hives (inr e) q = absurd (true≢false (sym q ∙ ap is_of_operation e))
 
-pub write_stands : (trees : List TreeMap) (number : ℕ) (was is : List Element) (session moment : ℕ) (op : Op) (r : Reply)
-    → IsAnswered trees number was is (event.Write session moment op) r → WriteStands trees number is moment op r
-write_stands trees number was is s m op r h =
-    accepted_or (λ r. WriteStands trees number is m op r) _ _ _ r h.step
+pub write_stands : (trees : List TreeMap) (number hives : ℕ) (was is : List Element) (session moment : ℕ) (op : Op) (r : Reply)
+    → IsAnswered trees number hives was is (event.Write session moment op) r → WriteStands trees number hives is moment op r
+write_stands trees number hives was is s m op r h =
+    accepted_or (λ r. WriteStands trees number hives is m op r) _ _ _ r h.step
     (λ levels n d. stands h.old (change m op) number n is d.numbered (sym (ap (λ (x : Machine). x.before) d.next) ∙ h.owner.before) (sym (ap (λ (x : Machine). x.accepted) d.next) ∙ h.list))
     (λ d. let ho : h.old.opened ≡ trees = sym (ap (λ (x : Machine). x.opened) d.next) ∙ h.owner.opened in
     let hl : h.old.accepted ≡ is = sym (ap (λ (x : Machine). x.accepted) d.next) ∙ h.list in
     rw (sym ho, sym hl) d.is_there)
     (λ why d of_op. let ho : h.old.opened ≡ trees = sym (ap (λ (x : Machine). x.opened) d.1) ∙ h.owner.opened in
     let hl : h.old.accepted ≡ is = sym (ap (λ (x : Machine). x.accepted) d.1) ∙ h.list in
-    let hh : h.old.bounds.hives ≡ length trees = sym (ap (λ (x : Machine). x.bounds.hives) d.1) ∙ h.owner.hives in
-    let found : IsIllegal trees (trees_now h.old) op why = refused h.old trees s m op why hh d.0 of_op in
-    subst (λ (t : List TreeMap). IsIllegal trees t op why) (ap (λ (t : List TreeMap). after_elements t h.old.accepted) ho ∙ ap (λ (l : List Element). after_elements trees l) hl) found)
+    let hh : h.old.bounds.hives ≡ hives = sym (ap (λ (x : Machine). x.bounds.hives) d.1) ∙ h.owner.hives in
+    let found : IsIllegal hives (trees_now h.old) op why = refused h.old hives s m op why hh d.0 of_op in
+    subst (λ (t : List TreeMap). IsIllegal hives t op why) (ap (λ (t : List TreeMap). after_elements t h.old.accepted) ho ∙ ap (λ (l : List Element). after_elements trees l) hl) found)
 
 -- a commit without operations has number 0; another is after all that were there
 commit_at : (t : Bool) (old new : Machine) (moment : ℕ) (one : Transaction) (before n : ℕ) (list : List Element) → n ≡ cond t 0 (last_number old + 1)
-    → new ≡ record (cond t old (record old { accepted = old.accepted ++ commit_change old moment one ∷ []; room = old.room + room_of (commit_change old moment one) })) { tx_slots = new.tx_slots }
+    → new ≡ record (cond t old (record old { accepted = old.accepted ++ commit_change old moment one ∷ []; commits = old.commits ++ next_commit old one ∷ []; room = old.room + room_of (commit_change old moment one) })) { tx_slots = new.tx_slots }
     → new.before ≡ before → new.accepted ≡ list → 0 < n → HasMoment before list n moment
 commit_at true old new m one before n list num next b l some = absurd (omega arith)
 commit_at false old new m one before n list num next b l some =
     (commit_change old m one, stands old (commit_change old m one) before n list num (sym (ap (λ (x : Machine). x.before) next) ∙ b) (sym (ap (λ (x : Machine). x.accepted) next) ∙ l), refl)
 
-pub commit_stands : (trees : List TreeMap) (number : ℕ) (was is : List Element) (session : ℕ) (tx : Tx) (moment : ℕ) (r : Reply)
-    → IsAnswered trees number was is (event.CommitAccept session tx moment) r → CommitStands number is moment r
-commit_stands trees number was is s tx m r h =
+pub commit_stands : (trees : List TreeMap) (number hives : ℕ) (was is : List Element) (session : ℕ) (tx : Tx) (moment : ℕ) (r : Reply)
+    → IsAnswered trees number hives was is (event.CommitAccept session tx moment) r → CommitStands number is moment r
+commit_stands trees number hives was is s tx m r h =
     awaits_or (λ r. CommitStands number is m r) _ _ r h.step
     (λ n d. commit_at (length d.one.ops == 0) h.old h.new m d.one number n is d.numbered d.next h.owner.before h.list)
     (λ why d. tt)
@@ -99,8 +99,8 @@ commit_stays before xs ys moment (reply.Awaits number) p h = λ some. let k = h 
 commit_stays before xs ys moment (reply.Refused why) p h = tt
 commit_stays before xs ys moment _ p h = absurd h
 
-pub flushes_all : (trees : List TreeMap) (number : ℕ) (was is : List Element) (r : Reply) → IsAnswered trees number was is event.FlushAsk r → FlushesAll (number + length was) r
-flushes_all trees number was is r h =
+pub flushes_all : (trees : List TreeMap) (number hives : ℕ) (was is : List Element) (r : Reply) → IsAnswered trees number hives was is event.FlushAsk r → FlushesAll (number + length was) r
+flushes_all trees number hives was is r h =
     awaits_or (λ r. FlushesAll (number + length was) r) _ _ r h.step
     (λ n d. let less : length was ≤ length h.old.accepted = prefix_length was h.old.accepted h.seen in
     let before : h.old.before ≡ number = sym (ap (λ (x : Machine). x.before) d.2) ∙ h.owner.before in

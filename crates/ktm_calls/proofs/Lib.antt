@@ -4,4 +4,5 @@ pub mod Shapes
 pub mod Working
 pub mod Coming
 pub mod Alone
+pub mod Outcomes
 pub mod OpenSessions

@@ -6,14 +6,13 @@ use Rattle.std.proofs.lemmas.List.Elements.{All-filter, All-head, All-push, All-
 use Rattle.refusals.specs.declared.refusal.Refusal.{Refusal}
 use Rattle.refusals.specs.declared.refusal.Refusal.TheVariants.{NoSuchHandle}
 use Rattle.reg_tree.specs.Maps.{TreeMap}
-use Rattle.store_model.specs.Machine.{Machine, commit_change, is_open, refused_if, room_of}
+use Rattle.store_model.specs.Machine.{Machine, commit_change, next_commit, is_open, refused_if, room_of}
 use Rattle.store_model.specs.Steps.{Step, StepFails, may_accept}
 use Rattle.store_model.specs.declared.bounds.StoreBounds.{StoreBounds}
 use Rattle.store_model.specs.declared.event.Event.{Event}
 use Rattle.store_model.specs.declared.event.Event.TheVariants as event
 use Rattle.store_model.specs.declared.event.Reply.{Reply}
-use Rattle.store_model.specs.declared.event.Reply.TheVariants as reply
-use Rattle.store_model.proofs.Replies.{done_or, read_or, accepted_or, added_or, begun_or, awaits_or, outcome_or, receipt_or, folded_or, stepped_or}
+use Rattle.store_model.proofs.Replies.{done_or, read_or, accepted_or, added_or, begun_or, awaits_or, outcome_or, committed_as_or, receipt_or, folded_or, stepped_or}
 use Rattle.ktm_calls.specs.Moments.{IsOf}
 use Rattle.ktm_calls.specs.OpenSessions.{AreBelow, OpensBelow}
 
@@ -60,11 +59,12 @@ module _ (bound : ℕ) (old new : Machine) (k : AreBelow bound old) where
   still_below (event.CommitAccept session tx moment) r l s =
       awaits_or (λ r. AreBelow bound new) _ _ r s
       (λ n d. stay (ap (λ (m : Machine). m.sessions) d.next
-      ∙ kept (length d.one.ops == 0) (record old { accepted = old.accepted ++ commit_change old moment d.one ∷ []; room = old.room + room_of (commit_change old moment d.one) }) refl))
+      ∙ kept (length d.one.ops == 0) (record old { accepted = old.accepted ++ commit_change old moment d.one ∷ []; commits = old.commits ++ next_commit old d.one ∷ []; room = old.room + room_of (commit_change old moment d.one) }) refl))
       (λ why f. same f.1)
   still_below (event.Rollback session tx) r l s = done_or (λ r. AreBelow bound new) _ _ r s (λ d. stay (ap (λ (m : Machine). m.sessions) d.1)) (λ why f. same f.1)
   still_below (event.Close session tx) r l s = done_or (λ r. AreBelow bound new) _ _ r s (λ d. stay (ap (λ (m : Machine). m.sessions) d.1)) (λ why f. same f.1)
   still_below (event.Outcome session tx) r l s = outcome_or (λ r. AreBelow bound new) _ _ r s (λ o d. same d.next) (λ why f. same f.1)
+  still_below (event.OutcomeOf id) r l s = committed_as_or (λ r. AreBelow bound new) _ _ r s (λ n d. same d.next) (λ why f. same f.1)
   still_below event.FlushAsk r l s = awaits_or (λ r. AreBelow bound new) _ _ r s (λ n d. same d.2) (λ why f. same f.1)
   still_below (event.Acked number) r l s = receipt_or (λ r. AreBelow bound new) _ _ _ r s (λ n d. same d.2) (λ w. same w.2) (λ why f. same f.1.1)
   still_below event.Fold r l s = folded_or (λ r. AreBelow bound new) _ _ _ r s (λ n d. stay (ap (λ (m : Machine). m.sessions) d.next)) (λ w. same w.2) (λ why f. same f.1)
@@ -113,9 +113,9 @@ none_left bound number [] le below from = refl
 none_left bound number (s ∷ ss) le below from = absurd (omega (arith, le, All-head (λ s. s < bound) s ss below, All-head (λ s. number ≤ s) s ss from))
 
 -- a step that leaves the opening and the bounds leaves whose store it is
-pub still_of : (trees : List TreeMap) (number : ℕ) (old new : Machine) → IsOf trees number old
-    → (new.opened ≡ old.opened) × (new.before ≡ old.before) → new.bounds ≡ old.bounds → IsOf trees number new
-still_of trees number old new was stay bounds = record {
+pub still_of : (trees : List TreeMap) (number hives : ℕ) (old new : Machine) → IsOf trees number hives old
+    → (new.opened ≡ old.opened) × (new.before ≡ old.before) → new.bounds ≡ old.bounds → IsOf trees number hives new
+still_of trees number hives old new was stay bounds = record {
   opened = stay.0 ∙ was.opened;
   before = stay.1 ∙ was.before;
   hives = ap (λ (b : StoreBounds). b.hives) bounds ∙ was.hives;

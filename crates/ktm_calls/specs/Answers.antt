@@ -1,5 +1,5 @@
 -- What answers say of the list that a session has seen then.
-use Rattle.std.specs.Prelude.{◌≡◌, ℕ, ◌-◌, ◌<◌, ◌≤◌, ◌⊎◌, Bool, true, false, List, Ok, Err, Some, length, slice_get, ⊤}
+use Rattle.std.specs.Prelude.{◌≡◌, ℕ, ◌-◌, ◌<◌, ◌≤◌, ◌⊎◌, Bool, true, false, List, Ok, Err, Some, slice_get, ⊤}
 use Rattle.refusals.specs.declared.refusal.Refusal.{Refusal}
 use Rattle.refusals.specs.declared.refusal.Refusal.TheVariants as refusal
 use Rattle.reg_tree.specs.Maps.{TreeMap}
@@ -26,17 +26,17 @@ is_of_operation refusal.HistoryFull = false
 is_of_operation refusal.JournalFull = false
 is_of_operation _ = true
 
--- the operation is refused so on these trees, or names a hive that isn't there
-abbrev pub IsIllegal : List TreeMap → List TreeMap → Op → Refusal → Type 0
-IsIllegal trees now op why = (legal now op ≡ Err why) ⊎ ((why ≡ refusal.NotFound) × (length trees ≤ hive_of op))
+-- the operation is refused so on these trees, or names none of the first `hives` hives
+abbrev pub IsIllegal : ℕ → List TreeMap → Op → Refusal → Type 0
+IsIllegal hives now op why = (legal now op ≡ Err why) ⊎ ((why ≡ refusal.NotFound) × (hives ≤ hive_of op))
 
 -- An accepted write is at its number in the list. One that opened a key, or was refused as an operation, is so on the
--- trees after the list.
-abbrev pub WriteStands : List TreeMap → ℕ → List Element → ℕ → Op → Reply → Type 0
-WriteStands trees before list moment op (reply.Accepted levels number) = IsAt before list number (change moment op)
-WriteStands trees before list moment op reply.Opened = legal (after_elements trees list) op ≡ Ok Opened
-WriteStands trees before list moment op (reply.Refused why) = is_of_operation why ≡ true → IsIllegal trees (after_elements trees list) op why
-WriteStands trees before list moment op _ = ⊥
+-- trees after the list. Calls may name `hives` hives.
+abbrev pub WriteStands : List TreeMap → ℕ → ℕ → List Element → ℕ → Op → Reply → Type 0
+WriteStands trees before hives list moment op (reply.Accepted levels number) = IsAt before list number (change moment op)
+WriteStands trees before hives list moment op reply.Opened = legal (after_elements trees list) op ≡ Ok Opened
+WriteStands trees before hives list moment op (reply.Refused why) = is_of_operation why ≡ true → IsIllegal hives (after_elements trees list) op why
+WriteStands trees before hives list moment op _ = ⊥
 
 -- at this number is a change of this moment
 abbrev pub HasMoment : ℕ → List Element → ℕ → ℕ → Type 0

@@ -25,11 +25,11 @@ Disposes Opened answer = answer ≡ reply.Opened
 Disposes Created answer = ¬ (answer ≡ reply.Opened)
 
 -- a write by itself is in the list, or refused on the trees after it
-abbrev pub StandsAlone : List TreeMap → ℕ → List Element → Option Tx → ℕ → Op → Reply → Type 0
-StandsAlone trees before list None moment op answer = WriteStands trees before list moment op answer
-StandsAlone trees before list (Some tx) moment op answer = ⊤
+abbrev pub StandsAlone : List TreeMap → ℕ → ℕ → List Element → Option Tx → ℕ → Op → Reply → Type 0
+StandsAlone trees before hives list None moment op answer = WriteStands trees before hives list moment op answer
+StandsAlone trees before hives list (Some tx) moment op answer = ⊤
 
 -- the same of a refusal
-abbrev pub IsDeniedAlone : List TreeMap → ℕ → List Element → Option Tx → ℕ → Op → Denied → Type 0
-IsDeniedAlone trees before list tx moment op denied.NoMemory = ⊤
-IsDeniedAlone trees before list tx moment op (denied.Told told) = StandsAlone trees before list tx moment op told.reply
+abbrev pub IsDeniedAlone : List TreeMap → ℕ → ℕ → List Element → Option Tx → ℕ → Op → Denied → Type 0
+IsDeniedAlone trees before hives list tx moment op denied.NoMemory = ⊤
+IsDeniedAlone trees before hives list tx moment op (denied.Told told) = StandsAlone trees before hives list tx moment op told.reply

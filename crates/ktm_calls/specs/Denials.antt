@@ -32,23 +32,23 @@ Denies told denied.NoMemory = ⊥
 Denies told (denied.Told same) = (same ≡ told) × IsRefusal told.reply
 
 -- there was no memory; or this event was refused
-abbrev pub IsDenied : List TreeMap → ℕ → List Element → List Element → Event → Denied → Type 0
-IsDenied trees number was is event denied.NoMemory = ⊤
-IsDenied trees number was is event (denied.Told told) = Tells trees number was is event told × IsRefusal told.reply
+abbrev pub IsDenied : List TreeMap → ℕ → ℕ → List Element → List Element → Event → Denied → Type 0
+IsDenied trees number hives was is event denied.NoMemory = ⊤
+IsDenied trees number hives was is event (denied.Told told) = Tells trees number hives was is event told × IsRefusal told.reply
 
 -- The session was opened: all that was accepted by then is what it has seen.
-abbrev pub IsOpened : List TreeMap → ℕ → NumberedList → Told → Type 0
-IsOpened trees number session told = Tells trees number [] session.list (event.StartSession session.number) told × ¬ (IsRefusal told.reply)
+abbrev pub IsOpened : List TreeMap → ℕ → ℕ → NumberedList → Told → Type 0
+IsOpened trees number hives session told = Tells trees number hives [] session.list (event.StartSession session.number) told × ¬ (IsRefusal told.reply)
 
 -- a session was not opened: there was no memory, or its event was refused
-abbrev pub IsNotOpened : List TreeMap → ℕ → Denied → Type 0
-IsNotOpened trees number why = (session : ℕ) × (is : List Element) × IsDenied trees number [] is (event.StartSession session) why
+abbrev pub IsNotOpened : List TreeMap → ℕ → ℕ → Denied → Type 0
+IsNotOpened trees number hives why = (session : ℕ) × (is : List Element) × IsDenied trees number hives [] is (event.StartSession session) why
 
 -- what became of a session that was to be opened
-abbrev pub OpensOrNot : {O : Type 0} → List TreeMap → ℕ → OpenResult O → Type 0
-OpensOrNot trees number (opening.Session session told) = IsOpened trees number session told
-OpensOrNot trees number (opening.Refused told) = (session : ℕ) × (is : List Element) × Tells trees number [] is (event.StartSession session) told × IsRefusal told.reply
-OpensOrNot trees number opening.NoMemory = ⊤
+abbrev pub OpensOrNot : {O : Type 0} → List TreeMap → ℕ → ℕ → OpenResult O → Type 0
+OpensOrNot trees number hives (opening.Session session told) = IsOpened trees number hives session told
+OpensOrNot trees number hives (opening.Refused told) = (session : ℕ) × (is : List Element) × Tells trees number hives [] is (event.StartSession session) told × IsRefusal told.reply
+OpensOrNot trees number hives opening.NoMemory = ⊤
 
 -- what was waited for was refused since the device failed, or there was no memory for a step of the journal
 abbrev pub IsWaitDenied : ℕ → Denied → Type 0
@@ -56,9 +56,9 @@ IsWaitDenied number denied.NoMemory = ⊤
 IsWaitDenied number (denied.Told told) = WaitFails number told
 
 -- The call's own event was refused; or it was answered, and the wait for what it answered was refused.
-abbrev pub IsCommitDenied : List TreeMap → ℕ → List Element → Event → Denied → Type 0
-IsCommitDenied trees number was event why =
-    ((is : List Element) × IsDenied trees number was is event why) ⊎ ((awaited : ℕ) × IsWaitDenied awaited why)
+abbrev pub IsCommitDenied : List TreeMap → ℕ → ℕ → List Element → Event → Denied → Type 0
+IsCommitDenied trees number hives was event why =
+    ((is : List Element) × IsDenied trees number hives was is event why) ⊎ ((awaited : ℕ) × IsWaitDenied awaited why)
 
 abbrev pub IsStepOrStop : Turn → Type 0
 IsStepOrStop (turn.Step told) = is_step_kind told.kind ≡ true

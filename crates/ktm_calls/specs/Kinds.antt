@@ -22,6 +22,7 @@ kind_of (event.CommitAccept session tx moment) = kind.CommitAccept session tx mo
 kind_of (event.Rollback session tx) = kind.Rollback session tx
 kind_of (event.Close session tx) = kind.Close session tx
 kind_of (event.Outcome session tx) = kind.Outcome session tx
+kind_of (event.OutcomeOf id) = kind.OutcomeOf
 kind_of event.FlushAsk = kind.FlushAsk
 kind_of (event.Acked number) = kind.Acked number
 kind_of event.Fold = kind.Fold

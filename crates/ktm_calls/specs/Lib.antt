@@ -3,6 +3,8 @@ pub mod Held
 pub mod Moments
 pub mod OpenSessions
 pub mod Answers
+pub mod Reads
+pub mod Outcomes
 pub mod Waiting
 pub mod Denials
 pub mod Calls

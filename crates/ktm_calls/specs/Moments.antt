@@ -1,5 +1,5 @@
 -- The moment under the lock at which an event was answered.
-use Rattle.std.specs.Prelude.{◌≡◌, ℕ, List, [], ◌∷◌, ◌++◌, Option, Some, None, length, refl, ⊤}
+use Rattle.std.specs.Prelude.{◌≡◌, ℕ, List, [], ◌∷◌, ◌++◌, Option, Some, None, refl, ⊤}
 use Rattle.std.specs.Coded.{Coded, code_by, coded×, coded_ℕ}
 use mathlib.Core.List.{IsPrefix}
 use Rattle.reg_tree.specs.Maps.{TreeMap}
@@ -21,33 +21,33 @@ pub record NumberedList : Type 0 where
 abbrev pub numbered_code : Coded NumberedList
 numbered_code = code_by (ℕ × List Element) (coded× coded_ℕ list_code) (λ m. (m.number, m.list)) (λ p. record { number = p.0; list = p.1 }) (λ _. refl)
 
--- a machine is the store's that was opened on these trees after the change of this number, and accepts changes of each of
--- them
-pub record IsOf (trees : List TreeMap) (number : ℕ) (machine : Machine) : Type 0 where
+-- A machine is the store's that was opened on these trees after the change of this number. Its calls may name this many
+-- hives.
+pub record IsOf (trees : List TreeMap) (number named : ℕ) (machine : Machine) : Type 0 where
   pub opened : machine.opened ≡ trees
   pub before : machine.before ≡ number
-  pub hives : machine.bounds.hives ≡ length trees
+  pub hives : machine.bounds.hives ≡ named
 
 -- The event was a step of the machine, which gave this reply. What the caller had seen before is a beginning of the
 -- changes accepted before it; what it has seen then is all that was accepted after it.
-pub record IsAnswered (trees : List TreeMap) (number : ℕ) (was is : List Element) (event : Event) (reply : Reply) : Type 0 where
+pub record IsAnswered (trees : List TreeMap) (number hives : ℕ) (was is : List Element) (event : Event) (reply : Reply) : Type 0 where
   pub old : Machine
   pub new : Machine
   pub step : Step old event reply new
-  pub owner : IsOf trees number new
+  pub owner : IsOf trees number hives new
   pub seen : IsPrefix was old.accepted
   pub list : new.accepted ≡ is
 
 -- what is told of the event: its kind, and the reply that it was answered
-pub record Tells (trees : List TreeMap) (number : ℕ) (was is : List Element) (event : Event) (told : Told) : Type 0 where
+pub record Tells (trees : List TreeMap) (number hives : ℕ) (was is : List Element) (event : Event) (told : Told) : Type 0 where
   pub kind : told.kind ≡ kind_of event
-  pub answered : IsAnswered trees number was is event told.reply
+  pub answered : IsAnswered trees number hives was is event told.reply
 
 -- The event was answered with a number, and then waited for: the receipt has that number, and all that was accepted by
 -- then.
-pub record TellsDurably (trees : List TreeMap) (number : ℕ) (was is : List Element) (event : Event) (receipt : NumberedList) (told : Told) : Type 0 where
+pub record TellsDurably (trees : List TreeMap) (number hives : ℕ) (was is : List Element) (event : Event) (receipt : NumberedList) (told : Told) : Type 0 where
   pub mid : List Element
-  pub own : Tells trees number was mid event told
+  pub own : Tells trees number hives was mid event told
   pub later : IsPrefix mid is
   pub awaited : told.reply ≡ reply.Awaits receipt.number
   pub list : receipt.list ≡ is

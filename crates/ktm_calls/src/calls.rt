@@ -33,15 +33,15 @@ impl<E: StoreEngine, O: Origin> Registry<E, O> {
     ) -> Result<(Disposition, Told), Denied>
         ensures seen { IsPrefix session.old.list session.new.list }
         ensures number { session.new.number ≡ session.old.number }
-        ensures told { IfOk result (λ r. Tells O.trees O.number session.old.list session.new.list
+        ensures told { IfOk result (λ r. Tells O.trees O.number O.hives session.old.list session.new.list
             (write_event session.old.number key.now.tx moment (op.CreateKey key.now.hive key.now.path)) r.1) }
         ensures granted { IfOk result (λ r. ¬ (IsRefusal r.1.reply)) }
-        ensures stands { IfOk result (λ r. StandsAlone O.trees O.number session.new.list key.now.tx moment
+        ensures stands { IfOk result (λ r. StandsAlone O.trees O.number O.hives session.new.list key.now.tx moment
             (op.CreateKey key.now.hive key.now.path) r.1.reply) }
         ensures disposition { IfOk result (λ r. Disposes r.0 r.1.reply) }
-        ensures denied { IfErr result (IsDenied O.trees O.number session.old.list session.new.list
+        ensures denied { IfErr result (IsDenied O.trees O.number O.hives session.old.list session.new.list
             (write_event session.old.number key.now.tx moment (op.CreateKey key.now.hive key.now.path))) }
-        ensures refused { IfErr result (IsDeniedAlone O.trees O.number session.new.list key.now.tx moment
+        ensures refused { IfErr result (IsDeniedAlone O.trees O.number O.hives session.new.list key.now.tx moment
             (op.CreateKey key.now.hive key.now.path)) }
     {
         self.create_key(rt, session, key, key.tx, moment)
@@ -58,15 +58,15 @@ impl<E: StoreEngine, O: Origin> Registry<E, O> {
     ) -> Result<(Disposition, Told), Denied>
         ensures seen { IsPrefix session.old.list session.new.list }
         ensures number { session.new.number ≡ session.old.number }
-        ensures told { IfOk result (λ r. Tells O.trees O.number session.old.list session.new.list
+        ensures told { IfOk result (λ r. Tells O.trees O.number O.hives session.old.list session.new.list
             (write_event session.old.number (Some tx) moment (op.CreateKey key.now.hive key.now.path)) r.1) }
         ensures granted { IfOk result (λ r. ¬ (IsRefusal r.1.reply)) }
-        ensures stands { IfOk result (λ r. StandsAlone O.trees O.number session.new.list (Some tx) moment
+        ensures stands { IfOk result (λ r. StandsAlone O.trees O.number O.hives session.new.list (Some tx) moment
             (op.CreateKey key.now.hive key.now.path) r.1.reply) }
         ensures disposition { IfOk result (λ r. Disposes r.0 r.1.reply) }
-        ensures denied { IfErr result (IsDenied O.trees O.number session.old.list session.new.list
+        ensures denied { IfErr result (IsDenied O.trees O.number O.hives session.old.list session.new.list
             (write_event session.old.number (Some tx) moment (op.CreateKey key.now.hive key.now.path))) }
-        ensures refused { IfErr result (IsDeniedAlone O.trees O.number session.new.list (Some tx) moment
+        ensures refused { IfErr result (IsDeniedAlone O.trees O.number O.hives session.new.list (Some tx) moment
             (op.CreateKey key.now.hive key.now.path)) }
     {
         self.create_key(rt, session, key, Some(tx), moment)
@@ -82,14 +82,14 @@ impl<E: StoreEngine, O: Origin> Registry<E, O> {
     ) -> Result<Told, Denied>
         ensures seen { IsPrefix session.old.list session.new.list }
         ensures number { session.new.number ≡ session.old.number }
-        ensures told { IfOk result (λ t. Tells O.trees O.number session.old.list session.new.list
+        ensures told { IfOk result (λ t. Tells O.trees O.number O.hives session.old.list session.new.list
             (write_event session.old.number key.now.tx moment (op.DeleteKey key.now.hive key.now.path)) t) }
         ensures granted { IfOk result (λ t. ¬ (IsRefusal t.reply)) }
-        ensures stands { IfOk result (λ t. StandsAlone O.trees O.number session.new.list key.now.tx moment
+        ensures stands { IfOk result (λ t. StandsAlone O.trees O.number O.hives session.new.list key.now.tx moment
             (op.DeleteKey key.now.hive key.now.path) t.reply) }
-        ensures denied { IfErr result (IsDenied O.trees O.number session.old.list session.new.list
+        ensures denied { IfErr result (IsDenied O.trees O.number O.hives session.old.list session.new.list
             (write_event session.old.number key.now.tx moment (op.DeleteKey key.now.hive key.now.path))) }
-        ensures refused { IfErr result (IsDeniedAlone O.trees O.number session.new.list key.now.tx moment
+        ensures refused { IfErr result (IsDeniedAlone O.trees O.number O.hives session.new.list key.now.tx moment
             (op.DeleteKey key.now.hive key.now.path)) }
     {
         self.delete_key(rt, session, key, key.tx, moment)
@@ -106,14 +106,14 @@ impl<E: StoreEngine, O: Origin> Registry<E, O> {
     ) -> Result<Told, Denied>
         ensures seen { IsPrefix session.old.list session.new.list }
         ensures number { session.new.number ≡ session.old.number }
-        ensures told { IfOk result (λ t. Tells O.trees O.number session.old.list session.new.list
+        ensures told { IfOk result (λ t. Tells O.trees O.number O.hives session.old.list session.new.list
             (write_event session.old.number (Some tx) moment (op.DeleteKey key.now.hive key.now.path)) t) }
         ensures granted { IfOk result (λ t. ¬ (IsRefusal t.reply)) }
-        ensures stands { IfOk result (λ t. StandsAlone O.trees O.number session.new.list (Some tx) moment
+        ensures stands { IfOk result (λ t. StandsAlone O.trees O.number O.hives session.new.list (Some tx) moment
             (op.DeleteKey key.now.hive key.now.path) t.reply) }
-        ensures denied { IfErr result (IsDenied O.trees O.number session.old.list session.new.list
+        ensures denied { IfErr result (IsDenied O.trees O.number O.hives session.old.list session.new.list
             (write_event session.old.number (Some tx) moment (op.DeleteKey key.now.hive key.now.path))) }
-        ensures refused { IfErr result (IsDeniedAlone O.trees O.number session.new.list (Some tx) moment
+        ensures refused { IfErr result (IsDeniedAlone O.trees O.number O.hives session.new.list (Some tx) moment
             (op.DeleteKey key.now.hive key.now.path)) }
     {
         self.delete_key(rt, session, key, Some(tx), moment)
@@ -134,14 +134,14 @@ impl<E: StoreEngine, O: Origin> Registry<E, O> {
     ) -> Result<Told, Denied>
         ensures seen { IsPrefix session.old.list session.new.list }
         ensures number { session.new.number ≡ session.old.number }
-        ensures told { IfOk result (λ t. Tells O.trees O.number session.old.list session.new.list
+        ensures told { IfOk result (λ t. Tells O.trees O.number O.hives session.old.list session.new.list
             (write_event session.old.number key.now.tx moment (op.SetValue key.now.hive key.now.path name kind «data»)) t) }
         ensures granted { IfOk result (λ t. ¬ (IsRefusal t.reply)) }
-        ensures stands { IfOk result (λ t. StandsAlone O.trees O.number session.new.list key.now.tx moment
+        ensures stands { IfOk result (λ t. StandsAlone O.trees O.number O.hives session.new.list key.now.tx moment
             (op.SetValue key.now.hive key.now.path name kind «data») t.reply) }
-        ensures denied { IfErr result (IsDenied O.trees O.number session.old.list session.new.list
+        ensures denied { IfErr result (IsDenied O.trees O.number O.hives session.old.list session.new.list
             (write_event session.old.number key.now.tx moment (op.SetValue key.now.hive key.now.path name kind «data»))) }
-        ensures refused { IfErr result (IsDeniedAlone O.trees O.number session.new.list key.now.tx moment
+        ensures refused { IfErr result (IsDeniedAlone O.trees O.number O.hives session.new.list key.now.tx moment
             (op.SetValue key.now.hive key.now.path name kind «data»)) }
     {
         let op = Op::SetValue {
@@ -166,14 +166,14 @@ impl<E: StoreEngine, O: Origin> Registry<E, O> {
     ) -> Result<Told, Denied>
         ensures seen { IsPrefix session.old.list session.new.list }
         ensures number { session.new.number ≡ session.old.number }
-        ensures told { IfOk result (λ t. Tells O.trees O.number session.old.list session.new.list
+        ensures told { IfOk result (λ t. Tells O.trees O.number O.hives session.old.list session.new.list
             (write_event session.old.number key.now.tx moment (op.DeleteValue key.now.hive key.now.path name)) t) }
         ensures granted { IfOk result (λ t. ¬ (IsRefusal t.reply)) }
-        ensures stands { IfOk result (λ t. StandsAlone O.trees O.number session.new.list key.now.tx moment
+        ensures stands { IfOk result (λ t. StandsAlone O.trees O.number O.hives session.new.list key.now.tx moment
             (op.DeleteValue key.now.hive key.now.path name) t.reply) }
-        ensures denied { IfErr result (IsDenied O.trees O.number session.old.list session.new.list
+        ensures denied { IfErr result (IsDenied O.trees O.number O.hives session.old.list session.new.list
             (write_event session.old.number key.now.tx moment (op.DeleteValue key.now.hive key.now.path name))) }
-        ensures refused { IfErr result (IsDeniedAlone O.trees O.number session.new.list key.now.tx moment
+        ensures refused { IfErr result (IsDeniedAlone O.trees O.number O.hives session.new.list key.now.tx moment
             (op.DeleteValue key.now.hive key.now.path name)) }
     {
         let op = Op::DeleteValue {
@@ -196,15 +196,15 @@ impl<E: StoreEngine, O: Origin> Registry<E, O> {
     ) -> Result<(Disposition, Told), Denied>
         ensures seen { IsPrefix session.old.list session.new.list }
         ensures number { session.new.number ≡ session.old.number }
-        ensures told { IfOk result (λ r. Tells O.trees O.number session.old.list session.new.list
+        ensures told { IfOk result (λ r. Tells O.trees O.number O.hives session.old.list session.new.list
             (write_event session.old.number tx moment (op.CreateKey key.now.hive key.now.path)) r.1) }
         ensures granted { IfOk result (λ r. ¬ (IsRefusal r.1.reply)) }
-        ensures stands { IfOk result (λ r. StandsAlone O.trees O.number session.new.list tx moment
+        ensures stands { IfOk result (λ r. StandsAlone O.trees O.number O.hives session.new.list tx moment
             (op.CreateKey key.now.hive key.now.path) r.1.reply) }
         ensures disposition { IfOk result (λ r. Disposes r.0 r.1.reply) }
-        ensures denied { IfErr result (IsDenied O.trees O.number session.old.list session.new.list
+        ensures denied { IfErr result (IsDenied O.trees O.number O.hives session.old.list session.new.list
             (write_event session.old.number tx moment (op.CreateKey key.now.hive key.now.path))) }
-        ensures refused { IfErr result (IsDeniedAlone O.trees O.number session.new.list tx moment
+        ensures refused { IfErr result (IsDeniedAlone O.trees O.number O.hives session.new.list tx moment
             (op.CreateKey key.now.hive key.now.path)) }
     {
         let op = Op::CreateKey {
@@ -227,14 +227,14 @@ impl<E: StoreEngine, O: Origin> Registry<E, O> {
     ) -> Result<Told, Denied>
         ensures seen { IsPrefix session.old.list session.new.list }
         ensures number { session.new.number ≡ session.old.number }
-        ensures told { IfOk result (λ t. Tells O.trees O.number session.old.list session.new.list
+        ensures told { IfOk result (λ t. Tells O.trees O.number O.hives session.old.list session.new.list
             (write_event session.old.number tx moment (op.DeleteKey key.now.hive key.now.path)) t) }
         ensures granted { IfOk result (λ t. ¬ (IsRefusal t.reply)) }
-        ensures stands { IfOk result (λ t. StandsAlone O.trees O.number session.new.list tx moment
+        ensures stands { IfOk result (λ t. StandsAlone O.trees O.number O.hives session.new.list tx moment
             (op.DeleteKey key.now.hive key.now.path) t.reply) }
-        ensures denied { IfErr result (IsDenied O.trees O.number session.old.list session.new.list
+        ensures denied { IfErr result (IsDenied O.trees O.number O.hives session.old.list session.new.list
             (write_event session.old.number tx moment (op.DeleteKey key.now.hive key.now.path))) }
-        ensures refused { IfErr result (IsDeniedAlone O.trees O.number session.new.list tx moment
+        ensures refused { IfErr result (IsDeniedAlone O.trees O.number O.hives session.new.list tx moment
             (op.DeleteKey key.now.hive key.now.path)) }
     {
         let op = Op::DeleteKey {
@@ -255,14 +255,14 @@ impl<E: StoreEngine, O: Origin> Registry<E, O> {
     ) -> Result<Told, Denied>
         ensures seen { IsPrefix session.old.list session.new.list }
         ensures number { session.new.number ≡ session.old.number }
-        ensures told { IfOk result (λ t. Tells O.trees O.number session.old.list session.new.list
+        ensures told { IfOk result (λ t. Tells O.trees O.number O.hives session.old.list session.new.list
             (write_event session.old.number tx moment op) t) }
         ensures granted { IfOk result (λ t. ¬ (IsRefusal t.reply)) }
-        ensures stands { IfOk result (λ t. StandsAlone O.trees O.number session.new.list tx moment
+        ensures stands { IfOk result (λ t. StandsAlone O.trees O.number O.hives session.new.list tx moment
             op t.reply) }
-        ensures denied { IfErr result (IsDenied O.trees O.number session.old.list session.new.list
+        ensures denied { IfErr result (IsDenied O.trees O.number O.hives session.old.list session.new.list
             (write_event session.old.number tx moment op)) }
-        ensures refused { IfErr result (IsDeniedAlone O.trees O.number session.new.list tx moment
+        ensures refused { IfErr result (IsDeniedAlone O.trees O.number O.hives session.new.list tx moment
             op) }
     {
         match tx {
@@ -293,14 +293,14 @@ impl<E: StoreEngine, O: Origin> Registry<E, O> {
     ) -> Result<Told, Denied>
         ensures seen { IsPrefix session.old.list session.new.list }
         ensures number { session.new.number ≡ session.old.number }
-        ensures told { IfOk result (λ t. Tells O.trees O.number session.old.list session.new.list
+        ensures told { IfOk result (λ t. Tells O.trees O.number O.hives session.old.list session.new.list
             (event.Write session.old.number moment op) t) }
         ensures granted { IfOk result (λ t. ¬ (IsRefusal t.reply)) }
         ensures stands { IfOk result (λ t.
-            WriteStands O.trees O.number session.new.list moment op t.reply) }
-        ensures denied { IfErr result (IsDenied O.trees O.number session.old.list session.new.list
+            WriteStands O.trees O.number O.hives session.new.list moment op t.reply) }
+        ensures denied { IfErr result (IsDenied O.trees O.number O.hives session.old.list session.new.list
             (event.Write session.old.number moment op)) }
-        ensures refused { IfErr result (IsDeniedAlone O.trees O.number session.new.list None moment op) }
+        ensures refused { IfErr result (IsDeniedAlone O.trees O.number O.hives session.new.list None moment op) }
     {
         let event = Event::Write {
             session: session.number(),
@@ -323,10 +323,10 @@ impl<E: StoreEngine, O: Origin> Registry<E, O> {
     ) -> Result<(Receipt<O>, Told), Denied>
         ensures seen { IsPrefix session.old.list session.new.list }
         ensures number { session.new.number ≡ session.old.number }
-        ensures told { IfOk result (λ r. TellsDurably O.trees O.number session.old.list session.new.list
+        ensures told { IfOk result (λ r. TellsDurably O.trees O.number O.hives session.old.list session.new.list
             event.FlushAsk r.0 r.1) }
         ensures all { IfOk result (λ r. O.number + length session.old.list ≤ r.0.number) }
-        ensures denied { IfErr result (IsCommitDenied O.trees O.number session.old.list event.FlushAsk) }
+        ensures denied { IfErr result (IsCommitDenied O.trees O.number O.hives session.old.list event.FlushAsk) }
     {
         let answer = self.serve_durably(rt, session, Event::FlushAsk, MemoryPolicy::GiveUp)?;
         Ok(answer)

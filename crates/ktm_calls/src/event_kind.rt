@@ -81,6 +81,8 @@ pub enum EventKind {
         /// The transaction.
         tx: Tx,
     },
+    /// It is asked for the number of a unit of work's commit.
+    OutcomeOf,
     /// It is asked which change a flush has to wait for.
     FlushAsk,
     /// It is asked whether a change is durable.
@@ -119,6 +121,7 @@ impl EventKind {
                 moment: *moment,
             },
             Event::Begin { session, .. } => EventKind::Begin { session: *session },
+            Event::OutcomeOf { .. } => EventKind::OutcomeOf,
             Event::FlushAsk => EventKind::FlushAsk,
             Event::Acked { number } => EventKind::Acked { number: *number },
             Event::Fold => EventKind::Fold,

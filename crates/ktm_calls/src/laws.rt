@@ -16,9 +16,9 @@ use store_model::laws::{folds_keep, openings_stay};
 /// answers that the history was folded, the machine is as the third asks for it: of the trees of then and the number that
 /// was answered, with an empty history and no session.
 pub fn folded_engines_are_shared_again()
-    ensures { (trees : List TreeMap) (number folded_at : ℕ) (old new : Machine) → IsOf trees number old →
+    ensures { (trees : List TreeMap) (number hives folded_at : ℕ) (old new : Machine) → IsOf trees number hives old →
         old.sessions ≡ [] → Step old event.Fold (reply.Folded folded_at) new →
-        IsOf (trees_now old) folded_at new × (new.accepted ≡ []) × (new.sessions ≡ []) }
+        IsOf (trees_now old) folded_at hives new × (new.accepted ≡ []) × (new.sessions ≡ []) }
 {
     folds_keep();
     openings_stay();

@@ -116,7 +116,7 @@ impl<E: StoreEngine, O: Origin> Model for Locked<E, O> {
     ghost view = { λ l. record { engine = l.engine; stopped = l.stopped } };
 
     ghost invariant = { λ l. record {
-      owner : IsOf O.trees O.number (E.machine l.engine);
+      owner : IsOf O.trees O.number O.hives (E.machine l.engine);
       list : l.publication ≡ (E.machine l.engine).accepted;
       sessions : AreBelow l.session_bound (E.machine l.engine);
       bound : l.session_bound ≤ 2 ^ 32;
@@ -213,7 +213,7 @@ impl<E: StoreEngine, O: Origin> Locked<E, O> {
 
     /// What was seen of the list: all of it, which is the engine's history.
     pub fn seen(&self) -> SeenChanges
-        ensures owner { IsOf O.trees O.number (E.machine self.now.engine) }
+        ensures owner { IsOf O.trees O.number O.hives (E.machine self.now.engine) }
         ensures list { result ≡ record { book = O.book; list = (E.machine self.now.engine).accepted } }
         ensures durable { (E.machine self.now.engine).durable
             ≤ O.number + length (E.machine self.now.engine).accepted }
@@ -241,7 +241,8 @@ impl<E: StoreEngine, O: Origin> Locked<E, O> {
         ensures book { mine.new.book ≡ O.book }
         ensures seen { IsPrefix mine.old.list mine.new.list }
         ensures list { mine.new.list ≡ (E.machine self.new.engine).accepted }
-        ensures told { IfOk result (λ t. Tells O.trees O.number mine.old.list mine.new.list event t) }
+        ensures told { IfOk result (λ t. Tells O.trees O.number O.hives
+            mine.old.list mine.new.list event t) }
         ensures step { IfOk result (λ t.
             Step (E.machine self.old.engine) event t.reply (E.machine self.new.engine)) }
         ensures fed { IfOk result (λ t. ¬ (t.reply ≡ reply.Refused NoMemory)) }
@@ -369,7 +370,7 @@ impl<E: StoreEngine, O: Origin> Locked<E, O> {
         seen: SeenChanges,
     ) -> Result<Locked<E, O>, (Refusal, E)>
         requires book { (count ≡ O.book) × (seen ≡ record { book = O.book; list = [] }) }
-        requires engine { IsOf O.trees O.number (E.machine engine)
+        requires engine { IsOf O.trees O.number O.hives (E.machine engine)
             × ((E.machine engine).accepted ≡ []) × ((E.machine engine).sessions ≡ []) }
         ensures same { IfOk result (λ l. (l.engine ≡ engine) × (l.stopped ≡ false)) }
         ensures refused { IfErr result (λ back.
@@ -406,7 +407,7 @@ impl<E: StoreEngine, O: Origin> Locked<E, O> {
     /// Opens a session, whose number is its reader's place. If all readers are out, the engine is asked with the number
     /// of none, and refuses.
     pub(crate) fn start_session<R: Wait>(&mut self, rt: &R) -> OpenResult<O>
-        ensures { OpensOrNot O.trees O.number result }
+        ensures { OpensOrNot O.trees O.number O.hives result }
     {
         let (number, reader) = take_reader(&mut self.readers);
         let answer = self.tell(rt, Event::StartSession { session: number });
@@ -418,7 +419,11 @@ impl<E: StoreEngine, O: Origin> Locked<E, O> {
             self.give_back(number, reader);
             return OpenResult::Refused(told);
         }
-        OpenResult::Session(Session::new(self.alloc, number, reader, self.seen()), told)
+        let hives = self.hives();
+        OpenResult::Session(
+            Session::new(self.alloc, number, reader, self.seen(), hives),
+            told,
+        )
     }
 
     /// Ends a session. Its reader is there again, also if the event is refused.
@@ -428,7 +433,7 @@ impl<E: StoreEngine, O: Origin> Locked<E, O> {
         number: u32,
         reader: Option<TreesReader<O>>,
     ) -> Result<Told, Refusal>
-        ensures told { IfOk result (λ t. Tells O.trees O.number []
+        ensures told { IfOk result (λ t. Tells O.trees O.number O.hives []
             (E.machine self.new.engine).accepted (event.EndSession number) t) }
     {
         self.give_back(number, reader);
@@ -438,7 +443,7 @@ impl<E: StoreEngine, O: Origin> Locked<E, O> {
     // one event, of nobody who has seen anything
     fn tell<R: Wait>(&mut self, rt: &R, event: Event) -> Result<Told, Refusal>
         requires no_fold { is_fold event ≡ false }
-        ensures told { IfOk result (λ t. Tells O.trees O.number []
+        ensures told { IfOk result (λ t. Tells O.trees O.number O.hives []
             (E.machine self.new.engine).accepted event t) }
     {
         let told = self.hold(rt, event)?;
@@ -448,7 +453,7 @@ impl<E: StoreEngine, O: Origin> Locked<E, O> {
 
     /// A law: the engine is the registry's.
     pub(crate) fn is_of_registry(&self)
-        ensures { IsOf O.trees O.number (E.machine self.now.engine) }
+        ensures { IsOf O.trees O.number O.hives (E.machine self.now.engine) }
     {
         // what the type keeps is known once a field is read
         let _ = &self.alloc; // for the prover
@@ -456,7 +461,7 @@ impl<E: StoreEngine, O: Origin> Locked<E, O> {
 
     /// The engine, without the lock. Each session that is open in it is ended, whoever has it.
     pub(crate) fn close<R: Wait>(self, rt: &R) -> E
-        ensures owner { IsOf O.trees O.number (E.machine result) }
+        ensures owner { IsOf O.trees O.number O.hives (E.machine result) }
         ensures sessions { (E.machine result).sessions ≡ [] }
     {
         let Locked {
@@ -479,7 +484,8 @@ impl<E: StoreEngine, O: Origin> Locked<E, O> {
         ensures number { result.number ≡ MOST_READERS }
         ensures list { result.list ≡ (E.machine self.now.engine).accepted }
     {
-        Session::new(self.alloc, MOST_READERS as u32, None, self.seen())
+        let hives = self.hives();
+        Session::new(self.alloc, MOST_READERS as u32, None, self.seen(), hives)
     }
 
     /// The engine.
@@ -487,6 +493,13 @@ impl<E: StoreEngine, O: Origin> Locked<E, O> {
         ensures { result.now ≡ self.now.engine }
     {
         &self.engine
+    }
+
+    /// How many hives calls may name.
+    pub(crate) fn hives(&self) -> usize
+        ensures { result ≡ O.hives }
+    {
+        self.engine.hives()
     }
 
     /// Whether nobody made the steps of the journal for all that wait; the caller makes them from now on.
@@ -528,10 +541,10 @@ impl<E: StoreEngine, O: Origin> Locked<E, O> {
 
 // ends each session of an engine, whose numbers are below `bound`
 fn end_sessions<E: StoreEngine, O: Origin>(engine: &mut E, bound: u64)
-    requires owner { IsOf O.trees O.number (E.machine engine.old) }
+    requires owner { IsOf O.trees O.number O.hives (E.machine engine.old) }
     requires below { AreBelow bound (E.machine engine.old) }
     requires most { bound ≤ 2 ^ 32 }
-    ensures owner { IsOf O.trees O.number (E.machine engine.new) }
+    ensures owner { IsOf O.trees O.number O.hives (E.machine engine.new) }
     ensures sessions { (E.machine engine.new).sessions ≡ [] }
 {
     openings_stay();

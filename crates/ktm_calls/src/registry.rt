@@ -109,7 +109,7 @@ pub struct Ended<E: StoreEngine, O: Origin> {
 
 /// What threads share.
 ///
-/// No fold happens inside a registry: what its promises say is of the trees and the number that it was made with. To
+/// No fold happens inside a registry: what its promises say is of the trees and the numbers that it was made with. To
 /// fold the history, end the registry, put `Event::Fold` to the engine, and make the next registry over it.
 pub struct Registry<E: StoreEngine, O: Origin> {
     lock: Mutex<Locked<E, O>>,
@@ -134,7 +134,7 @@ impl<E: StoreEngine, O: Origin> Registry<E, O> {
         seen: SeenChanges,
     ) -> Result<Registry<E, O>, (Refusal, E)>
         requires book { (count ≡ O.book) × (seen ≡ record { book = O.book; list = [] }) }
-        requires engine { IsOf O.trees O.number (E.machine engine)
+        requires engine { IsOf O.trees O.number O.hives (E.machine engine)
             × ((E.machine engine).accepted ≡ []) × ((E.machine engine).sessions ≡ []) }
         ensures refused { IfErr result (λ back.
             ((back.0 ≡ NoMemory) ⊎ (back.0 ≡ NoSeat)) × (back.1 ≡ engine)) }
@@ -151,8 +151,8 @@ impl<E: StoreEngine, O: Origin> Registry<E, O> {
 
     /// Opens a session. Refused as its event: `Faulted`, or `NoSeat` if 32 are open.
     pub fn session<R: Wait>(&self, rt: &R) -> Result<(Session<O>, Told), Denied>
-        ensures opened { IfOk result (λ made. IsOpened O.trees O.number made.0 made.1) }
-        ensures denied { IfErr result (IsNotOpened O.trees O.number) }
+        ensures opened { IfOk result (λ made. IsOpened O.trees O.number O.hives made.0 made.1) }
+        ensures denied { IfErr result (IsNotOpened O.trees O.number O.hives) }
     {
         let mut guard = self.lock.lock(rt);
         let opened = (&mut *guard).start_session(rt);
@@ -167,10 +167,10 @@ impl<E: StoreEngine, O: Origin> Registry<E, O> {
     /// Ends a session, with all of its transactions. It is gone also if that is refused.
     pub fn end_session<R: Wait>(&self, rt: &R, session: Session<O>) -> Result<Told, Denied>
         ensures told { IfOk result (λ t. (is : List Element)
-            × Tells O.trees O.number [] is (event.EndSession session.number) t) }
+            × Tells O.trees O.number O.hives [] is (event.EndSession session.number) t) }
         ensures granted { IfOk result (λ t. ¬ (IsRefusal t.reply)) }
         ensures denied { IfErr result (λ why. (is : List Element)
-            × IsDenied O.trees O.number [] is (event.EndSession session.number) why) }
+            × IsDenied O.trees O.number O.hives [] is (event.EndSession session.number) why) }
     {
         let (number, reader) = session.into_parts();
         let mut guard = self.lock.lock(rt);
@@ -193,7 +193,7 @@ impl<E: StoreEngine, O: Origin> Registry<E, O> {
         sessions: Vec<Session<O>>,
         receipts: Vec<Receipt<O>>,
     ) -> Ended<E, O>
-        ensures owner { IsOf O.trees O.number (E.machine result.engine) }
+        ensures owner { IsOf O.trees O.number O.hives (E.machine result.engine) }
         ensures sessions { (E.machine result.engine).sessions ≡ [] }
         ensures durable { result.durable ≡ (E.machine result.engine).durable }
         ensures strangers { result.strangers.items
@@ -228,10 +228,10 @@ impl<E: StoreEngine, O: Origin> Registry<E, O> {
         ensures seen { IsPrefix session.old.list session.new.list }
         ensures number { session.new.number ≡ session.old.number }
         ensures told { IfOk result (λ t.
-            Tells O.trees O.number session.old.list session.new.list event t) }
+            Tells O.trees O.number O.hives session.old.list session.new.list event t) }
         ensures granted { IfOk result (λ t. ¬ (IsRefusal t.reply)) }
         ensures denied { IfErr result (λ why.
-            IsDenied O.trees O.number session.old.list session.new.list event why) }
+            IsDenied O.trees O.number O.hives session.old.list session.new.list event why) }
     {
         let mut guard = self.lock_for(rt, &event);
         let answer = (&mut *guard).serve(rt, &mut session.seen, event);
@@ -293,9 +293,9 @@ impl<E: StoreEngine, O: Origin> Registry<E, O> {
         requires no_fold { is_fold event ≡ false }
         ensures seen { IsPrefix session.old.list session.new.list }
         ensures number { session.new.number ≡ session.old.number }
-        ensures told { IfOk result (λ r. TellsDurably O.trees O.number
+        ensures told { IfOk result (λ r. TellsDurably O.trees O.number O.hives
             session.old.list session.new.list event r.0 r.1) }
-        ensures denied { IfErr result (IsCommitDenied O.trees O.number session.old.list event) }
+        ensures denied { IfErr result (IsCommitDenied O.trees O.number O.hives session.old.list event) }
     {
         let mut guard = self.lock_for(rt, &event);
         let answer = (&mut *guard).serve(rt, &mut session.seen, event);

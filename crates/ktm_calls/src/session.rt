@@ -1,21 +1,25 @@
 //! Sessions: each reads what is published, and waits for nobody.
-ghost use Rattle.std.specs.Prelude.{◌≡◌, ◌⊎◌, ◌≤◌, Some, None, IfOk, IfErr};
+ghost use Rattle.std.specs.Prelude.{◌≡◌, ◌⊎◌, ◌≤◌, Some, None, IfOk, IfErr, OnOk};
 ghost use mathlib.Core.List.{IsPrefix};
 ghost use Rattle.refusals.specs.declared.refusal.Refusal.TheVariants.{NoMemory, NoSuchHandle};
 ghost use Rattle.reg_tree.specs.Sequences.{after_elements};
-ghost use Rattle.store_model.specs.Machine.{looked_up, read_refusal};
+ghost use Rattle.store_model.specs.Machine.{read_refusal};
 ghost use Rattle.store_model.specs.declared.event.Question.TheVariants as question;
 ghost use Rattle.store_model.specs.declared.event.ReadResult.TheVariants as found;
+ghost use Rattle.ktm_calls.specs.Outcomes.{HasNoOutcome, HasOutcome};
+ghost use Rattle.ktm_calls.specs.Reads.{read_within};
 
 use crate::key::Key;
 use crate::receipt::Receipt;
+use commit_outcomes::number_in;
 use published_trees::{Entered, Origin, SeenChanges, TreesReader, TreesSnapshot};
 use refusals::Refusal;
 use reg_names::{Name, ValueName};
-use reg_tree::{Info, Value};
+use reg_tree::{Info, Trees, Value};
 use std::alloc::Global;
 use std::marker::Model;
 use store_model::{Question, ReadResult, look_up};
+use uuid::Uuid;
 
 /// A session: the reader by which it reads, and the list of the changes that it has seen. Its later reads have all that
 /// it saw, wrote or learnt.
@@ -25,6 +29,8 @@ use store_model::{Question, ReadResult, look_up};
 pub struct Session<O: Origin> {
     alloc: Global,
     number: u32,
+    // how many hives calls may name
+    hives: usize,
     reader: Option<TreesReader<O>>,
     pub(crate) seen: SeenChanges,
 }
@@ -35,6 +41,7 @@ impl<O: Origin> Drop for Session<O> {
         let Session {
             alloc: _,
             number: _,
+            hives: _,
             reader: _,
             seen: _,
         } = self;
@@ -51,7 +58,10 @@ impl<O: Origin> Model for Session<O> {
 
     ghost view = { λ s. record { number = s.number; list = s.seen.list } };
 
-    ghost invariant = { λ s. s.seen.book ≡ O.book };
+    ghost invariant = { λ s. record {
+      book : s.seen.book ≡ O.book;
+      hives : s.hives ≡ O.hives;
+    } };
 }
 
 impl<O: Origin> Session<O> {
@@ -60,13 +70,16 @@ impl<O: Origin> Session<O> {
         number: u32,
         reader: Option<TreesReader<O>>,
         seen: SeenChanges,
+        hives: usize,
     ) -> Session<O>
         requires book { seen.book ≡ O.book }
+        requires hives { hives ≡ O.hives }
         ensures { result ≡ record { number = number; list = seen.list } }
     {
         Session {
             alloc,
             number,
+            hives,
             reader,
             seen,
         }
@@ -79,12 +92,20 @@ impl<O: Origin> Session<O> {
         self.number
     }
 
+    /// How many hives its calls may name.
+    pub fn hives(&self) -> usize
+        ensures { result ≡ O.hives }
+    {
+        self.hives
+    }
+
     pub(crate) fn into_parts(self) -> (u32, Option<TreesReader<O>>)
         ensures { result.0 ≡ self.number }
     {
         let Session {
             alloc: _,
             number,
+            hives: _,
             reader,
             seen: _,
         } = self;
@@ -100,15 +121,15 @@ impl<O: Origin> Session<O> {
         self.seen.learn(receipt.seen());
     }
 
-    /// The answer to a question on a key. Refused with `NotFound` exactly if there is no such hive, key or value; with
-    /// `NoMemory`; and with `NoSuchHandle`, as told above.
+    /// The answer to a question on a key. Refused with `NotFound` exactly if there is no such key or value, or calls name
+    /// no such hive; with `NoMemory`; and with `NoSuchHandle`, as told above.
     pub fn look_up(&mut self, key: &Key, question: Question) -> Result<ReadResult, Refusal>
         ensures later { IsPrefix self.old.list self.new.list }
         ensures number { self.new.number ≡ self.old.number }
-        ensures found { IfOk result (λ found. looked_up (after_elements O.trees self.new.list)
+        ensures found { IfOk result (λ found. read_within O.hives (after_elements O.trees self.new.list)
             key.now.hive key.now.path question ≡ Some found) }
         ensures refused { IfErr result (λ why. (why ≡ NoMemory) ⊎ (why ≡ NoSuchHandle)
-            ⊎ (read_refusal (looked_up (after_elements O.trees self.new.list)
+            ⊎ (read_refusal (read_within O.hives (after_elements O.trees self.new.list)
             key.now.hive key.now.path question) ≡ Some why)) }
     {
         let Some(reader) = self.reader.take() else {
@@ -116,10 +137,12 @@ impl<O: Origin> Session<O> {
         };
         match reader.enter_as::<Entered<O>>() {
             Ok(reading) => {
+                let snapshot = reading.get();
                 let answer = look_up_in::<O>(
                     self.alloc,
                     &mut self.seen,
-                    reading.get(),
+                    snapshot,
+                    self.hives,
                     key,
                     question,
                 );
@@ -137,10 +160,10 @@ impl<O: Origin> Session<O> {
     pub fn get_value(&mut self, key: &Key, name: ValueName) -> Result<Value, Refusal>
         ensures later { IsPrefix self.old.list self.new.list }
         ensures number { self.new.number ≡ self.old.number }
-        ensures found { IfOk result (λ value. looked_up (after_elements O.trees self.new.list)
+        ensures found { IfOk result (λ value. read_within O.hives (after_elements O.trees self.new.list)
             key.now.hive key.now.path (question.ValueOf name) ≡ Some (found.Value value)) }
         ensures refused { IfErr result (λ why. (why ≡ NoMemory) ⊎ (why ≡ NoSuchHandle)
-            ⊎ (read_refusal (looked_up (after_elements O.trees self.new.list)
+            ⊎ (read_refusal (read_within O.hives (after_elements O.trees self.new.list)
             key.now.hive key.now.path (question.ValueOf name)) ≡ Some why)) }
     {
         match self.look_up(key, Question::ValueOf { name })? {
@@ -153,10 +176,10 @@ impl<O: Origin> Session<O> {
     pub fn enum_value(&mut self, key: &Key, index: usize) -> Result<Value, Refusal>
         ensures later { IsPrefix self.old.list self.new.list }
         ensures number { self.new.number ≡ self.old.number }
-        ensures found { IfOk result (λ value. looked_up (after_elements O.trees self.new.list)
+        ensures found { IfOk result (λ value. read_within O.hives (after_elements O.trees self.new.list)
             key.now.hive key.now.path (question.ValueAt index) ≡ Some (found.Value value)) }
         ensures refused { IfErr result (λ why. (why ≡ NoMemory) ⊎ (why ≡ NoSuchHandle)
-            ⊎ (read_refusal (looked_up (after_elements O.trees self.new.list)
+            ⊎ (read_refusal (read_within O.hives (after_elements O.trees self.new.list)
             key.now.hive key.now.path (question.ValueAt index)) ≡ Some why)) }
     {
         match self.look_up(key, Question::ValueAt { index })? {
@@ -169,10 +192,10 @@ impl<O: Origin> Session<O> {
     pub fn enum_key(&mut self, key: &Key, index: usize) -> Result<Name, Refusal>
         ensures later { IsPrefix self.old.list self.new.list }
         ensures number { self.new.number ≡ self.old.number }
-        ensures found { IfOk result (λ name. looked_up (after_elements O.trees self.new.list)
+        ensures found { IfOk result (λ name. read_within O.hives (after_elements O.trees self.new.list)
             key.now.hive key.now.path (question.KeyAt index) ≡ Some (found.Key name)) }
         ensures refused { IfErr result (λ why. (why ≡ NoMemory) ⊎ (why ≡ NoSuchHandle)
-            ⊎ (read_refusal (looked_up (after_elements O.trees self.new.list)
+            ⊎ (read_refusal (read_within O.hives (after_elements O.trees self.new.list)
             key.now.hive key.now.path (question.KeyAt index)) ≡ Some why)) }
     {
         match self.look_up(key, Question::KeyAt { index })? {
@@ -185,10 +208,10 @@ impl<O: Origin> Session<O> {
     pub fn query_info(&mut self, key: &Key) -> Result<Info, Refusal>
         ensures later { IsPrefix self.old.list self.new.list }
         ensures number { self.new.number ≡ self.old.number }
-        ensures found { IfOk result (λ info. looked_up (after_elements O.trees self.new.list)
+        ensures found { IfOk result (λ info. read_within O.hives (after_elements O.trees self.new.list)
             key.now.hive key.now.path question.InfoOf ≡ Some (found.Counts info)) }
         ensures refused { IfErr result (λ why. (why ≡ NoMemory) ⊎ (why ≡ NoSuchHandle)
-            ⊎ (read_refusal (looked_up (after_elements O.trees self.new.list)
+            ⊎ (read_refusal (read_within O.hives (after_elements O.trees self.new.list)
             key.now.hive key.now.path question.InfoOf) ≡ Some why)) }
     {
         match self.look_up(key, Question::InfoOf)? {
@@ -196,6 +219,57 @@ impl<O: Origin> Session<O> {
             _ => unreachable!(),
         }
     }
+
+    /// The number of a unit of work's commit, in a store that keeps outcomes: that of its last commit, as long as it is
+    /// one of the last 4,096. The session need not be the one that committed.
+    ///
+    /// Refused with `Unsupported` if the store keeps none; with `NotFound` if it has none of the unit; with `NoMemory`;
+    /// and with `NoSuchHandle`, as told above.
+    pub fn outcome_of(&mut self, unit: &Uuid) -> Result<u64, Refusal>
+        ensures later { IsPrefix self.old.list self.new.list }
+        ensures number { self.new.number ≡ self.old.number }
+        ensures found { IfOk result (λ number. HasOutcome O.hives
+            (after_elements O.trees self.new.list) unit.now number) }
+        ensures refused { IfErr result (λ why. (why ≡ NoMemory) ⊎ (why ≡ NoSuchHandle)
+            ⊎ HasNoOutcome O.hives (after_elements O.trees self.new.list) unit.now why) }
+    {
+        let Some(reader) = self.reader.take() else {
+            return Err(Refusal::NoSuchHandle);
+        };
+        match reader.enter_as::<Entered<O>>() {
+            Ok(reading) => {
+                let snapshot = reading.get();
+                let answer = outcome_in::<O>(
+                    self.alloc,
+                    &mut self.seen,
+                    snapshot,
+                    self.hives,
+                    unit,
+                );
+                self.reader.replace(reading.leave());
+                answer
+            }
+            Err(reader) => {
+                self.reader.replace(reader);
+                Err(Refusal::NoSuchHandle)
+            }
+        }
+    }
+}
+
+// takes in the list of what is published, if that has all that was seen
+fn take_in(mine: &mut SeenChanges, snapshot: &TreesSnapshot) -> Result<(), Refusal>
+    requires book { snapshot.now.book ≡ mine.old.book }
+    ensures book { mine.new.book ≡ mine.old.book }
+    ensures later { IsPrefix mine.old.list mine.new.list }
+    ensures all { OnOk result (mine.new.list ≡ snapshot.now.list) }
+    ensures refused { IfErr result (λ why. why ≡ NoSuchHandle) }
+{
+    if snapshot.seen().len() < mine.len() {
+        return Err(Refusal::NoSuchHandle);
+    }
+    mine.learn(snapshot.seen());
+    Ok(())
 }
 
 // the answer of what is published, whose list is taken in
@@ -203,22 +277,63 @@ fn look_up_in<O: Origin>(
     alloc: Global,
     mine: &mut SeenChanges,
     snapshot: &TreesSnapshot,
+    hives: usize,
     key: &Key,
     question: Question,
 ) -> Result<ReadResult, Refusal>
     requires book { snapshot.now.book ≡ mine.old.book }
     requires trees { snapshot.now.trees ≡ after_elements O.trees snapshot.now.list }
+    requires hives { hives ≡ O.hives }
     ensures book { mine.new.book ≡ mine.old.book }
     ensures later { IsPrefix mine.old.list mine.new.list }
-    ensures found { IfOk result (λ found. looked_up (after_elements O.trees mine.new.list)
+    ensures found { IfOk result (λ found. read_within O.hives (after_elements O.trees mine.new.list)
         key.now.hive key.now.path question ≡ Some found) }
     ensures refused { IfErr result (λ why. (why ≡ NoMemory) ⊎ (why ≡ NoSuchHandle)
-        ⊎ (read_refusal (looked_up (after_elements O.trees mine.new.list)
+        ⊎ (read_refusal (read_within O.hives (after_elements O.trees mine.new.list)
         key.now.hive key.now.path question) ≡ Some why)) }
 {
-    if snapshot.seen().len() < mine.len() {
-        return Err(Refusal::NoSuchHandle);
+    take_in(mine, snapshot)?;
+    if usize::from(key.hive) >= hives {
+        return Err(Refusal::NotFound);
     }
-    mine.learn(snapshot.seen());
     look_up(alloc, snapshot.trees(), key.hive, &key.path, question)
+}
+
+// the outcome of a unit of work in what is published, whose list is taken in
+fn outcome_in<O: Origin>(
+    alloc: Global,
+    mine: &mut SeenChanges,
+    snapshot: &TreesSnapshot,
+    hives: usize,
+    unit: &Uuid,
+) -> Result<u64, Refusal>
+    requires book { snapshot.now.book ≡ mine.old.book }
+    requires trees { snapshot.now.trees ≡ after_elements O.trees snapshot.now.list }
+    requires hives { hives ≡ O.hives }
+    ensures book { mine.new.book ≡ mine.old.book }
+    ensures later { IsPrefix mine.old.list mine.new.list }
+    ensures found { IfOk result (λ number. HasOutcome O.hives (after_elements O.trees mine.new.list)
+        unit.now number) }
+    ensures refused { IfErr result (λ why. (why ≡ NoMemory) ⊎ (why ≡ NoSuchHandle)
+        ⊎ HasNoOutcome O.hives (after_elements O.trees mine.new.list) unit.now why) }
+{
+    take_in(mine, snapshot)?;
+    number_of_unit(alloc, snapshot.trees(), hives, unit)
+}
+
+// the number of a unit's commit in the tree after those that calls name
+fn number_of_unit(alloc: Global, trees: &Trees, hives: usize, unit: &Uuid) -> Result<u64, Refusal>
+    ensures found { IfOk result (λ number. HasOutcome hives trees.now unit.now number) }
+    ensures refused { IfErr result (λ why. (why ≡ NoMemory) ⊎ HasNoOutcome hives trees.now unit.now why) }
+{
+    if trees.len() <= hives {
+        return Err(Refusal::Unsupported);
+    }
+    let Some(tree) = trees.tree(hives as u8) else {
+        unreachable!();
+    };
+    match number_in(alloc, tree, unit)? {
+        Some(number) => Ok(number),
+        None => Err(Refusal::NotFound),
+    }
 }

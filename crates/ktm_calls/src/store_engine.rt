@@ -76,6 +76,10 @@ pub trait StoreEngine {
     fn stays_within(&self)
         ensures { IsWithin (machine self.now) };
 
+    /// How many hives calls may name.
+    fn hives(&self) -> usize
+        ensures { result ≡ (machine self.now).bounds.hives };
+
     /// The trees after all accepted changes.
     fn trees(&self) -> &Trees
         ensures { result.now ≡ trees_now (machine self.now) };
@@ -133,6 +137,10 @@ impl<D: Disk> StoreEngine for Engine<D> {
 
     fn stays_within(&self) {
         Engine::stays_within(self)
+    }
+
+    fn hives(&self) -> usize {
+        usize::from(Engine::hives(self))
     }
 
     fn trees(&self) -> &Trees {

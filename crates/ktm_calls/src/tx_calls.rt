@@ -31,11 +31,11 @@ impl<E: StoreEngine, O: Origin> Registry<E, O> {
     ) -> Result<(Tx, Told), Denied>
         ensures seen { IsPrefix session.old.list session.new.list }
         ensures number { session.new.number ≡ session.old.number }
-        ensures told { IfOk result (λ r. Tells O.trees O.number session.old.list session.new.list
+        ensures told { IfOk result (λ r. Tells O.trees O.number O.hives session.old.list session.new.list
             (event.Begin session.old.number id) r.1) }
         ensures granted { IfOk result (λ r. ¬ (IsRefusal r.1.reply)) }
         ensures answer { IfOk result (λ r. r.1.reply ≡ reply.Begun r.0) }
-        ensures denied { IfErr result (IsDenied O.trees O.number session.old.list session.new.list
+        ensures denied { IfErr result (IsDenied O.trees O.number O.hives session.old.list session.new.list
             (event.Begin session.old.number id)) }
     {
         let event = Event::Begin {
@@ -58,10 +58,10 @@ impl<E: StoreEngine, O: Origin> Registry<E, O> {
     ) -> Result<Told, Denied>
         ensures seen { IsPrefix session.old.list session.new.list }
         ensures number { session.new.number ≡ session.old.number }
-        ensures told { IfOk result (λ t. Tells O.trees O.number session.old.list session.new.list
+        ensures told { IfOk result (λ t. Tells O.trees O.number O.hives session.old.list session.new.list
             (event.Rollback session.old.number tx) t) }
         ensures granted { IfOk result (λ t. ¬ (IsRefusal t.reply)) }
-        ensures denied { IfErr result (IsDenied O.trees O.number session.old.list session.new.list
+        ensures denied { IfErr result (IsDenied O.trees O.number O.hives session.old.list session.new.list
             (event.Rollback session.old.number tx)) }
     {
         let event = Event::Rollback {
@@ -80,10 +80,10 @@ impl<E: StoreEngine, O: Origin> Registry<E, O> {
     ) -> Result<Told, Denied>
         ensures seen { IsPrefix session.old.list session.new.list }
         ensures number { session.new.number ≡ session.old.number }
-        ensures told { IfOk result (λ t. Tells O.trees O.number session.old.list session.new.list
+        ensures told { IfOk result (λ t. Tells O.trees O.number O.hives session.old.list session.new.list
             (event.Close session.old.number tx) t) }
         ensures granted { IfOk result (λ t. ¬ (IsRefusal t.reply)) }
-        ensures denied { IfErr result (IsDenied O.trees O.number session.old.list session.new.list
+        ensures denied { IfErr result (IsDenied O.trees O.number O.hives session.old.list session.new.list
             (event.Close session.old.number tx)) }
     {
         let event = Event::Close {
@@ -102,11 +102,11 @@ impl<E: StoreEngine, O: Origin> Registry<E, O> {
     ) -> Result<(Outcome, Told), Denied>
         ensures seen { IsPrefix session.old.list session.new.list }
         ensures number { session.new.number ≡ session.old.number }
-        ensures told { IfOk result (λ r. Tells O.trees O.number session.old.list session.new.list
+        ensures told { IfOk result (λ r. Tells O.trees O.number O.hives session.old.list session.new.list
             (event.Outcome session.old.number tx) r.1) }
         ensures granted { IfOk result (λ r. ¬ (IsRefusal r.1.reply)) }
         ensures answer { IfOk result (λ r. r.1.reply ≡ reply.OutcomeIs r.0) }
-        ensures denied { IfErr result (IsDenied O.trees O.number session.old.list session.new.list
+        ensures denied { IfErr result (IsDenied O.trees O.number O.hives session.old.list session.new.list
             (event.Outcome session.old.number tx)) }
     {
         let event = Event::Outcome {
@@ -116,6 +116,33 @@ impl<E: StoreEngine, O: Origin> Registry<E, O> {
         let told = self.serve(rt, session, event)?;
         match told.reply() {
             Reply::OutcomeIs { outcome } => Ok((*outcome, told)),
+            _ => unreachable!(),
+        }
+    }
+
+    /// The number of a unit of work's last commit. No session needs to be open for it, and it is told also once the
+    /// device has failed. [`Session::outcome_of`] answers the same of what is published, and waits for nobody.
+    ///
+    /// Refused with `Unsupported` if the store keeps no outcomes; with `NotFound` if it has none of the unit; and with
+    /// `NoMemory`.
+    pub fn outcome_of<R: Wait>(
+        &self,
+        rt: &R,
+        session: &mut Session<O>,
+        unit: Uuid,
+    ) -> Result<(u64, Told), Denied>
+        ensures seen { IsPrefix session.old.list session.new.list }
+        ensures number { session.new.number ≡ session.old.number }
+        ensures told { IfOk result (λ r. Tells O.trees O.number O.hives session.old.list session.new.list
+            (event.OutcomeOf unit) r.1) }
+        ensures granted { IfOk result (λ r. ¬ (IsRefusal r.1.reply)) }
+        ensures answer { IfOk result (λ r. r.1.reply ≡ reply.CommittedAs r.0) }
+        ensures denied { IfErr result (IsDenied O.trees O.number O.hives session.old.list session.new.list
+            (event.OutcomeOf unit)) }
+    {
+        let told = self.serve(rt, session, Event::OutcomeOf { id: unit })?;
+        match told.reply() {
+            Reply::CommittedAs { number } => Ok((*number, told)),
             _ => unreachable!(),
         }
     }
@@ -132,10 +159,10 @@ impl<E: StoreEngine, O: Origin> Registry<E, O> {
     ) -> Result<Told, Denied>
         ensures seen { IsPrefix session.old.list session.new.list }
         ensures number { session.new.number ≡ session.old.number }
-        ensures told { IfOk result (λ t. Tells O.trees O.number session.old.list session.new.list
+        ensures told { IfOk result (λ t. Tells O.trees O.number O.hives session.old.list session.new.list
             (event.TxRead session.old.number tx key.now.hive key.now.path question) t) }
         ensures granted { IfOk result (λ t. ¬ (IsRefusal t.reply)) }
-        ensures denied { IfErr result (IsDenied O.trees O.number session.old.list session.new.list
+        ensures denied { IfErr result (IsDenied O.trees O.number O.hives session.old.list session.new.list
             (event.TxRead session.old.number tx key.now.hive key.now.path question)) }
     {
         let event = Event::TxRead {
@@ -158,10 +185,10 @@ impl<E: StoreEngine, O: Origin> Registry<E, O> {
     ) -> Result<Told, Denied>
         ensures seen { IsPrefix session.old.list session.new.list }
         ensures number { session.new.number ≡ session.old.number }
-        ensures told { IfOk result (λ t. Tells O.trees O.number session.old.list session.new.list
+        ensures told { IfOk result (λ t. Tells O.trees O.number O.hives session.old.list session.new.list
             (event.TxRead session.old.number tx key.now.hive key.now.path question.InfoOf) t) }
         ensures granted { IfOk result (λ t. ¬ (IsRefusal t.reply)) }
-        ensures denied { IfErr result (IsDenied O.trees O.number session.old.list session.new.list
+        ensures denied { IfErr result (IsDenied O.trees O.number O.hives session.old.list session.new.list
             (event.TxRead session.old.number tx key.now.hive key.now.path question.InfoOf)) }
     {
         self.look_up_transacted(rt, session, tx, key, Question::InfoOf)
@@ -178,10 +205,10 @@ impl<E: StoreEngine, O: Origin> Registry<E, O> {
     ) -> Result<Told, Denied>
         ensures seen { IsPrefix session.old.list session.new.list }
         ensures number { session.new.number ≡ session.old.number }
-        ensures told { IfOk result (λ t. Tells O.trees O.number session.old.list session.new.list
+        ensures told { IfOk result (λ t. Tells O.trees O.number O.hives session.old.list session.new.list
             (event.TxRead session.old.number tx key.now.hive key.now.path (question.ValueOf name)) t) }
         ensures granted { IfOk result (λ t. ¬ (IsRefusal t.reply)) }
-        ensures denied { IfErr result (IsDenied O.trees O.number session.old.list session.new.list
+        ensures denied { IfErr result (IsDenied O.trees O.number O.hives session.old.list session.new.list
             (event.TxRead session.old.number tx key.now.hive key.now.path (question.ValueOf name))) }
     {
         self.look_up_transacted(rt, session, tx, key, Question::ValueOf { name })
@@ -198,10 +225,10 @@ impl<E: StoreEngine, O: Origin> Registry<E, O> {
     ) -> Result<Told, Denied>
         ensures seen { IsPrefix session.old.list session.new.list }
         ensures number { session.new.number ≡ session.old.number }
-        ensures told { IfOk result (λ t. Tells O.trees O.number session.old.list session.new.list
+        ensures told { IfOk result (λ t. Tells O.trees O.number O.hives session.old.list session.new.list
             (event.TxRead session.old.number tx key.now.hive key.now.path (question.ValueAt index)) t) }
         ensures granted { IfOk result (λ t. ¬ (IsRefusal t.reply)) }
-        ensures denied { IfErr result (IsDenied O.trees O.number session.old.list session.new.list
+        ensures denied { IfErr result (IsDenied O.trees O.number O.hives session.old.list session.new.list
             (event.TxRead session.old.number tx key.now.hive key.now.path (question.ValueAt index))) }
     {
         self.look_up_transacted(rt, session, tx, key, Question::ValueAt { index })
@@ -218,10 +245,10 @@ impl<E: StoreEngine, O: Origin> Registry<E, O> {
     ) -> Result<Told, Denied>
         ensures seen { IsPrefix session.old.list session.new.list }
         ensures number { session.new.number ≡ session.old.number }
-        ensures told { IfOk result (λ t. Tells O.trees O.number session.old.list session.new.list
+        ensures told { IfOk result (λ t. Tells O.trees O.number O.hives session.old.list session.new.list
             (event.TxRead session.old.number tx key.now.hive key.now.path (question.KeyAt index)) t) }
         ensures granted { IfOk result (λ t. ¬ (IsRefusal t.reply)) }
-        ensures denied { IfErr result (IsDenied O.trees O.number session.old.list session.new.list
+        ensures denied { IfErr result (IsDenied O.trees O.number O.hives session.old.list session.new.list
             (event.TxRead session.old.number tx key.now.hive key.now.path (question.KeyAt index))) }
     {
         self.look_up_transacted(rt, session, tx, key, Question::KeyAt { index })
@@ -237,10 +264,10 @@ impl<E: StoreEngine, O: Origin> Registry<E, O> {
     ) -> Result<Told, Denied>
         ensures seen { IsPrefix session.old.list session.new.list }
         ensures number { session.new.number ≡ session.old.number }
-        ensures told { IfOk result (λ t. Tells O.trees O.number session.old.list session.new.list
+        ensures told { IfOk result (λ t. Tells O.trees O.number O.hives session.old.list session.new.list
             (event.TxRead session.old.number tx key.now.hive key.now.path question.InfoOf) t) }
         ensures granted { IfOk result (λ t. ¬ (IsRefusal t.reply)) }
-        ensures denied { IfErr result (IsDenied O.trees O.number session.old.list session.new.list
+        ensures denied { IfErr result (IsDenied O.trees O.number O.hives session.old.list session.new.list
             (event.TxRead session.old.number tx key.now.hive key.now.path question.InfoOf)) }
     {
         self.look_up_transacted(rt, session, tx, key, Question::InfoOf)
@@ -261,10 +288,10 @@ impl<E: StoreEngine, O: Origin> Registry<E, O> {
     ) -> Result<(Receipt<O>, Told), Denied>
         ensures seen { IsPrefix session.old.list session.new.list }
         ensures number { session.new.number ≡ session.old.number }
-        ensures told { IfOk result (λ r. TellsDurably O.trees O.number session.old.list session.new.list
+        ensures told { IfOk result (λ r. TellsDurably O.trees O.number O.hives session.old.list session.new.list
             (event.CommitAccept session.old.number tx moment) r.0 r.1) }
         ensures stands { IfOk result (λ r. CommitStands O.number session.new.list moment r.1.reply) }
-        ensures denied { IfErr result (IsCommitDenied O.trees O.number session.old.list
+        ensures denied { IfErr result (IsCommitDenied O.trees O.number O.hives session.old.list
             (event.CommitAccept session.old.number tx moment)) }
     {
         self.commit(rt, session, tx, moment, MemoryPolicy::Retry)
@@ -281,10 +308,10 @@ impl<E: StoreEngine, O: Origin> Registry<E, O> {
     ) -> Result<(Receipt<O>, Told), Denied>
         ensures seen { IsPrefix session.old.list session.new.list }
         ensures number { session.new.number ≡ session.old.number }
-        ensures told { IfOk result (λ r. TellsDurably O.trees O.number session.old.list session.new.list
+        ensures told { IfOk result (λ r. TellsDurably O.trees O.number O.hives session.old.list session.new.list
             (event.CommitAccept session.old.number tx moment) r.0 r.1) }
         ensures stands { IfOk result (λ r. CommitStands O.number session.new.list moment r.1.reply) }
-        ensures denied { IfErr result (IsCommitDenied O.trees O.number session.old.list
+        ensures denied { IfErr result (IsCommitDenied O.trees O.number O.hives session.old.list
             (event.CommitAccept session.old.number tx moment)) }
     {
         self.commit(rt, session, tx, moment, MemoryPolicy::GiveUp)
@@ -301,10 +328,10 @@ impl<E: StoreEngine, O: Origin> Registry<E, O> {
     ) -> Result<(Receipt<O>, Told), Denied>
         ensures seen { IsPrefix session.old.list session.new.list }
         ensures number { session.new.number ≡ session.old.number }
-        ensures told { IfOk result (λ r. TellsDurably O.trees O.number session.old.list session.new.list
+        ensures told { IfOk result (λ r. TellsDurably O.trees O.number O.hives session.old.list session.new.list
             (event.CommitAccept session.old.number tx moment) r.0 r.1) }
         ensures stands { IfOk result (λ r. CommitStands O.number session.new.list moment r.1.reply) }
-        ensures denied { IfErr result (IsCommitDenied O.trees O.number session.old.list
+        ensures denied { IfErr result (IsCommitDenied O.trees O.number O.hives session.old.list
             (event.CommitAccept session.old.number tx moment)) }
     {
         let event = Event::CommitAccept {

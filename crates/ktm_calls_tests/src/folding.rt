@@ -1,5 +1,5 @@
 //! One engine whose history may have two changes, in one registry after another, with a fold after each.
-ghost use Rattle.std.specs.Prelude.{◌≡◌, [], length, IfOk, IfSome};
+ghost use Rattle.std.specs.Prelude.{◌≡◌, [], IfOk, IfSome};
 ghost use Rattle.ktm_calls.specs.Moments.{IsOf};
 
 use crate::calls::{Answer, Calls};
@@ -29,8 +29,7 @@ const REFUSED: u64 = 11;
 
 // an engine over a new store, whose history may have two changes
 fn new_engine(alloc: Global) -> Result<Engine<TestDisk>, Refusal>
-    ensures { IfOk result (λ e. (e.machine.accepted ≡ []) × (e.machine.sessions ≡ [])
-        × (e.machine.bounds.hives ≡ length e.machine.opened)) }
+    ensures { IfOk result (λ e. (e.machine.accepted ≡ []) × (e.machine.sessions ≡ [])) }
 {
     let device = Device::new(alloc, NO_FAILURE)?;
     let mut disk = device.disk(alloc)?;
@@ -84,11 +83,10 @@ fn take_turn<O: Origin, E: StoreEngine + Drop, R: Wait>(
     numbers: &[u64; 2],
 ) -> Result<Option<E>, Refusal>
     requires book { (count ≡ O.book) × (seen ≡ record { book = O.book; list = [] }) }
-    requires engine { IsOf O.trees O.number (E.machine engine)
+    requires engine { IsOf O.trees O.number O.hives (E.machine engine)
         × ((E.machine engine).accepted ≡ []) × ((E.machine engine).sessions ≡ []) }
     ensures { IfOk result (λ some. IfSome some (λ e. ((E.machine e).accepted ≡ [])
-        × ((E.machine e).sessions ≡ [])
-        × ((E.machine e).bounds.hives ≡ length (E.machine e).opened))) }
+        × ((E.machine e).sessions ≡ []))) }
 {
     let registry = match Registry::<E, O>::new(alloc, rt, engine, count, seen) {
         Ok(registry) => registry,

@@ -16,6 +16,8 @@ mod folding;
 #[cfg(test)]
 mod handing_over;
 #[cfg(test)]
+mod outcomes;
+#[cfg(test)]
 mod playing;
 #[cfg(test)]
 mod sharing;

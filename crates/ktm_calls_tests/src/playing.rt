@@ -1,5 +1,5 @@
 //! A registry over a new store on a disk in memory, and what is played on it.
-ghost use Rattle.std.specs.Prelude.{◌≡◌, [], length, IfOk};
+ghost use Rattle.std.specs.Prelude.{◌≡◌, [], IfOk};
 ghost use Rattle.ktm_calls.specs.Moments.{IsOf};
 
 use crate::calls::Calls;
@@ -86,8 +86,7 @@ pub fn play<R: Threads + Wait + Sync>(
 
 // an engine over a new store of two hives
 fn new_engine(alloc: Global, device: &Device) -> Result<Engine<TestDisk>, Refusal>
-    ensures { IfOk result (λ e. (e.machine.accepted ≡ []) × (e.machine.sessions ≡ [])
-        × (e.machine.bounds.hives ≡ length e.machine.opened)) }
+    ensures { IfOk result (λ e. (e.machine.accepted ≡ []) × (e.machine.sessions ≡ [])) }
 {
     let mut disk = device.disk(alloc)?;
     make(alloc, &mut disk)?;
@@ -103,8 +102,7 @@ pub fn make(alloc: Global, disk: &mut TestDisk) -> Result<(), Refusal> {
 
 // an engine over a store of which no repair is left
 fn begin(alloc: Global, store: Opened<TestDisk>) -> Result<Engine<TestDisk>, Refusal>
-    ensures { IfOk result (λ e. (e.machine.accepted ≡ []) × (e.machine.sessions ≡ [])
-        × (e.machine.bounds.hives ≡ length e.machine.opened)) }
+    ensures { IfOk result (λ e. (e.machine.accepted ≡ []) × (e.machine.sessions ≡ [])) }
 {
     if !store.is_whole() {
         return Err(Refusal::Faulted);
@@ -134,7 +132,7 @@ fn play_over<O: Origin + Send + Sync, E: StoreEngine + Drop + Send, R: Threads +
     scene: Scene<'_>,
 ) -> Result<Played, Refusal>
     requires book { (count ≡ O.book) × (seen ≡ record { book = O.book; list = [] }) }
-    requires engine { IsOf O.trees O.number (E.machine engine)
+    requires engine { IsOf O.trees O.number O.hives (E.machine engine)
         × ((E.machine engine).accepted ≡ []) × ((E.machine engine).sessions ≡ []) }
 {
     let registry = match Registry::<E, O>::new(alloc, rt, engine, count, seen) {

@@ -13,7 +13,7 @@ loop-number-preserved g c =
     let step = c.event.ensures.step in
     let was = c.loop-number.invariant in
     record {
-      owner = still_of g.O.Origin.trees g.O.Origin.number old new was.owner (c.openings_stay.ensures.opening old new ends reply refl step) (c.openings_stay.ensures.bounds old new ends reply step).0;
+      owner = still_of g.O.Origin.trees g.O.Origin.number g.O.Origin.hives old new was.owner (c.openings_stay.ensures.opening old new ends reply refl step) (c.openings_stay.ensures.bounds old new ends reply step).0;
       below = still_below c.args.bound old new was.below ends reply tt step;
       from = subst (λ (l : List ℕ). All (λ s. c.loop-number.number + 1 ≤ s) l) (sym (ended old new c.loop-number.number reply step)) (fewer c.loop-number.number old.sessions was.from);
     }

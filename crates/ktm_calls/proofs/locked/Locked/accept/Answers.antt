@@ -8,7 +8,7 @@ invariant_of-self-2 g c =
     let stay = c.openings_stay.ensures.opening old new c.args.event c.in_ok-reply.reply c.requires.no_fold c.in_ok-reply.ensures.step in
     let bounds = c.openings_stay.ensures.bounds old new c.args.event c.in_ok-reply.reply c.in_ok-reply.ensures.step in
     record {
-      owner = still_of g.O.Origin.trees g.O.Origin.number old new c.self.invariant.owner stay bounds.0;
+      owner = still_of g.O.Origin.trees g.O.Origin.number g.O.Origin.hives old new c.self.invariant.owner stay bounds.0;
       sessions = still_below c.self.inside.session_bound old new c.self.invariant.sessions c.args.event c.in_ok-reply.reply (accepting_opens_none c.self.inside.session_bound c.args.event c.requires.accepts) c.in_ok-reply.ensures.step;
       bound = c.self.invariant.bound;
       list = c.in_ok-reply.ensures.list;

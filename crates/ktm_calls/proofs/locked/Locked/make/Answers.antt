@@ -10,7 +10,7 @@ invariant_of-self-2 g c =
     let stay = c.openings_stay.ensures.opening old new c.args.event c.event-reply.result c.requires.no_fold step in
     let bounds = c.openings_stay.ensures.bounds old new c.args.event c.event-reply.result step in
     record {
-      owner = still_of g.O.Origin.trees g.O.Origin.number old new c.self.invariant.owner stay bounds.0;
+      owner = still_of g.O.Origin.trees g.O.Origin.number g.O.Origin.hives old new c.self.invariant.owner stay bounds.0;
       sessions = still_below c.bound_with-self-inside.result old new (below_more c.self.inside.session_bound c.bound_with-self-inside.result old c.bound_with-self-inside.ensures.above c.self.invariant.sessions) c.args.event c.event-reply.result c.bound_with-self-inside.ensures.opens step;
       bound = c.bound_with-self-inside.ensures.most;
       list = c.self.invariant.list ∙ sym (c.others_accept_nothing.ensures old new c.args.event c.event-reply.result c.requires.calm c.requires.no_fold step);
