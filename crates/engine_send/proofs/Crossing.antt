@@ -27,6 +27,8 @@ use Rattle.conflicts.specs.contracts.table.ClaimTable as ClaimTable
 use Rattle.conflicts.specs.contracts.table.IndexedClaim as IndexedClaim
 use Rattle.conflicts.specs.contracts.table.ClaimEntry as ClaimEntry
 use Rattle.store_model.specs.contracts.event.Reply as Reply
+use Rattle.commit_outcomes.specs.contracts.kept_commit.KeptCommit as KeptCommit
+use Rattle.commit_outcomes.specs.contracts.commit_list.CommitList as CommitList
 use Rattle.transactions.specs.contracts.view.View as View
 use Rattle.transactions.specs.contracts.entry.TxEntry as TxEntry
 use Rattle.transactions.specs.contracts.history.ChangeHistory as ChangeHistory
@@ -161,8 +163,14 @@ history_send = search (encoded_change_send, std.crosses, sendable) depth 40
 pub table_send : IsSend TxTable.the_row
 table_send = search (trees_send, entry_send, claims_send, std.crosses, sendable) depth 40
 
+pub kept_commit_send : IsSend KeptCommit.the_field.row
+kept_commit_send = search (std.crosses, sendable) depth 40
+
+pub commit_list_send : IsSend CommitList.the_field.row
+commit_list_send = search (kept_commit_send, std.crosses, sendable) depth 40
+
 pub store_send : IsSend Store.the_row
-store_send = search (table_send, history_send, std.crosses, sendable) depth 40
+store_send = search (table_send, history_send, commit_list_send, std.crosses, sendable) depth 40
 
 pub refusal_send : IsSend Refusal.the_field.row
 refusal_send = search sendable depth 40 fits 8000
