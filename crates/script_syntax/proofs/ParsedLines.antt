@@ -8,12 +8,12 @@ use Rattle.std.proofs.lemmas.Bool.Decides.{nat_tests}
 use Rattle.std.proofs.lemmas.Slice.Eq.{bytes_eq-Decides}
 use Rattle.refusals.specs.declared.limits.TheConstants.{MOST_HIVES, MOST_HISTORY}
 use Rattle.script_syntax.specs.Words.{words, number_of, label_of, uuid_of}
-use Rattle.script_syntax.specs.Lines.{one_of, two_of, request_with, request_of_words, hives_of, hives_line, history_of, history_line, at_line, alone, begin_line, inside_line, label_in, hive_in, call_of, call_in, tear_of, tear_in, device_line, step_line, transaction_line, line_with, line_of_words, line_of}
+use Rattle.script_syntax.specs.Lines.{one_of, two_of, request_with, request_of_words, hives_of, hives_line, history_of, history_line, at_line, alone, begin_line, kept_line, inside_line, label_in, hive_in, call_of, call_in, tear_of, tear_in, device_line, step_line, transaction_line, line_with, line_of_words, line_of}
 use Rattle.script_syntax.specs.Grammar.{VerbAndNumber, VerbAndLabel, RequestWords, LabLineWords, LineWords, BytesParseTo, tear_word}
 use Rattle.script_syntax.specs.declared.line.Request.{Request}
 use Rattle.script_syntax.specs.declared.line.Request.TheVariants.{Create, Delete, Set, Unset, Get, Keys, Values, Info}
 use Rattle.script_syntax.specs.declared.line.Line.{Line}
-use Rattle.script_syntax.specs.declared.line.Line.TheVariants.{Hives, History, At, Session, End, Plain, Begin, Inside, Commit, Rollback, Close, Outcome, Flush, Fold, Lab}
+use Rattle.script_syntax.specs.declared.line.Line.TheVariants.{Hives, History, At, Session, End, Plain, Begin, Inside, Commit, Rollback, Close, Outcome, Kept, Flush, Fold, Lab}
 use Rattle.script_syntax.specs.declared.lab_line.LabLine.{LabLine}
 use Rattle.script_syntax.specs.declared.lab_line.LabLine.TheVariants.{Accept, JournalStep, FlusherStep, TrimStep, FlushWhole, StopAt, FailAt, Crash}
 use Rattle.script_syntax.specs.declared.lab_line.CrashTear.{CrashTear}
@@ -89,6 +89,7 @@ read_words said (Commit label) (word, e, l) = ap line_of_words e ∙ ap (option_
 read_words said (Rollback label) (word, e, l) = ap line_of_words e ∙ ap (option_map (λ a. Rollback a)) (read_label word label l)
 read_words said (Close label) (word, e, l) = ap line_of_words e ∙ ap (option_map (λ a. Close a)) (read_label word label l)
 read_words said (Outcome label) (word, e, l) = ap line_of_words e ∙ ap (option_map (λ a. Outcome a)) (read_label word label l)
+read_words said (Kept id) (text, e, u) = ap line_of_words e ∙ ap (option_map (λ b. Kept b)) u
 read_words said Flush e = ap line_of_words e
 read_words said Fold e = ap line_of_words e
 read_words said (Lab line) s = read_lab said line s
@@ -194,6 +195,12 @@ of_begin args line e =
     subst (λ l. LineWords l (codes "begin" ∷ args)) id.2
     (word, text, ap (λ ws. codes "begin" ∷ ws) (two_words args found.0 found.1), parsed_label word label.0 label.1, id.1)
 
+of_kept : (args : List (List ℕ)) (line : Line) → option_and_then kept_line (one_of args) ≡ Some line → LineWords line (codes "kept" ∷ args)
+of_kept args line e =
+    let word = then_some kept_line (one_of args) line e in
+    let id = map_some (λ b. Kept b) (uuid_of word.0) line word.2 in
+    subst (λ l. LineWords l (codes "kept" ∷ args)) id.2 (word.0, ap (λ ws. codes "kept" ∷ ws) (one_word args word.0 word.1), id.1)
+
 of_inside : (args : List (List ℕ)) (line : Line) → inside_line args ≡ Some line → LineWords line (codes "tx" ∷ args)
 of_inside [] line e = absurd (none-some line e)
 of_inside (word ∷ asked) line e =
@@ -239,7 +246,8 @@ parsed_transaction verb args line e =
     (first_word LineWords verb (codes "rollback") args line _ _ (of_label (codes "rollback") (λ label. Rollback label) (λ label said h. h) args line)
     (first_word LineWords verb (codes "close") args line _ _ (of_label (codes "close") (λ label. Close label) (λ label said h. h) args line)
     (first_word LineWords verb (codes "outcome") args line _ _ (of_label (codes "outcome") (λ label. Outcome label) (λ label said h. h) args line)
-    (parsed_step verb args line)))))) e
+    (first_word LineWords verb (codes "kept") args line _ _ (of_kept args line)
+    (parsed_step verb args line))))))) e
 
 parsed_with : (verb : List ℕ) (args : List (List ℕ)) (line : Line) → line_with verb args ≡ Some line → LineWords line (verb ∷ args)
 parsed_with verb args line e =

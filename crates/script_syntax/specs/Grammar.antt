@@ -12,7 +12,7 @@ use Rattle.script_syntax.specs.declared.line.KeyRef.{KeyRef}
 use Rattle.script_syntax.specs.declared.line.Request.{Request}
 use Rattle.script_syntax.specs.declared.line.Request.TheVariants.{Create, Delete, Set, Unset, Get, Keys, Values, Info}
 use Rattle.script_syntax.specs.declared.line.Line.{Line}
-use Rattle.script_syntax.specs.declared.line.Line.TheVariants.{Hives, History, At, Session, End, Plain, Begin, Inside, Commit, Rollback, Close, Outcome, Flush, Fold, Lab}
+use Rattle.script_syntax.specs.declared.line.Line.TheVariants.{Hives, History, At, Session, End, Plain, Begin, Inside, Commit, Rollback, Close, Outcome, Kept, Flush, Fold, Lab}
 use Rattle.script_syntax.specs.declared.lab_line.LabLine.{LabLine}
 use Rattle.script_syntax.specs.declared.lab_line.LabLine.TheVariants.{Accept, JournalStep, FlusherStep, TrimStep, FlushWhole, StopAt, FailAt, Crash}
 use Rattle.script_syntax.specs.declared.lab_line.CrashTear.{CrashTear}
@@ -128,6 +128,7 @@ LineWords (Commit label) said = VerbAndLabel (codes "commit") label said
 LineWords (Rollback label) said = VerbAndLabel (codes "rollback") label said
 LineWords (Close label) said = VerbAndLabel (codes "close") label said
 LineWords (Outcome label) said = VerbAndLabel (codes "outcome") label said
+LineWords (Kept id) said = (text : List ℕ) × (said ≡ codes "kept" ∷ text ∷ []) × IsUuid text id
 LineWords Flush said = said ≡ codes "flush" ∷ []
 LineWords Fold said = said ≡ codes "fold" ∷ []
 LineWords (Lab line) said = LabLineWords line said

@@ -7,7 +7,7 @@ use Rattle.script_syntax.specs.declared.line.KeyRef.{KeyRef}
 use Rattle.script_syntax.specs.declared.line.Request.{Request}
 use Rattle.script_syntax.specs.declared.line.Request.TheVariants.{Create, Delete, Set, Unset, Get, Keys, Values, Info}
 use Rattle.script_syntax.specs.declared.line.Line.{Line}
-use Rattle.script_syntax.specs.declared.line.Line.TheVariants.{Hives, History, At, Session, End, Plain, Begin, Inside, Commit, Rollback, Close, Outcome, Flush, Fold, Lab}
+use Rattle.script_syntax.specs.declared.line.Line.TheVariants.{Hives, History, At, Session, End, Plain, Begin, Inside, Commit, Rollback, Close, Outcome, Kept, Flush, Fold, Lab}
 use Rattle.script_syntax.specs.declared.lab_line.LabLine.TheVariants.{Accept, JournalStep, FlusherStep, TrimStep, FlushWhole, StopAt, FailAt, Crash}
 use Rattle.script_syntax.specs.declared.lab_line.CrashTear.{CrashTear}
 use Rattle.script_syntax.specs.declared.lab_line.CrashTear.TheVariants.{Old, New, Torn}
@@ -88,6 +88,9 @@ alone line (word ∷ args) = None
 abbrev pub begin_line : List ℕ × List ℕ → Option Line
 begin_line args = option_and_then (λ label. option_map (λ id. Begin label id) (uuid_of args.1)) (label_of args.0)
 
+abbrev pub kept_line : List ℕ → Option Line
+kept_line word = option_map (λ id. Kept id) (uuid_of word)
+
 -- a label and a request
 abbrev pub inside_line : List (List ℕ) → Option Line
 inside_line [] = None
@@ -137,7 +140,7 @@ step_line verb args =
     else if bytes_eq verb (codes "fall") then option_map (λ hive. Lab (FlushWhole hive)) (hive_in args)
     else device_line verb args
 
--- a line that begins, uses or ends a transaction, a laboratory's, or a request alone
+-- a line of a transaction or of a unit of work, a laboratory's, or a request alone
 abbrev pub transaction_line : List ℕ → List (List ℕ) → Option Line
 transaction_line verb args =
     if bytes_eq verb (codes "tx") then inside_line args
@@ -146,6 +149,7 @@ transaction_line verb args =
     else if bytes_eq verb (codes "rollback") then option_map (λ label. Rollback label) (label_in args)
     else if bytes_eq verb (codes "close") then option_map (λ label. Close label) (label_in args)
     else if bytes_eq verb (codes "outcome") then option_map (λ label. Outcome label) (label_in args)
+    else if bytes_eq verb (codes "kept") then option_and_then kept_line (one_of args)
     else step_line verb args
 
 -- the first word says which line it is

@@ -168,6 +168,11 @@ pub enum Line {
         /// The transaction's label.
         label: Label,
     },
+    /// `kept UUID`: asks for the number of the last commit of the unit of work.
+    Kept {
+        /// The UUID of the unit of work, which a `begin` gave.
+        id: Uuid,
+    },
     /// `flush`: waits until every change accepted so far is durable.
     Flush,
     /// `fold`: folds the history.

@@ -2,7 +2,7 @@
 ghost use Rattle.std.specs.Prelude.{◌≡◌};
 ghost use Rattle.std.specs.Option.{option_copied};
 ghost use Rattle.script_syntax.specs.Words.{parts_of};
-ghost use Rattle.script_syntax.specs.Lines.{line_of, hives_line, history_line, at_line, session_line, end_line, alone, begin_line, inside_line, label_in, transaction_line};
+ghost use Rattle.script_syntax.specs.Lines.{line_of, hives_line, history_line, at_line, session_line, end_line, alone, begin_line, inside_line, kept_line, label_in, transaction_line};
 ghost use Rattle.script_syntax.specs.Reads.{Reads};
 
 use crate::lab_line_parser::step_line;
@@ -43,7 +43,7 @@ pub fn read_line(alloc: Global, bytes: &[u8]) -> Result<Line, ParseError>
     }
 }
 
-// a line that begins, uses or ends a transaction, a laboratory's, or a request alone
+// a line of a transaction or of a unit of work, a laboratory's, or a request alone
 fn transaction_line(alloc: Global, verb: &[u8], rest: Option<&[u8]>) -> Result<Line, ParseError>
     ensures { Reads result (transaction_line verb.now (parts_of 32 (option_copied rest.entry))) }
 {
@@ -63,6 +63,8 @@ fn transaction_line(alloc: Global, verb: &[u8], rest: Option<&[u8]>) -> Result<L
     } else if verb == b"outcome".as_slice() {
         let label = label_alone(rest)?;
         Ok(Line::Outcome { label })
+    } else if verb == b"kept".as_slice() {
+        kept(one_word(rest)?)
     } else {
         step_line(alloc, verb, rest)
     }
@@ -125,6 +127,13 @@ fn begin(words: (&[u8], &[u8])) -> Result<Line, ParseError>
     let label = label(words.0)?;
     let id = uuid(words.1)?;
     Ok(Line::Begin { label, id })
+}
+
+fn kept(word: &[u8]) -> Result<Line, ParseError>
+    ensures { Reads result (kept_line word.now) }
+{
+    let id = uuid(word)?;
+    Ok(Line::Kept { id })
 }
 
 fn inside(alloc: Global, rest: Option<&[u8]>) -> Result<Line, ParseError>
