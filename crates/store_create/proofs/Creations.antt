@@ -1,19 +1,22 @@
 -- What a creation leaves, and what is reported of it.
-use Rattle.std.proofs.Common.{ℕ, List, length, Option, Result, Ok, Err, OnOk, IfOk, IfErr, MatchResult, inl, inr}
+use Rattle.std.proofs.Common.{ℕ, ◌+◌, List, [], ◌∷◌, ◌++◌, length, Option, Result, Ok, Err, OnOk, IfOk, IfErr, MatchResult, inl, inr}
 use Rattle.std.proofs.lemmas.Result.{IfOk-weaker}
 use Rattle.refusals.specs.declared.refusal.Refusal.{Refusal}
 use Rattle.script_syntax.specs.declared.status.Status.{Status}
+use Rattle.reg_tree.specs.Fresh.{fresh_tree}
 use Rattle.reg_tree.specs.Maps.{TreeMap}
 use Rattle.disk_model.specs.FileState.{FileState}
 use Rattle.disk_model.specs.Crash.{LeavesHonest}
+use Rattle.commit_journal.specs.declared.store_layout.Layout.TheVariants.{WithOutcomes}
 use Rattle.engine_invariant.specs.Prefixes.{IsPrimaryOf}
 use Rattle.recovery.specs.Created.{StoreIsCreated, new_store}
 use Rattle.recovery.specs.Recovered.{IsRecovered, seen_in}
 use Rattle.store_create.specs.Creations.{IsNewStore, IsNotMade, OutcomeIsWritten}
 
 -- what was made, what a crash leaves of it and what a read gives are those of a new store
-pub new_where_made : {T E : Type 0} (result : Result T E) (faithful : Type 0) (id : List ℕ) (trees : List TreeMap) (state : ℕ → FileState) → OnOk result (faithful → StoreIsCreated id trees state)
-    → OnOk result (faithful → (files : ℕ → List ℕ) → LeavesHonest (IsPrimaryOf (length trees)) state files → IsRecovered files (new_store id trees) 0 trees) → OnOk result (faithful → IsRecovered (seen_in state) (new_store id trees) 0 trees)
+pub new_where_made : {T E : Type 0} (result : Result T E) (faithful : Type 0) (id : List ℕ) (trees : List TreeMap) (state : ℕ → FileState) → OnOk result (faithful → StoreIsCreated id WithOutcomes trees state)
+    → OnOk result (faithful → (files : ℕ → List ℕ) → LeavesHonest (IsPrimaryOf (length trees + 1)) state files → IsRecovered files (new_store id WithOutcomes (length trees)) 0 (trees ++ fresh_tree ∷ []))
+    → OnOk result (faithful → IsRecovered (seen_in state) (new_store id WithOutcomes (length trees)) 0 (trees ++ fresh_tree ∷ []))
     → OnOk result (faithful → IsNewStore id trees state)
 new_where_made (Ok x) faithful id trees state made recovers seen = λ f. record { made = made f; recovers = recovers f; seen = seen f }
 new_where_made (Err e) faithful id trees state made recovers seen = tt

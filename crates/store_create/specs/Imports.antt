@@ -1,11 +1,13 @@
 -- Files that are imported, each as the hive of its index.
-use Rattle.std.specs.Prelude.{◌≡◌, ℕ, List, length, slice_get, Option, Some, Result, Ok, Err}
+use Rattle.std.specs.Prelude.{◌≡◌, ℕ, List, [], ◌∷◌, ◌++◌, length, slice_get, Option, Some, Result, Ok, Err}
 use Rattle.refusals.specs.declared.refusal.Refusal.{Refusal}
 use Rattle.refusals.specs.declared.refusal.Refusal.TheVariants.{NoMemory}
+use Rattle.reg_tree.specs.Fresh.{fresh_tree}
 use Rattle.reg_tree.specs.Maps.{TreeMap}
 use Rattle.disk_model.specs.FileState.{FileState}
+use Rattle.commit_journal.specs.declared.store_layout.Layout.TheVariants.{WithOutcomes}
 use Rattle.hive_file_reader.specs.Hives.{FileHoldsHive, IsEnoughOf}
-use Rattle.recovery.specs.Created.{RecoversTrees}
+use Rattle.recovery.specs.Created.{RecoversTrees, new_store}
 use Rattle.recovery.specs.FileCopies.{AreRefusedFor, StoreIsCreatedFrom}
 
 -- what an import shows: how many files it has taken, and their outcome, which is the first bytes of each, or a refusal
@@ -39,14 +41,15 @@ pub record MayBeBytesOf (files : List (Option (List ℕ))) (bytes : List (List �
   pub many : length bytes ≡ length files
   pub known : (i : ℕ) (file own : List ℕ) → slice_get files i ≡ Some (Some file) → slice_get bytes i ≡ Some own → own ≡ file
 
--- A store is durable on the disk under an id, made of files' hives, with these trees. Each hive is a copy of its file: it
--- has its bins data, its root and its minor version. Whatever a crash leaves of the store's files, with honest first
--- sectors, recovers the trees at number 0, as does what a read gives.
+-- A store is durable on the disk under an id, made of files' hives, with these trees. Calls name these hives. Each hive is
+-- a copy of its file: it has its bins data, its root and its minor version. The tree of a new hive follows them, for the
+-- outcomes of commits. Whatever a crash leaves of the store's files, with honest first sectors, recovers all these trees
+-- at number 0, as does what a read gives.
 pub record IsImportedStore (id : List ℕ) (files : List (Option (List ℕ))) (trees : List TreeMap) (state : ℕ → FileState) : Type 0 where
   pub bytes : List (List ℕ)
   pub of_files : MayBeBytesOf files bytes
   pub made : StoreIsCreatedFrom id bytes trees state
-  pub recovers : RecoversTrees id trees state
+  pub recovers : RecoversTrees (new_store id WithOutcomes (length trees)) (trees ++ fresh_tree ∷ []) state
 
 -- why no store is made of files, except for the device: a refusal of one of them, with the number of its index, if each
 -- before it holds a hive; or want of memory

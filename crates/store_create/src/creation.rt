@@ -1,5 +1,5 @@
 //! Making a store of trees, and reporting whether it is made.
-ghost use Rattle.std.specs.Prelude.{◌≡◌, ◌<◌, ◌≤◌, List, replicate, IfOk, IfErr, OnOk, MatchResult, Ok, Err, Result};
+ghost use Rattle.std.specs.Prelude.{◌≡◌, ◌+◌, ◌<◌, ◌≤◌, List, replicate, IfOk, IfErr, OnOk, MatchResult, Ok, Err, Result};
 ghost use Rattle.refusals.specs.declared.limits.TheConstants.{MOST_HIVES};
 ghost use Rattle.refusals.specs.declared.refusal.Refusal.{Refusal};
 ghost use Rattle.refusals.specs.declared.refusal.Refusal.TheVariants.{NoMemory};
@@ -20,8 +20,8 @@ use std::io::Write;
 use uuid::Uuid;
 
 /// Makes a store of `hives` empty hives, 1 to 16, under an id, and writes whether it is made: `ok`, or the refusal's
-/// line. Answers the status. Each hive has a root without a name, values and subkeys. What the store's files contained
-/// before is lost.
+/// line. Answers the status. Each hive has a root without a name, values and subkeys. So has one hive more, which the
+/// store has for the outcomes of commits. What the store's files contained before is lost.
 ///
 /// The text reports `NoMemory`: nothing has changed on the disk then. It reports `DiskFault` if the device failed:
 /// nothing is promised of the store's files then. `Err` says that a write to the writer failed; the same holds of the
@@ -42,7 +42,7 @@ pub fn make_new<D: Disk, W: Write>(
         IsNewStore id trees (D.state_at disk.new (D.clock disk.new))))
         (IsNotMade (D.failures disk.old < D.failures disk.new) (disk.new ≡ disk.old)
         (λ why. why ≡ NoMemory)) }
-    ensures stays { TouchesOwnFiles (IsOfStore hives) (D.state_at disk.old) (D.state_at disk.new)
+    ensures stays { TouchesOwnFiles (IsOfStore (hives + 1)) (D.state_at disk.old) (D.state_at disk.new)
         (D.clock disk.old) (D.clock disk.new) }
     ensures faithful { D.faithful disk.new → D.faithful disk.old }
 {
@@ -58,7 +58,7 @@ fn make_fresh<D: Disk>(alloc: Global, disk: &mut D, id: Uuid, hives: usize) -> R
         IsNewStore id (replicate hives fresh_tree) (D.state_at disk.new (D.clock disk.new))) }
     ensures refused { IfErr result (IsNotMade (D.failures disk.old < D.failures disk.new)
         (disk.new ≡ disk.old) (λ why. why ≡ NoMemory)) }
-    ensures stays { TouchesOwnFiles (IsOfStore hives) (D.state_at disk.old) (D.state_at disk.new)
+    ensures stays { TouchesOwnFiles (IsOfStore (hives + 1)) (D.state_at disk.old) (D.state_at disk.new)
         (D.clock disk.old) (D.clock disk.new) }
     ensures faithful { D.faithful disk.new → D.faithful disk.old }
 {

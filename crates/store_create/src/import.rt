@@ -111,8 +111,9 @@ impl Import {
     }
 
     /// Makes a store of the hives in all files that were taken, of which there is at least one, under an id. A hive's
-    /// bins data, root and minor version stay as they are in its file. Writes whether the store is made: `ok`, or the
-    /// refusal's line. Answers the status. What the store's files contained before is lost.
+    /// bins data, root and minor version stay as they are in its file. After them comes a new hive for the outcomes of
+    /// commits. Writes whether the store is made: `ok`, or the refusal's line. Answers the status. What the store's files
+    /// contained before is lost.
     ///
     /// The text reports the refusal of the first file that holds no hive: `HiveDamaged` of the hive that it was to be,
     /// `Unsupported` or `TooLarge`; or `NoMemory`. Nothing has changed on the disk then. It reports `DiskFault` if the
@@ -134,7 +135,7 @@ impl Import {
             IsImportedStore id files trees (D.state_at disk.new (D.clock disk.new))))
             (IsNotMade (D.failures disk.old < D.failures disk.new) (disk.new ≡ disk.old)
             (IsRefusedImport files)) }
-        ensures stays { TouchesOwnFiles (IsOfStore self.count) (D.state_at disk.old) (D.state_at disk.new)
+        ensures stays { TouchesOwnFiles (IsOfStore (self.count + 1)) (D.state_at disk.old) (D.state_at disk.new)
             (D.clock disk.old) (D.clock disk.new) }
         ensures faithful { D.faithful disk.new → D.faithful disk.old }
     {

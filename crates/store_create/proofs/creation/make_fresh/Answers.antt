@@ -1,6 +1,5 @@
-use Rattle.std.proofs.Common.{◌≡◌, ◌<◌, List, length, OnOk, replicate, subst}
+use Rattle.std.proofs.Common.{◌≡◌, ◌<◌, List, OnOk, subst}
 use Rattle.refusals.specs.declared.refusal.Refusal.TheVariants.{NoMemory}
-use Rattle.reg_tree.specs.Fresh.{fresh_tree}
 use Rattle.reg_tree.specs.Maps.{TreeMap}
 use Rattle.recovery.specs.Created.{IsRefusedFor}
 use Rattle.store_create.specs.Creations.{IsNewStore}

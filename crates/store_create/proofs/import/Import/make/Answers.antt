@@ -29,6 +29,7 @@ returns-in-Ok-clause-made g c = λ files has.
           of_files = may_be files fronts;
           made = record {
             journal = (stored.2 f).0.journal;
+            outcomes = (stored.2 f).0.outcomes;
             hives = λ i file tree at is.
                 let front = front_of files fronts are i file at in
                 let copy = (stored.2 f).0.hives i front.0 tree front.1 is in

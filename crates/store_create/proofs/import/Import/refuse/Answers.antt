@@ -1,4 +1,4 @@
-use Rattle.std.proofs.Common.{◌≡◌, ◌∙◌, ◌+◌, ap, refl}
+use Rattle.std.proofs.Common.{◌+◌, ap, refl}
 use Rattle.store_create.specs.Imports.{Taken}
 use Rattle.store_create.proofs.Takings.{taken_without_memory}
 use Rattle.store_create.proofs.import.Import.refuse.Goals as goal
