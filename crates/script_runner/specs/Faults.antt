@@ -1,5 +1,5 @@
 -- Replies that report the device, and machines reached from others.
-use Rattle.std.specs.Prelude.{◌≡◌, Bool, true, false, List}
+use Rattle.std.specs.Prelude.{Bool, false, List}
 use Rattle.script_syntax.specs.declared.reply.ReplyLine.{ReplyLine}
 use Rattle.script_syntax.specs.declared.reply.ReplyLine.TheVariants as reply
 use Rattle.store_model.specs.Machine.{Machine, is_of_device}

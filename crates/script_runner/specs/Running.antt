@@ -7,7 +7,7 @@ use Rattle.reg_tree.specs.Maps.{TreeMap}
 use Rattle.crash_model.specs.Promises.{Content}
 use Rattle.change_codec.specs.ModelChanges.{TimedOp}
 use Rattle.commit_journal.specs.Store.{Store, room_of}
-use Rattle.store_model.specs.Machine.{Machine, bounds_of, opened_machine}
+use Rattle.store_model.specs.Machine.{Machine, bounds_for, opened_machine}
 use Rattle.commit_journal.specs.Journals.{choice_of}
 use Rattle.recovery.specs.Recovered.{IsNoStore, IsRecovered, seen_in}
 use Rattle.recovery.specs.Shown.{Shown}
@@ -16,10 +16,11 @@ use Rattle.disk_model.specs.StoreFiles.{journal_file}
 use Rattle.engine_invariant.specs.Prefixes.{IsPrefix, IsSafeAt, JournalDecodesTo}
 use Rattle.engine.specs.Lives.{ReachedFromOpening, IsLife, IsSafe, Life, ReadsSafely, end_of, faulted_in}
 
--- the machine of a store that was opened at a number and trees, whose journal takes `room` bytes, with these sessions
--- open
-abbrev pub BeginsAt : ℕ → List TreeMap → ℕ → List ℕ → Machine → Type 0
-BeginsAt number trees room sessions machine = machine ≡ record (opened_machine (bounds_of trees) trees number [] 0) { room = room; sessions = sessions }
+-- the machine of a store whose calls name this many hives, which was opened at a number and trees, whose journal takes
+-- `room` bytes, with these sessions open
+abbrev pub BeginsAt : ℕ → ℕ → List TreeMap → ℕ → List ℕ → Machine → Type 0
+BeginsAt hives number trees room sessions machine =
+    machine ≡ record (opened_machine (bounds_for hives) trees number [] 0) { room = room; sessions = sessions }
 
 -- session 0 alone
 abbrev pub session_0 : List ℕ
@@ -38,7 +39,7 @@ room_in opened = 65 + room_of (choice_of opened.found.journal).now.elements
 pub record IsOpenedOn (faithful : Type 0) (files : ℕ → List ℕ) (store : Store) (number : ℕ) (sessions : List ℕ) (machine : Machine) : Type 0 where
   pub trees : List TreeMap
   pub room : ℕ
-  pub begins : BeginsAt number trees room sessions machine
+  pub begins : BeginsAt store.hives number trees room sessions machine
   pub recovered : faithful → IsRecovered files store number trees
   pub room_is : faithful → IsRoomOf files store room
 
@@ -69,7 +70,7 @@ pub record LifeReaches (failed : Type 0) (store : Store) (last : Machine) (end :
 
 -- Since a store was opened at a number and trees, a machine has reached such a state.
 abbrev pub HasLived : Type 0 → Store → ℕ → List TreeMap → (ℕ → FileState) → Type 0
-HasLived failed store number trees end = (last : Machine) × ReachedFromOpening number trees last × LifeReaches failed store last end
+HasLived failed store number trees end = (last : Machine) × ReachedFromOpening store number trees last × LifeReaches failed store last end
 
 -- What is left of files is what a life of a store leaves, if the device has answered as it should. Each file is as it
 -- was or synced. Or what the files recover was opened, and whatever a crash leaves then is a prefix of what was

@@ -4,7 +4,7 @@ use Rattle.refusals.specs.declared.refusal.Refusal.{Refusal}
 use Rattle.refusals.specs.declared.refusal.Refusal.TheVariants.{NoMemory, NoSuchHandle}
 use Rattle.script_syntax.specs.Lines.{line_of}
 use Rattle.script_syntax.specs.declared.line.Line.{Line}
-use Rattle.script_syntax.specs.declared.line.Line.TheVariants.{Hives, History, At, Session, End, Plain, Begin, Inside, Commit, Rollback, Close, Outcome, Flush, Fold, Lab}
+use Rattle.script_syntax.specs.declared.line.Line.TheVariants.{Hives, History, At, Session, End, Plain, Begin, Inside, Commit, Rollback, Close, Outcome, Kept, Flush, Fold, Lab}
 use Rattle.script_syntax.specs.declared.reply.ReplyLine.{ReplyLine}
 use Rattle.script_syntax.specs.declared.reply.ReplyLine.TheVariants as reply
 use Rattle.store_model.specs.Machine.{Machine, bounds_for, fresh_machine, with_history}
@@ -86,6 +86,7 @@ reply_of answer.Opened = reply.Opened
 reply_of (answer.Read found) = found_reply found
 reply_of (answer.Begun tx) = reply.Done
 reply_of (answer.OutcomeIs outcome) = outcome_reply outcome
+reply_of (answer.CommittedAs number) = reply.Committed number
 reply_of (answer.Refused refusal) = reply.Refused refusal
 reply_of (answer.Awaits number) = reply.Accepted number
 reply_of (answer.Receipt number) = reply.Done
@@ -189,6 +190,7 @@ Answers old (Commit label) reported new =
 Answers old (Rollback label) reported new = IsLabelled (old.labels label) (λ tx. Asks old (event.Rollback old.session tx) reported new) old reported new
 Answers old (Close label) reported new = IsLabelled (old.labels label) (λ tx. Asks old (event.Close old.session tx) reported new) old reported new
 Answers old (Outcome label) reported new = IsLabelled (old.labels label) (λ tx. Asks old (event.Outcome old.session tx) reported new) old reported new
+Answers old (Kept id) reported new = Asks old (event.OutcomeOf id) reported new
 Answers old Flush reported new = AsksAndWaits old event.FlushAsk reply.Flushed reported new
 Answers old Fold reported new = Asks old event.Fold reported new
 Answers old (Lab line) reported new = ⊥
@@ -208,6 +210,7 @@ first_line (Some (Commit label)) = None
 first_line (Some (Rollback label)) = None
 first_line (Some (Close label)) = None
 first_line (Some (Outcome label)) = None
+first_line (Some (Kept id)) = None
 first_line (Some Flush) = None
 first_line (Some Fold) = None
 first_line (Some (Lab line)) = None
@@ -232,6 +235,7 @@ later_line (Some (Commit label)) = Some (Commit label)
 later_line (Some (Rollback label)) = Some (Rollback label)
 later_line (Some (Close label)) = Some (Close label)
 later_line (Some (Outcome label)) = Some (Outcome label)
+later_line (Some (Kept id)) = Some (Kept id)
 later_line (Some Flush) = Some Flush
 later_line (Some Fold) = Some Fold
 later_line (Some (Lab line)) = None

@@ -161,6 +161,7 @@ impl<D: Disk> Interpreter<D> {
             Line::Rollback { label } => self.rollback(label),
             Line::Close { label } => self.close(label),
             Line::Outcome { label } => self.outcome(label),
+            Line::Kept { id } => Ok(self.ask(Event::OutcomeOf { id })),
             Line::Flush => Ok(self.flush()),
             Line::Fold => Ok(self.ask(Event::Fold)),
         };

@@ -19,6 +19,7 @@ pub fn reply_of(answer: Reply) -> ReplyLine
         Reply::Opened => ReplyLine::Opened,
         Reply::Read { found } => found_reply(found),
         Reply::OutcomeIs { outcome } => outcome_reply(outcome),
+        Reply::CommittedAs { number } => ReplyLine::Committed { number },
         Reply::Refused { refusal } => ReplyLine::Refused { refusal },
         Reply::Awaits { number } => ReplyLine::Accepted { number },
         Reply::Stepped { progress } => step_reply(progress),

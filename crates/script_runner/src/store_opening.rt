@@ -119,8 +119,8 @@ fn repair<D: Disk>(opened: &mut Opened<D>) -> Result<(), Refusal>
 // an engine over it
 fn begun<D: Disk>(alloc: Global, opened: Opened<D>) -> Result<Engine<D>, (Refusal, D)>
     requires { StoreIsRepaired opened }
-    ensures begins { IfOk result (λ engine. BeginsAt opened.found.number opened.found.trees
-        (room_in opened) [] engine.machine) }
+    ensures begins { IfOk result (λ engine. BeginsAt (store_of opened).hives opened.found.number
+        opened.found.trees (room_in opened) [] engine.machine) }
     ensures store { IfOk result (λ engine. engine.store ≡ store_of opened) }
     ensures disk { IfOk result (λ engine. engine.disk ≡ opened.disk) }
     ensures err { IfErr result (λ back. back.0 ≡ NoMemory) }

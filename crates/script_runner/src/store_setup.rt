@@ -1,8 +1,9 @@
 //! A new store on a disk in memory.
-ghost use Rattle.std.specs.Prelude.{◌≡◌, ◌≤◌, [], ℕ, Some, None, IfOk, IfSome, IfNone, OnOk, length};
+ghost use Rattle.std.specs.Prelude.{◌≡◌, ◌≤◌, ◌++◌, ◌∷◌, [], ℕ, Some, None, IfOk, IfSome, IfNone, OnOk, length};
 ghost use Rattle.refusals.specs.declared.limits.TheConstants.{MOST_HIVES, MOST_JOURNAL_BYTES};
 ghost use Rattle.disk_model.specs.Room.{IsRoomy};
-ghost use Rattle.store_model.specs.Machine.{bounds_for, bounds_of, fresh_machine, opened_machine};
+ghost use Rattle.reg_tree.specs.Fresh.{fresh_tree};
+ghost use Rattle.store_model.specs.Machine.{bounds_for, fresh_machine, opened_machine};
 ghost use Rattle.store_model.specs.Steps.{with_session};
 ghost use Rattle.commit_journal.specs.Store.{Store};
 ghost use Rattle.recovery.specs.Recovered.{IsRecovered, seen_in};
@@ -96,12 +97,12 @@ fn new_store(alloc: Global, hives: u8, plan: Arc<Plan>) -> Result<Engine<MemDisk
     begun(alloc, opened)
 }
 
-// a disk with a new store of these trees
+// a disk with a new store of these trees, which has a new hive for outcomes besides
 fn disk_with(alloc: Global, trees: &Trees, plan: Arc<Plan>) -> Result<MemDisk, Refusal>
     requires few { length trees.now ≤ MOST_HIVES }
-    ensures { IfOk result (λ disk. (store : Store) ×
-        IsRecovered (seen_in (⟦<MemDisk as Disk>⟧.state_at disk (⟦<MemDisk as Disk>⟧.clock disk)))
-        store 0 trees.now) }
+    ensures { IfOk result (λ disk. (store : Store) × (store.hives ≡ length trees.now)
+        × IsRecovered (seen_in (⟦<MemDisk as Disk>⟧.state_at disk (⟦<MemDisk as Disk>⟧.clock disk)))
+        store 0 (trees.now ++ fresh_tree ∷ [])) }
 {
     let mut disk = roomy_disk(alloc, plan)?;
     create(alloc, &mut disk, Uuid::nil(), trees)?;
@@ -124,7 +125,8 @@ fn opened_on(alloc: Global, disk: MemDisk) -> Result<Opened<MemDisk>, Refusal>
 fn begun(alloc: Global, opened: Opened<MemDisk>) -> Result<Engine<MemDisk>, Refusal>
     requires { StoreIsRepaired opened }
     ensures { IfOk result (λ engine. opened.found.number ≡ 0 →
-        engine.machine ≡ opened_machine (bounds_of opened.found.trees) opened.found.trees 0 [] 0) }
+        engine.machine
+        ≡ opened_machine (bounds_for (store_of opened).hives) opened.found.trees 0 [] 0) }
 {
     // in two parts its invariant is known
     let (disk, found) = opened.into_parts();

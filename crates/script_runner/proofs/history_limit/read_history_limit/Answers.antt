@@ -1,5 +1,4 @@
-use Rattle.std.proofs.Common.{◌≡◌, ◌≤◌, ◌∙◌, ℕ, Some, ap}
-use Rattle.refusals.specs.declared.limits.TheConstants.{MOST_HISTORY}
+use Rattle.std.proofs.Common.{◌≡◌, ◌∙◌, Some, ap}
 use Rattle.script_syntax.specs.Lines.{line_of}
 use Rattle.script_syntax.specs.Grammar.{BytesParseTo}
 use Rattle.script_syntax.specs.declared.line.Line.TheVariants.{History}

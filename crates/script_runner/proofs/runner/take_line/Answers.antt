@@ -1,5 +1,4 @@
 use Rattle.std.proofs.Common.{refl, sym, subst}
-use Rattle.std.specs.Prelude.{IfOk}
 use Rattle.script_runner.proofs.Runs.{ends_here, if_ok, taken_so, to_end}
 use Rattle.script_runner.specs.Interpreters.{script_of}
 use Rattle.script_runner.specs.OutcomeOfLine.{AnswerOfLine, OutcomeOfLine, TakesLine}

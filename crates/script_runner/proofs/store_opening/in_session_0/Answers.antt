@@ -1,5 +1,5 @@
-use Rattle.std.proofs.Common.{◌≡◌, Result, inl, sym, subst}
-use Rattle.std.specs.Prelude.{IfErr, IfOk}
+use Rattle.std.proofs.Common.{Result, inl, sym, subst}
+use Rattle.std.specs.Prelude.{IfErr}
 use Rattle.store_model.specs.Machine.{Machine}
 use Rattle.engine_invariant.specs.Prefixes.{IsSafeAt}
 use Rattle.commit_journal.specs.Store.{Store}

@@ -3,7 +3,7 @@ use Rattle.std.proofs.lemmas.Result.{err_from_is_err_and}
 use Rattle.commit_journal.specs.Store.{Store}
 use Rattle.recovery.specs.Recovered.{IsRecovered, seen_in}
 use Rattle.recovery.specs.Shown.{store_of}
-use Rattle.script_runner.specs.Running.{BeginsAt, IsOpenedOn, IsRoomOf, room_in}
+use Rattle.script_runner.specs.Running.{BeginsAt, IsOpenedOn, room_in}
 use Rattle.script_runner.proofs.Ran.{left_opened}
 use Rattle.script_runner.proofs.store_opening.open_engine.Goals as goal
 
@@ -19,7 +19,10 @@ returns-clause-ok g c =
     subst (λ (s : Store). IsOpenedOn (D.faithful engine.disk) files s c.number-number.result [] engine.machine) (sym (c.in_ok-engine.ensures.store ∙ same.2)) (record {
       trees = whole.found.trees;
       room = room_in first;
-      begins = subst (λ n. BeginsAt n whole.found.trees (room_in first) [] engine.machine) (sym c.number-number.ensures) (subst (λ r. BeginsAt whole.found.number whole.found.trees r [] engine.machine) same.3 c.in_ok-engine.ensures.begins);
+      begins =
+          subst (λ (s : Store). BeginsAt s.hives c.number-number.result whole.found.trees (room_in first) [] engine.machine) same.2
+          (subst (λ n. BeginsAt (store_of whole).hives n whole.found.trees (room_in first) [] engine.machine) (sym c.number-number.ensures)
+          (subst (λ r. BeginsAt (store_of whole).hives whole.found.number whole.found.trees r [] engine.machine) same.3 c.in_ok-engine.ensures.begins));
       recovered = λ f.
           subst (λ n. IsRecovered files (store_of first) n whole.found.trees) (sym same.0 ∙ sym c.number-number.ensures)
           (subst (λ trees. IsRecovered files (store_of first) first.found.number trees) (sym same.1) (c.in_ok-found.ensures.recovered (was f)));

@@ -39,4 +39,4 @@ returns-in_err-begun-clause-left g c =
     let whole : first.machine.faulted ≡ false = ap (λ (m : Machine). m.faulted) opened.begins in
     rw (p.1, p.2) (left_begun failed (HasFailedSince first.machine (D.failures first.disk) (D.failures back.1)) (D.faithful back.1) (D.faithful first.disk) (D.state_at c.args.disk (D.clock c.args.disk)) (D.state_at back.1 (D.clock back.1)) first.store number [] first.machine
     (λ since. elim (since) [ inl was ↦ absurd (true≢false (sym was ∙ whole)) | inr rose ↦ (let lt : failed = omega (arith, rose, c.in_ok-engine.ensures.failures) in lt) ])
-    e.back opened (opened_came number opened.room opened.trees first.machine opened.begins) e.left)
+    e.back opened (opened_came first.store number opened.room opened.trees first.machine opened.begins) e.left)

@@ -1,12 +1,12 @@
 use Rattle.std.proofs.Common.{Ok, refl, ap, sym, subst}
-use Rattle.script_syntax.specs.declared.line.Line.TheVariants.{At, Session, End, Plain, Inside, Begin, Commit, Rollback, Close, Outcome, Flush, Fold}
+use Rattle.script_syntax.specs.declared.line.Line.TheVariants.{At, Session, End, Plain, Inside, Begin, Commit, Rollback, Close, Outcome, Kept, Flush, Fold}
 use Rattle.script_syntax.specs.declared.reply.ReplyLine.TheVariants.{Done}
 use Rattle.script_runner.proofs.Answered.{carried}
 use Rattle.script_runner.proofs.Later.{later_same}
 use Rattle.script_runner.specs.Later.{IsLater}
 use Rattle.script_runner.specs.declared.interpreter.Interpreter.{Interpreter}
 use Rattle.script_runner.specs.Interpreters.{script_of}
-use Rattle.script_runner.proofs.interpreter.Interpreter.answer.Goals.{in-At, in-Session, in-End, in-Plain, in-Inside, in-Begin, in-Commit, in-Rollback, in-Close, in-Outcome, in-Flush, in-Fold}
+use Rattle.script_runner.proofs.interpreter.Interpreter.answer.Goals.{in-At, in-Session, in-End, in-Plain, in-Inside, in-Begin, in-Commit, in-Rollback, in-Close, in-Outcome, in-Kept, in-Flush, in-Fold}
 use Rattle.script_runner.proofs.interpreter.Interpreter.answer.Goals as goal
 
 pub returns-in-Ok-clause-reported : goal.returns-in-Ok-clause-reported
@@ -26,6 +26,7 @@ returns-in-Ok-clause-reported g c =
       | in-Rollback w ↦ carried old (script_of w.rollback-reported.new.self) then line (Rollback w.in-Rollback.label) w.rollback-reported.result reported c.in-Ok.reported w.in-Rollback.is refl w.reported-is c.in-Ok.is (ap script_of w.self-is) w.rollback-reported.ensures.ok
       | in-Close w ↦ carried old (script_of w.close-reported.new.self) then line (Close w.in-Close.label) w.close-reported.result reported c.in-Ok.reported w.in-Close.is refl w.reported-is c.in-Ok.is (ap script_of w.self-is) w.close-reported.ensures.ok
       | in-Outcome w ↦ carried old (script_of w.outcome-reported.new.self) then line (Outcome w.in-Outcome.label) w.outcome-reported.result reported c.in-Ok.reported w.in-Outcome.is refl w.reported-is c.in-Ok.is (ap script_of w.self-is) w.outcome-reported.ensures.ok
+      | in-Kept w ↦ carried old (script_of w.ask-in-Kept.new.self) then line (Kept w.in-Kept.id) (Ok w.ask-in-Kept.result) reported c.in-Ok.reported w.in-Kept.is refl w.reported-is c.in-Ok.is (ap script_of w.self-is) w.ask-in-Kept.ensures.reported
       | in-Flush w ↦ carried old (script_of w.flush.new.self) then line Flush (Ok w.flush.result) reported c.in-Ok.reported w.in-Flush.is refl w.reported-is c.in-Ok.is (ap script_of w.self-is) w.flush.ensures.reported
       | in-Fold w ↦ carried old (script_of w.ask-in-Fold.new.self) then line Fold (Ok w.ask-in-Fold.result) reported c.in-Ok.reported w.in-Fold.is refl w.reported-is c.in-Ok.is (ap script_of w.self-is) w.ask-in-Fold.ensures.reported
     ]
@@ -45,6 +46,7 @@ returns-in-Ok-clause-later g c =
       | in-Rollback w ↦ subst (λ (p : Interpreter _). IsLater D.faithful D.failures old.engine p.engine) (sym w.self-is) w.rollback-reported.ensures.later
       | in-Close w ↦ subst (λ (p : Interpreter _). IsLater D.faithful D.failures old.engine p.engine) (sym w.self-is) w.close-reported.ensures.later
       | in-Outcome w ↦ subst (λ (p : Interpreter _). IsLater D.faithful D.failures old.engine p.engine) (sym w.self-is) w.outcome-reported.ensures.later
+      | in-Kept w ↦ subst (λ (p : Interpreter _). IsLater D.faithful D.failures old.engine p.engine) (sym w.self-is) w.ask-in-Kept.ensures.later
       | in-Flush w ↦ subst (λ (p : Interpreter _). IsLater D.faithful D.failures old.engine p.engine) (sym w.self-is) w.flush.ensures.later
       | in-Fold w ↦ subst (λ (p : Interpreter _). IsLater D.faithful D.failures old.engine p.engine) (sym w.self-is) w.ask-in-Fold.ensures.later
     ]
@@ -64,6 +66,7 @@ returns-in-Err-clause-later g c =
       | in-Rollback w ↦ subst (λ (p : Interpreter _). IsLater D.faithful D.failures old.engine p.engine) (sym w.self-is) w.rollback-reported.ensures.later
       | in-Close w ↦ subst (λ (p : Interpreter _). IsLater D.faithful D.failures old.engine p.engine) (sym w.self-is) w.close-reported.ensures.later
       | in-Outcome w ↦ subst (λ (p : Interpreter _). IsLater D.faithful D.failures old.engine p.engine) (sym w.self-is) w.outcome-reported.ensures.later
+      | in-Kept w ↦ subst (λ (p : Interpreter _). IsLater D.faithful D.failures old.engine p.engine) (sym w.self-is) w.ask-in-Kept.ensures.later
       | in-Flush w ↦ subst (λ (p : Interpreter _). IsLater D.faithful D.failures old.engine p.engine) (sym w.self-is) w.flush.ensures.later
       | in-Fold w ↦ subst (λ (p : Interpreter _). IsLater D.faithful D.failures old.engine p.engine) (sym w.self-is) w.ask-in-Fold.ensures.later
     ]
