@@ -9,8 +9,8 @@ use Rattle.script_runner.specs.Scripts.{later_line}
 use Rattle.registry_runner.specs.Scripts.{Script, Answers}
 
 -- what was reported for one of a script's later lines is an answer to the line
-pub carried : (trees : List TreeMap) (number : ℕ) (old new then : Script) (line one : Line) (result reported : Result ReplyLine Refusal) (reply : ReplyLine) → line ≡ one → later_line (Some one) ≡ Some one → reported ≡ result → reported ≡ Ok reply → then ≡ new → IfOk result (λ t. Answers trees number old one t new)
-    → (later_line (Some line) ≡ Some line) × Answers trees number old line reply then
-carried trees number old new then line one result reported reply is later from ok same said =
-    let here = subst (λ r. IfOk r (λ t. Answers trees number old one t new)) (sym from ∙ ok) said in
-    subst (λ l. (later_line (Some l) ≡ Some l) × Answers trees number old l reply then) (sym is) (later, subst (λ s. Answers trees number old one reply s) (sym same) here)
+pub carried : (trees : List TreeMap) (number hives : ℕ) (old new then : Script) (line one : Line) (result reported : Result ReplyLine Refusal) (reply : ReplyLine) → line ≡ one → later_line (Some one) ≡ Some one → reported ≡ result → reported ≡ Ok reply → then ≡ new → IfOk result (λ t. Answers trees number hives old one t new)
+    → (later_line (Some line) ≡ Some line) × Answers trees number hives old line reply then
+carried trees number hives old new then line one result reported reply is later from ok same said =
+    let here = subst (λ r. IfOk r (λ t. Answers trees number hives old one t new)) (sym from ∙ ok) said in
+    subst (λ l. (later_line (Some l) ≡ Some l) × Answers trees number hives old l reply then) (sym is) (later, subst (λ s. Answers trees number hives old one reply s) (sym same) here)

@@ -15,7 +15,7 @@ use Rattle.store_model.specs.declared.event.Event.TheVariants as event
 use Rattle.store_model.specs.declared.event.Reply.{Reply}
 use Rattle.store_model.specs.declared.event.Reply.TheVariants as reply
 use Rattle.ktm_calls.specs.Moments.{IsOf}
-use Rattle.registry_runner.specs.Folding.{HasAllHives, HistoryStays, IsFoldedAt, IsIdle}
+use Rattle.registry_runner.specs.Folding.{HistoryStays, IsFoldedAt, IsIdle}
 use Rattle.registry_runner.specs.Parts.{MayNotFold}
 use Rattle.registry_runner.specs.Running.{IsOfStore}
 
@@ -51,18 +51,18 @@ step_stays old new (reply.Refused why) (inr fails) =
 step_stays old new _ step = absurd step
 
 -- a fold leaves a machine of which a registry may be made
-pub folded_at : (old mid new : Machine) (number : ℕ) → HistoryStays old mid → HasAllHives old → old.sessions ≡ [] → length new.opened ≡ length mid.opened → Step mid event.Fold (reply.Folded number) new → IsFoldedAt old new number
-folded_at old mid new number stays hives sessions count step =
+pub folded_at : (old mid new : Machine) (number : ℕ) → HistoryStays old mid → old.sessions ≡ [] → Step mid event.Fold (reply.Folded number) new → IsFoldedAt old new number
+folded_at old mid new number stays sessions step =
     let opened = ap (λ (m : Machine). m.opened) step.next in
     let bounds = ap (λ (m : Machine). m.bounds) step.next ∙ stays.bounds in
     record {
       idle = (
-        ap (λ (b : StoreBounds). b.hives) bounds ∙ hives ∙ ap length (sym stays.opened) ∙ sym count,
         ap (λ (m : Machine). m.accepted) step.next,
         ap (λ (m : Machine). m.sessions) step.next ∙ stays.sessions ∙ sessions,
       );
       opened = opened ∙ ap (after_elements mid.opened) stays.accepted ∙ ap (λ (trees : List TreeMap). after_elements trees old.accepted) stays.opened;
       before = ap (λ (m : Machine). m.before) step.next ∙ ap (λ (list : List Element). mid.before + length list) stays.accepted ∙ ap (λ n. n + length old.accepted) stays.before;
+      hives = ap (λ (b : StoreBounds). b.hives) bounds;
       number = step.told ∙ ap (λ (list : List Element). mid.before + length list) stays.accepted ∙ ap (λ n. n + length old.accepted) stays.before;
     }
 
@@ -73,12 +73,12 @@ after_both trees [] back = refl
 after_both trees (element ∷ front) back = after_both (applied trees element.ops element.moment) front back
 
 -- the machine of a registry whose part began at these trees and this number is of the store
-pub of_store : (trees : List TreeMap) (number : ℕ) (folded : List Element) (start last : Machine) → IsOf (after_elements trees folded) (number + length folded) start → IsOf start.opened start.before last → IsOfStore trees number last
-of_store trees number folded start last was is = (folded, record { opened = is.opened ∙ was.opened; before = is.before ∙ was.before; hives = is.hives ∙ ap length was.opened })
+pub of_store : (trees : List TreeMap) (number hives : ℕ) (folded : List Element) (start last : Machine) → IsOf (after_elements trees folded) (number + length folded) hives start → IsOf start.opened start.before start.bounds.hives last → IsOfStore trees number hives last
+of_store trees number hives folded start last was is = (folded, record { opened = is.opened ∙ was.opened; before = is.before ∙ was.before; hives = is.hives ∙ was.hives })
 
 -- and so is the machine after a fold
-pub folded_of_store : (trees : List TreeMap) (number told : ℕ) (old new : Machine) → IsOfStore trees number old → IsFoldedAt old new told → IsOfStore trees number new
-folded_of_store trees number told old new was is =
+pub folded_of_store : (trees : List TreeMap) (number hives told : ℕ) (old new : Machine) → IsOfStore trees number hives old → IsFoldedAt old new told → IsOfStore trees number hives new
+folded_of_store trees number hives told old new was is =
     let front = was.0 in
     let opens = is.opened ∙ ap (λ (t : List TreeMap). after_elements t old.accepted) was.1.opened ∙ after_both trees front old.accepted in
     let counts : number + length front + length old.accepted ≡ number + length (front ++ old.accepted) = omega (arith, length-append front old.accepted) in (
@@ -86,12 +86,9 @@ folded_of_store trees number told old new was is =
       record {
         opened = opens;
         before = is.before ∙ ap (λ n. n + length old.accepted) was.1.before ∙ counts;
-        hives = is.idle.0 ∙ ap length opens;
+        hives = is.hives ∙ was.1.hives;
       },
     )
 
-pub all_hives : (trees : List TreeMap) (number : ℕ) (machine : Machine) → IsOf trees number machine → HasAllHives machine
-all_hives trees number machine of = of.hives ∙ ap length (sym of.opened)
-
-pub is_own : (machine : Machine) → IsIdle machine → IsOf machine.opened machine.before machine × (machine.accepted ≡ []) × (machine.sessions ≡ [])
-is_own machine idle = (record { opened = refl; before = refl; hives = idle.0 }, idle.1, idle.2)
+pub is_own : (machine : Machine) → IsIdle machine → IsOf machine.opened machine.before machine.bounds.hives machine × (machine.accepted ≡ []) × (machine.sessions ≡ [])
+is_own machine idle = (record { opened = refl; before = refl; hives = refl }, idle.0, idle.1)

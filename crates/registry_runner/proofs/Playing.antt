@@ -46,41 +46,41 @@ continued_text (Ok part) = refl
 continued_text (Err why) = refl
 
 -- a part of these trees and this number
-abbrev pub part : List TreeMap → ℕ → Script → Part
-part trees number script = record { trees = trees; number = number; script = script }
+abbrev pub part : List TreeMap → ℕ → ℕ → Script → Part
+part trees number hives script = record { trees = trees; number = number; hives = hives; script = script }
 
-module _ (limit : ℕ) (trees : List TreeMap) (first : ℕ) where
-  same_part : (old new : Script) → new ≡ old → ◌≡◌ {A = Result Part Refusal} (Ok (part trees first new)) (Ok (part trees first old))
-  same_part old new same = ap (λ s. Ok (part trees first s)) same
+module _ (limit : ℕ) (trees : List TreeMap) (first hives : ℕ) where
+  same_part : (old new : Script) → new ≡ old → ◌≡◌ {A = Result Part Refusal} (Ok (part trees first hives new)) (Ok (part trees first hives old))
+  same_part old new same = ap (λ s. Ok (part trees first hives s)) same
 
   -- a line that is none ends the run
-  pub stops_wrong : (old new : Script) (number : ℕ) (known rest before after : Option (List ℕ)) (line : List ℕ) (status : Status) → TakesLine known rest line → line_asked line ≡ None → status ≡ Wrong → Appends before after (wrong_text number) → new ≡ old → IsPlayedOn limit true (Ok (part trees first old)) number known before after status (Ok (part trees first new))
+  pub stops_wrong : (old new : Script) (number : ℕ) (known rest before after : Option (List ℕ)) (line : List ℕ) (status : Status) → TakesLine known rest line → line_asked line ≡ None → status ≡ Wrong → Appends before after (wrong_text number) → new ≡ old → IsPlayedOn limit true (Ok (part trees first hives old)) number known before after status (Ok (part trees first hives new))
   stops_wrong old new number known rest before after line status taken none wrong written same =
       (line ∷ [], None, wrong_text number, one_read known rest line taken, inl (none, record { last = refl; stopped = refl; printed = refl; wrong = wrong }, same_part old new same), written)
 
   -- there is no further line
-  pub ends_here : (old new : Script) (number : ℕ) (known before after : Option (List ℕ)) (end_of_script : EndOfScript) (text : List ℕ) (status : Status) → WereRead known [] (Some end_of_script) → Ends end_of_script text status → Appends before after text → new ≡ old → IsPlayedOn limit true (Ok (part trees first old)) number known before after status (Ok (part trees first new))
+  pub ends_here : (old new : Script) (number : ℕ) (known before after : Option (List ℕ)) (end_of_script : EndOfScript) (text : List ℕ) (status : Status) → WereRead known [] (Some end_of_script) → Ends end_of_script text status → Appends before after text → new ≡ old → IsPlayedOn limit true (Ok (part trees first hives old)) number known before after status (Ok (part trees first hives new))
   ends_here old new number known before after end_of_script text status read how written same = ([], Some end_of_script, text, read, (how, same_part old new same), written)
 
   -- a line was answered, after what was written out
   pub turned : (old new : Script) (number : ℕ) (known rest before mid after : Option (List ℕ)) (line : List ℕ) (asked : Line) (reported : ReplyLine) (refused : Bool) (told : ℕ)
-      → TakesLine known rest line → line_asked line ≡ Some asked → Answers trees first old asked reported new → Keeps before mid → Appends mid after (reply_line reported) → refused ≡ is_refusal reported → told ≡ number_told reported
-      → OutcomeOfLine limit (part trees first old) number known before (outcome.Replied refused told) new rest after
+      → TakesLine known rest line → line_asked line ≡ Some asked → Answers trees first hives old asked reported new → Keeps before mid → Appends mid after (reply_line reported) → refused ≡ is_refusal reported → told ≡ number_told reported
+      → OutcomeOfLine limit (part trees first hives old) number known before (outcome.Replied refused told) new rest after
   turned old new number known rest before mid after line asked reported refused told taken is answered no_change written said numbered =
       (line, asked, reported, taken, is, answered, kept_appends before mid after (reply_line reported) no_change written, said, numbered)
 
   -- the script goes on in the same registry
-  pub goes_on : (old new : Script) (told : ℕ) (reported : ReplyLine) (failed : Bool) → told ≡ number_told reported → Between limit (part trees first old) told (between.GoOn failed) new → KeepsOrFolds limit (part trees first old) reported (Ok (part trees first new))
+  pub goes_on : (old new : Script) (told : ℕ) (reported : ReplyLine) (failed : Bool) → told ≡ number_told reported → Between limit (part trees first hives old) told (between.GoOn failed) new → KeepsOrFolds limit (part trees first hives old) reported (Ok (part trees first hives new))
   goes_on old new told reported failed numbered (inl same) = inl (same_part old new same)
-  goes_on old new told reported failed numbered (inr b) = inr (subst (IsDue limit (part trees first old)) numbered b.0, b.1, inl (b.2, new, b.3, refl))
+  goes_on old new told reported failed numbered (inr b) = inr (subst (IsDue limit (part trees first hives old)) numbered b.0, b.1, inl (b.2, new, b.3, refl))
 
   -- its history is folded unasked
-  pub folds_on : (old new : Script) (told : ℕ) (reported : ReplyLine) (next : Result Part Refusal) → told ≡ number_told reported → Between limit (part trees first old) told between.ToFold new → Folds (part trees first new) next → KeepsOrFolds limit (part trees first old) reported next
-  folds_on old new told reported next numbered b folds = inr (subst (IsDue limit (part trees first old)) numbered b.0, b.1, inr (new, b.2, folds))
+  pub folds_on : (old new : Script) (told : ℕ) (reported : ReplyLine) (next : Result Part Refusal) → told ≡ number_told reported → Between limit (part trees first hives old) told between.ToFold new → Folds (part trees first hives new) next → KeepsOrFolds limit (part trees first hives old) reported next
+  folds_on old new told reported next numbered b folds = inr (subst (IsDue limit (part trees first hives old)) numbered b.0, b.1, inr (new, b.2, folds))
 
   -- a line was answered, and the run continues
-  pub continues : (old new : Script) (kept end : Result Part Refusal) (number : ℕ) (known rest before reported mid after : Option (List ℕ)) (refused : Bool) (told : ℕ) (status : Status) (turn : OutcomeOfLine limit (part trees first old) number known before (outcome.Replied refused told) new rest reported)
-      → KeepsOrFolds limit (part trees first new) turn.2 kept → Keeps reported mid → IsPlayedOn limit true kept (number + 1) rest mid after status end → IsPlayedOn limit true (Ok (part trees first old)) number known before after (with_refusal refused status) end
+  pub continues : (old new : Script) (kept end : Result Part Refusal) (number : ℕ) (known rest before reported mid after : Option (List ℕ)) (refused : Bool) (told : ℕ) (status : Status) (turn : OutcomeOfLine limit (part trees first hives old) number known before (outcome.Replied refused told) new rest reported)
+      → KeepsOrFolds limit (part trees first hives new) turn.2 kept → Keeps reported mid → IsPlayedOn limit true kept (number + 1) rest mid after status end → IsPlayedOn limit true (Ok (part trees first hives old)) number known before after (with_refusal refused status) end
   continues old new kept end number known rest before reported mid after refused told status turn keeps no_change on =
       let line = turn.0 in
       let reply = turn.2 in (
@@ -93,8 +93,8 @@ module _ (limit : ℕ) (trees : List TreeMap) (first : ℕ) where
       )
 
   -- a line folded the history, and the run continues
-  pub continues_folded : (old new : Script) (next end : Result Part Refusal) (number : ℕ) (known rest before mid told after : Option (List ℕ)) (status : Status) → OutcomeOfLine limit (part trees first old) number known before outcome.ToFold new rest mid → Folds (part trees first new) next → Appends mid told (start_text Folded next)
-      → IsPlayedOn limit true next (number + 1) rest told after status end → IsPlayedOn limit true (Ok (part trees first old)) number known before after status end
+  pub continues_folded : (old new : Script) (next end : Result Part Refusal) (number : ℕ) (known rest before mid told after : Option (List ℕ)) (status : Status) → OutcomeOfLine limit (part trees first hives old) number known before outcome.ToFold new rest mid → Folds (part trees first hives new) next → Appends mid told (start_text Folded next)
+      → IsPlayedOn limit true next (number + 1) rest told after status end → IsPlayedOn limit true (Ok (part trees first hives old)) number known before after status end
   continues_folded old new next end number known rest before mid told after status turn folds printed on =
       let line = turn.0 in (
         line ∷ on.0,

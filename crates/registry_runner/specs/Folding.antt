@@ -3,13 +3,9 @@ use Rattle.std.specs.Prelude.{◌≡◌, ℕ, List, [], length}
 use Rattle.store_model.specs.Machine.{Machine, last_number, trees_now}
 use Rattle.ktm_calls.specs.Moments.{IsOf}
 
--- calls may name each hive
-abbrev pub HasAllHives : Machine → Type 0
-HasAllHives machine = machine.bounds.hives ≡ length machine.opened
-
 -- no change was accepted since the store was opened or its history was folded, and no session is open
 abbrev pub IsIdle : Machine → Type 0
-IsIdle machine = HasAllHives machine × (machine.accepted ≡ []) × (machine.sessions ≡ [])
+IsIdle machine = (machine.accepted ≡ []) × (machine.sessions ≡ [])
 
 -- the opening and the history stay, and the sessions and the bounds
 pub record HistoryStays (old new : Machine) : Type 0 where
@@ -24,4 +20,5 @@ pub record IsFoldedAt (old new : Machine) (told : ℕ) : Type 0 where
   pub idle : IsIdle new
   pub opened : new.opened ≡ trees_now old
   pub before : new.before ≡ last_number old
+  pub hives : new.bounds.hives ≡ old.bounds.hives
   pub number : told ≡ last_number old

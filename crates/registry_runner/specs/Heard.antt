@@ -10,7 +10,7 @@ use Rattle.script_runner.specs.declared.operation.Operation.{Operation}
 use Rattle.script_runner.specs.declared.operation.Operation.TheVariants.{Write, Read}
 use Rattle.script_syntax.specs.declared.reply.ReplyLine.{ReplyLine}
 use Rattle.script_syntax.specs.declared.reply.ReplyLine.TheVariants as reply
-use Rattle.store_model.specs.Machine.{looked_up, read_refusal}
+use Rattle.store_model.specs.Machine.{read_refusal}
 use Rattle.store_model.specs.declared.event.Event.{Event}
 use Rattle.store_model.specs.declared.event.Event.TheVariants as event
 use Rattle.store_model.specs.declared.event.ReadResult.{ReadResult}
@@ -18,6 +18,8 @@ use Rattle.store_model.specs.declared.handle.Tx.{Tx}
 use Rattle.ktm_calls.specs.Denials.{IsCommitDenied}
 use Rattle.ktm_calls.specs.Kinds.{Told}
 use Rattle.ktm_calls.specs.Moments.{NumberedList, Tells, TellsDurably}
+use Rattle.ktm_calls.specs.Outcomes.{HasNoOutcome, HasOutcome}
+use Rattle.ktm_calls.specs.Reads.{read_within}
 use Rattle.ktm_calls.specs.declared.registry.Denied.{Denied}
 use Rattle.ktm_calls.specs.declared.registry.Denied.TheVariants as denied
 
@@ -37,21 +39,21 @@ pub record GoesOn (old new : NumberedList) : Type 0 where
 
 -- There was no memory. Or a machine of the registry answered the event, with all that the session has seen before and
 -- after it, and the reply tells its answer.
-abbrev pub IsHeard : List TreeMap → ℕ → NumberedList → Event → ReplyLine → NumberedList → Type 0
-IsHeard trees number old event reported new =
-    (reported ≡ reply.Refused NoMemory) ⊎ ((told : Told) × Tells trees number old.list new.list event told × (reported ≡ reply_of told.reply))
+abbrev pub IsHeard : List TreeMap → ℕ → ℕ → NumberedList → Event → ReplyLine → NumberedList → Type 0
+IsHeard trees number hives old event reported new =
+    (reported ≡ reply.Refused NoMemory) ⊎ ((told : Told) × Tells trees number hives old.list new.list event told × (reported ≡ reply_of told.reply))
 
-abbrev pub Hears : List TreeMap → ℕ → NumberedList → Event → ReplyLine → NumberedList → Type 0
-Hears trees number old event reported new = GoesOn old new × IsHeard trees number old event reported new
+abbrev pub Hears : List TreeMap → ℕ → ℕ → NumberedList → Event → ReplyLine → NumberedList → Type 0
+Hears trees number hives old event reported new = GoesOn old new × IsHeard trees number hives old event reported new
 
 -- The event was answered with a number, and that number is durable: the reply tells it. Or the reply tells why not.
-abbrev pub IsHeardDurably : List TreeMap → ℕ → NumberedList → Event → (ℕ → ReplyLine) → ReplyLine → NumberedList → Type 0
-IsHeardDurably trees number old event tell reported new =
-    ((receipt : NumberedList) × (told : Told) × TellsDurably trees number old.list new.list event receipt told × (reported ≡ tell receipt.number))
-    ⊎ ((why : Denied) × IsCommitDenied trees number old.list event why × (reported ≡ denied_reply why))
+abbrev pub IsHeardDurably : List TreeMap → ℕ → ℕ → NumberedList → Event → (ℕ → ReplyLine) → ReplyLine → NumberedList → Type 0
+IsHeardDurably trees number hives old event tell reported new =
+    ((receipt : NumberedList) × (told : Told) × TellsDurably trees number hives old.list new.list event receipt told × (reported ≡ tell receipt.number))
+    ⊎ ((why : Denied) × IsCommitDenied trees number hives old.list event why × (reported ≡ denied_reply why))
 
-abbrev pub HearsDurably : List TreeMap → ℕ → NumberedList → Event → (ℕ → ReplyLine) → ReplyLine → NumberedList → Type 0
-HearsDurably trees number old event tell reported new = GoesOn old new × IsHeardDurably trees number old event tell reported new
+abbrev pub HearsDurably : List TreeMap → ℕ → ℕ → NumberedList → Event → (ℕ → ReplyLine) → ReplyLine → NumberedList → Type 0
+HearsDurably trees number hives old event tell reported new = GoesOn old new × IsHeardDurably trees number hives old event tell reported new
 
 -- why a read may be refused: there was no memory, the session isn't open, or there is no such hive, key or value
 abbrev pub MayNotRead : Option ReadResult → Refusal → Type 0
@@ -62,13 +64,22 @@ abbrev pub ReadsSeen : Option ReadResult → ReplyLine → Type 0
 ReadsSeen there reported =
     ((found : ReadResult) × (there ≡ Some found) × (reported ≡ found_reply found)) ⊎ ((why : Refusal) × MayNotRead there why × (reported ≡ reply.Refused why))
 
+-- a unit's commit is told by what the session has seen then, or a refusal
+abbrev pub TellsOutcome : ℕ → List TreeMap → List ℕ → ReplyLine → Type 0
+TellsOutcome hives trees id reported =
+    ((number : ℕ) × HasOutcome hives trees id number × (reported ≡ reply.Committed number))
+    ⊎ ((why : Refusal) × ((why ≡ NoMemory) ⊎ (why ≡ NoSuchHandle) ⊎ HasNoOutcome hives trees id why) × (reported ≡ reply.Refused why))
+
+abbrev pub HearsOutcome : List TreeMap → ℕ → ℕ → NumberedList → List ℕ → ReplyLine → NumberedList → Type 0
+HearsOutcome trees number hives old id reported new = GoesOn old new × TellsOutcome hives (after_elements trees new.list) id reported
+
 -- a request alone, at a moment
-abbrev pub HearsAlone : List TreeMap → ℕ → ℕ → NumberedList → Operation → ReplyLine → NumberedList → Type 0
-HearsAlone trees number moment old (Write op) reported new = Hears trees number old (event.Write old.number moment op) reported new
-HearsAlone trees number moment old (Read hive path question) reported new =
-    GoesOn old new × ReadsSeen (looked_up (after_elements trees new.list) hive path question) reported
+abbrev pub HearsAlone : List TreeMap → ℕ → ℕ → ℕ → NumberedList → Operation → ReplyLine → NumberedList → Type 0
+HearsAlone trees number hives moment old (Write op) reported new = Hears trees number hives old (event.Write old.number moment op) reported new
+HearsAlone trees number hives moment old (Read hive path question) reported new =
+    GoesOn old new × ReadsSeen (read_within hives (after_elements trees new.list) hive path question) reported
 
 -- the same in a transaction
-abbrev pub HearsInside : List TreeMap → ℕ → ℕ → Tx → NumberedList → Operation → ReplyLine → NumberedList → Type 0
-HearsInside trees number moment tx old (Write op) reported new = Hears trees number old (event.TxWrite old.number tx moment op) reported new
-HearsInside trees number moment tx old (Read hive path question) reported new = Hears trees number old (event.TxRead old.number tx hive path question) reported new
+abbrev pub HearsInside : List TreeMap → ℕ → ℕ → ℕ → Tx → NumberedList → Operation → ReplyLine → NumberedList → Type 0
+HearsInside trees number hives moment tx old (Write op) reported new = Hears trees number hives old (event.TxWrite old.number tx moment op) reported new
+HearsInside trees number hives moment tx old (Read hive path question) reported new = Hears trees number hives old (event.TxRead old.number tx hive path question) reported new

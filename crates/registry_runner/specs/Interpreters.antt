@@ -22,5 +22,5 @@ abbrev pub script_of : {O : Type 0} → Shown O → Script
 script_of shown = record { moment = shown.moment; session = shown.session; labels = named_in shown.labels }
 
 -- the part of a run whose registry's list of changes begins on these trees after this number
-abbrev pub part_of : {O : Type 0} → List TreeMap → ℕ → Shown O → Part
-part_of trees number shown = record { trees = trees; number = number; script = script_of shown }
+abbrev pub part_of : {O : Type 0} → List TreeMap → ℕ → ℕ → Shown O → Part
+part_of trees number hives shown = record { trees = trees; number = number; hives = hives; script = script_of shown }

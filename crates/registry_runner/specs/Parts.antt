@@ -18,30 +18,31 @@ use Rattle.registry_runner.specs.declared.parts.PartKind.{PartKind}
 use Rattle.registry_runner.specs.declared.parts.PartKind.TheVariants.{Opened, Folded, Continued}
 
 -- a part of a run between two lines: the trees on which its registry's list of changes begins, the number of the last
--- change before that list, and the script
+-- change before that list, how many hives calls may name, and the script
 pub record Part : Type 0 where
   pub trees : List TreeMap
   pub number : ℕ
+  pub hives : ℕ
   pub script : Script
 
 abbrev pub with_script : Part → Script → Part
 with_script part script = record part { script = script }
 
 -- a script before a part's first line: a session was just opened, and no label names anything
-pub record IsBegun (trees : List TreeMap) (number current : ℕ) (script : Script) : Type 0 where
+pub record IsBegun (trees : List TreeMap) (number hives current : ℕ) (script : Script) : Type 0 where
   pub told : Told
-  pub opened : IsOpened trees number script.session told
+  pub opened : IsOpened trees number hives script.session told
   pub moment : script.moment ≡ current
   pub labels : (label : List ℕ) → script.labels label ≡ None
 
 -- Why no part begins over an engine: there is no memory, no reader, or a machine refused session 0.
-abbrev pub MayNotBegin : List TreeMap → ℕ → Refusal → Type 0
-MayNotBegin trees number why = (why ≡ NoMemory) ⊎ (why ≡ NoSeat) ⊎ MayNotEnter trees number why
+abbrev pub MayNotBegin : List TreeMap → ℕ → ℕ → Refusal → Type 0
+MayNotBegin trees number hives why = (why ≡ NoMemory) ⊎ (why ≡ NoSeat) ⊎ MayNotEnter trees number hives why
 
 -- a part begins on these trees after the change of this number, at this moment; or none does, and why
-abbrev pub BeginsOrNot : List TreeMap → ℕ → ℕ → Result Part Refusal → Type 0
-BeginsOrNot trees number moment (Ok part) = (part.trees ≡ trees) × (part.number ≡ number) × IsBegun trees number moment part.script
-BeginsOrNot trees number moment (Err why) = MayNotBegin trees number why
+abbrev pub BeginsOrNot : List TreeMap → ℕ → ℕ → ℕ → Result Part Refusal → Type 0
+BeginsOrNot trees number hives moment (Ok part) = (part.trees ≡ trees) × (part.number ≡ number) × (part.hives ≡ hives) × IsBegun trees number hives moment part.script
+BeginsOrNot trees number hives moment (Err why) = MayNotBegin trees number hives why
 
 -- why a history isn't folded of which all is durable: there is no memory, or the device has failed
 abbrev pub MayNotFold : Refusal → Type 0
@@ -50,14 +51,14 @@ MayNotFold why = (why ≡ NoMemory) ⊎ (is_of_device why ≡ true)
 -- The history of a registry is folded whose list of changes begins on these trees after this number. The next part
 -- begins on the trees after the changes of that list, and its number is the last one plus their count. Or no part
 -- follows, and why.
-abbrev pub FoldsAt : List TreeMap → ℕ → ℕ → Result Part Refusal → Type 0
-FoldsAt trees number moment next =
-    ((accepted : List Element) × BeginsOrNot (after_elements trees accepted) (number + length accepted) moment next)
+abbrev pub FoldsAt : List TreeMap → ℕ → ℕ → ℕ → Result Part Refusal → Type 0
+FoldsAt trees number hives moment next =
+    ((accepted : List Element) × BeginsOrNot (after_elements trees accepted) (number + length accepted) hives moment next)
     ⊎ ((why : Refusal) × MayNotFold why × (next ≡ Err why))
 
 -- the history of a part is folded, and the moment stays
 abbrev pub Folds : Part → Result Part Refusal → Type 0
-Folds old next = FoldsAt old.trees old.number old.script.moment next
+Folds old next = FoldsAt old.trees old.number old.hives old.script.moment next
 
 -- what is printed as a part begins
 abbrev pub kind_text : PartKind → ℕ → List ℕ
@@ -93,5 +94,5 @@ abbrev pub KeepsOrFolds : ℕ → Part → ReplyLine → Result Part Refusal →
 KeepsOrFolds limit old reported kept =
     (kept ≡ Ok old)
     ⊎ (IsDue limit old (number_told reported) × IsUnlabelled old.script
-    × (((flushed : ReplyLine) × (mid : Script) × Flushes old.trees old.number old.script flushed mid × (kept ≡ Ok (with_script old mid)))
-    ⊎ ((mid : Script) × IsFlushed old.trees old.number old.script mid × Folds (with_script old mid) kept)))
+    × (((flushed : ReplyLine) × (mid : Script) × Flushes old.trees old.number old.hives old.script flushed mid × (kept ≡ Ok (with_script old mid)))
+    ⊎ ((mid : Script) × IsFlushed old.trees old.number old.hives old.script mid × Folds (with_script old mid) kept)))

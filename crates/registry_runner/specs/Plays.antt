@@ -44,9 +44,9 @@ PlaysOn limit (Err why) number lines end_of_script text status end = IsStopped w
 PlaysOn limit (Ok old) number [] end_of_script text status end = EndsAs end_of_script text status × (end ≡ Ok old)
 PlaysOn limit (Ok old) number (line ∷ lines) end_of_script text status end =
     ((line_asked line ≡ None) × IsWrong number lines end_of_script text status × (end ≡ Ok old))
-    ⊎ ((asked : Line) × (reported : ReplyLine) × (new : Script) × (kept : Result Part Refusal) × (rest : List ℕ) × (later : Status) × (line_asked line ≡ Some asked) × Answers old.trees old.number old.script asked reported new
+    ⊎ ((asked : Line) × (reported : ReplyLine) × (new : Script) × (kept : Result Part Refusal) × (rest : List ℕ) × (later : Status) × (line_asked line ≡ Some asked) × Answers old.trees old.number old.hives old.script asked reported new
     × KeepsOrFolds limit (with_script old new) reported kept × PlaysOn limit kept (number + 1) lines end_of_script rest later end × (text ≡ reply_line reported ++ rest) × (status ≡ with_refusal (is_refusal reported) later))
-    ⊎ ((mid : Script) × (next : Result Part Refusal) × (rest : List ℕ) × (line_asked line ≡ Some Fold) × IsFlushed old.trees old.number old.script mid × Folds (with_script old mid) next
+    ⊎ ((mid : Script) × (next : Result Part Refusal) × (rest : List ℕ) × (line_asked line ≡ Some Fold) × IsFlushed old.trees old.number old.hives old.script mid × Folds (with_script old mid) next
     × PlaysOn limit next (number + 1) lines end_of_script rest status end × (text ≡ start_text Folded next ++ rest))
 
 -- a script that can be read was read so; of another one no line is read
@@ -63,16 +63,16 @@ IsPlayedOn limit can_read old number known was is status end =
 abbrev pub OutcomeOfLine : ℕ → Part → ℕ → Option (List ℕ) → Option (List ℕ) → LineOutcome → Script → Option (List ℕ) → Option (List ℕ) → Type 0
 OutcomeOfLine limit old number known was (outcome.Over status) new rest is = IsPlayedOn limit true (Ok old) number known was is status (Ok (with_script old new))
 OutcomeOfLine limit old number known was outcome.ToFold new rest is =
-    (line : List ℕ) × TakesLine known rest line × (line_asked line ≡ Some Fold) × IsFlushed old.trees old.number old.script new × Keeps was is
+    (line : List ℕ) × TakesLine known rest line × (line_asked line ≡ Some Fold) × IsFlushed old.trees old.number old.hives old.script new × Keeps was is
 OutcomeOfLine limit old number known was (outcome.Replied refused told) new rest is =
-    (line : List ℕ) × (asked : Line) × (reported : ReplyLine) × TakesLine known rest line × (line_asked line ≡ Some asked) × Answers old.trees old.number old.script asked reported new
+    (line : List ℕ) × (asked : Line) × (reported : ReplyLine) × TakesLine known rest line × (line_asked line ≡ Some asked) × Answers old.trees old.number old.hives old.script asked reported new
     × Appends was is (reply_line reported) × (refused ≡ is_refusal reported) × (told ≡ number_told reported)
 
 -- after a line whose reply told a number, the script goes on in the same registry; or the history is to be folded
 abbrev pub Between : ℕ → Part → ℕ → BetweenLines → Script → Type 0
 Between limit old told (between.GoOn failed) new =
-    (new ≡ old.script) ⊎ (IsDue limit old told × IsUnlabelled old.script × (flushed : ReplyLine) × Flushes old.trees old.number old.script flushed new)
-Between limit old told between.ToFold new = IsDue limit old told × IsUnlabelled old.script × IsFlushed old.trees old.number old.script new
+    (new ≡ old.script) ⊎ (IsDue limit old told × IsUnlabelled old.script × (flushed : ReplyLine) × Flushes old.trees old.number old.hives old.script flushed new)
+Between limit old told between.ToFold new = IsDue limit old told × IsUnlabelled old.script × IsFlushed old.trees old.number old.hives old.script new
 
 -- However a run goes on once the history of a part is folded, that is how it goes on from a line of the part.
 abbrev pub GoesOnFolded : ℕ → Bool → Part → ℕ → Option (List ℕ) → Option (List ℕ) → NextPart → Part → Option (List ℕ) → Option (List ℕ) → Type 0
@@ -90,7 +90,7 @@ LinesCome limit can_read old number known was (come.ToFold next) new rest is = G
 -- the lines were read, and the flush at their end was answered this reply
 abbrev pub HaveEnded : ℕ → Bool → Part → ℕ → Option (List ℕ) → Option (List ℕ) → Option (List ℕ) → Status → ReplyLine → Script → Type 0
 HaveEnded limit can_read old number known was is status flushed last =
-    (end : Script) × IsPlayedOn limit can_read (Ok old) number known was is status (Ok (with_script old end)) × Answers old.trees old.number end Flush flushed last
+    (end : Script) × IsPlayedOn limit can_read (Ok old) number known was is status (Ok (with_script old end)) × Answers old.trees old.number old.hives end Flush flushed last
 
 -- what came of a part's lines, and of the flush at their end
 abbrev pub PartComes : ℕ → Bool → Part → ℕ → Option (List ℕ) → Option (List ℕ) → LinesEnded → Script → Option (List ℕ) → Option (List ℕ) → Type 0

@@ -55,10 +55,10 @@ MayBeUndone undone = (undone ≡ None) ⊎ (undone ≡ Some DiskFault) ⊎ (undo
 
 -- A script that reached this status ends: all is flushed, which is reported if it is refused, and then what is left
 -- undone.
-pub record HasEnded (trees : List TreeMap) (number : ℕ) (script : Script) (came_to : Status) (before after : Option (List ℕ)) (status : Status) : Type 0 where
+pub record HasEnded (trees : List TreeMap) (number hives : ℕ) (script : Script) (came_to : Status) (before after : Option (List ℕ)) (status : Status) : Type 0 where
   pub reported : ReplyLine
   pub last : Script
-  pub flushed : Answers trees number script Flush reported last
+  pub flushed : Answers trees number hives script Flush reported last
   pub undone : Option Refusal
   pub may : MayBeUndone undone
   pub wrote : Appends before after (flushed_text reported ++ undone_text undone)
@@ -66,20 +66,20 @@ pub record HasEnded (trees : List TreeMap) (number : ℕ) (script : Script) (cam
 
 -- how a run ends whose lines left it so, with this status: as a script does; or with nothing more, as no part followed
 abbrev pub EndsRun : Result Part Refusal → Status → Option (List ℕ) → Option (List ℕ) → Status → Type 0
-EndsRun (Ok part) came_to before after status = HasEnded part.trees part.number part.script came_to before after status
+EndsRun (Ok part) came_to before after status = HasEnded part.trees part.number part.hives part.script came_to before after status
 EndsRun (Err why) came_to before after status = Keeps before after × (status ≡ came_to)
 
 -- The store's number was reported; these lines were played over registries of the store, up to this end of the script;
 -- and at the end all was flushed.
-pub record RunsOver (limit : ℕ) (trees : List TreeMap) (number : ℕ) (lines : List (List ℕ)) (end_of_script : Option EndOfScript) (before after : Option (List ℕ)) (status : Status) : Type 0 where
+pub record RunsOver (limit : ℕ) (trees : List TreeMap) (number hives : ℕ) (lines : List (List ℕ)) (end_of_script : Option EndOfScript) (before after : Option (List ℕ)) (status : Status) : Type 0 where
   pub opened : Option (List ℕ)
   pub told : Appends before opened (opened_text number)
   pub script : Script
-  pub begun : IsBegun trees number 0 script
+  pub begun : IsBegun trees number hives 0 script
   pub text : List ℕ
   pub came_to : Status
   pub end : Result Part Refusal
-  pub plays : PlaysOn limit (Ok (record { trees = trees; number = number; script = script })) 1 lines end_of_script text came_to end
+  pub plays : PlaysOn limit (Ok (record { trees = trees; number = number; hives = hives; script = script })) 1 lines end_of_script text came_to end
   pub played : Option (List ℕ)
   pub wrote : Appends opened played text
   pub ends : EndsRun end came_to played after status
@@ -92,10 +92,10 @@ pub record IsReported (may : Refusal → Type 0) (before after : Option (List �
   pub status_is : status ≡ Refused
 
 -- A script over an opened store: it doesn't begin, and the reason is written; or it runs.
-abbrev pub RunsOrNot : ℕ → Bool → Option (List ℕ) → List TreeMap → ℕ → Option (List ℕ) → Option (List ℕ) → Status → Type 0
-RunsOrNot limit can_read known trees number before after status =
-    IsReported (MayNotBegin trees number) before after status
-    ⊎ ((lines : List (List ℕ)) × (end_of_script : Option EndOfScript) × WereReadIf can_read known lines end_of_script × RunsOver limit trees number lines end_of_script before after status)
+abbrev pub RunsOrNot : ℕ → Bool → Option (List ℕ) → List TreeMap → ℕ → ℕ → Option (List ℕ) → Option (List ℕ) → Status → Type 0
+RunsOrNot limit can_read known trees number hives before after status =
+    IsReported (MayNotBegin trees number hives) before after status
+    ⊎ ((lines : List (List ℕ)) × (end_of_script : Option EndOfScript) × WereReadIf can_read known lines end_of_script × RunsOver limit trees number hives lines end_of_script before after status)
 
 -- A store was opened on these files, and a script ran over registries of it. The disk as it was after the opening is
 -- `first`: if it is faithful, the first registry's list begins with the number and the trees that the files recover.
@@ -105,7 +105,7 @@ pub record OpensAndRuns {D : Type 0} (is_faithful : D → Type 0) (files : ℕ �
   pub number : ℕ
   pub machine : Machine
   pub opened : IsOpenedOn (is_faithful first) files store number [] machine
-  pub runs : RunsOrNot machine.bounds.changes can_read known machine.opened number before after status
+  pub runs : RunsOrNot machine.bounds.changes can_read known machine.opened number machine.bounds.hives before after status
 
 -- A run: no store was opened, and the reason is written; or one was.
 abbrev pub IsRun : {D : Type 0} → (D → Type 0) → Type 0 → Type 0 → (ℕ → List ℕ) → Bool → Option (List ℕ) → Option (List ℕ) → Option (List ℕ) → Status → Type 0
@@ -114,8 +114,8 @@ IsRun is_faithful failed faithful files can_read known before after status =
 
 -- a machine is of a registry of the store that was opened on these trees after the change of this number: some changes
 -- were folded, and its history begins after them
-abbrev pub IsOfStore : List TreeMap → ℕ → Machine → Type 0
-IsOfStore trees number machine = (folded : List Element) × IsOf (after_elements trees folded) (number + length folded) machine
+abbrev pub IsOfStore : List TreeMap → ℕ → ℕ → Machine → Type 0
+IsOfStore trees number hives machine = (folded : List Element) × IsOf (after_elements trees folded) (number + length folded) hives machine
 
 -- A store was opened on these files, and a machine of a registry of it has reached a state. If the disk that is left is
 -- faithful, whatever a crash leaves of it recovers a prefix of that machine's changes, and so does what a read gives
@@ -128,7 +128,7 @@ pub record LeavesStore {D : Type 0} (is_faithful : D → Type 0) (files : ℕ �
   pub opened : IsOpenedOn (is_faithful first) files found number [] begun
   pub store : Store
   pub machine : Machine
-  pub owner : IsOfStore begun.opened number machine
+  pub owner : IsOfStore begun.opened number begun.bounds.hives machine
   pub left : LeavesPrefix faithful states clock store machine
 
 -- From here the lines were read to their end, and the run has ended; or no part follows, which is the last line.
@@ -138,14 +138,14 @@ GoesToEnd limit can_read (Ok here) line known was is status =
     (end : Result Part Refusal) × (came_to : Status) × (played : Option (List ℕ)) × IsPlayedOn limit can_read (Ok here) line known was played came_to end × EndsRun end came_to played is status
 
 -- a part was to begin on these trees after the change of this number: from there the run went to its end
-abbrev pub RunsFrom : PartStart → List TreeMap → ℕ → Option (List ℕ) → Option (List ℕ) → Option (List ℕ) → Status → Type 0
-RunsFrom start trees number known was is status =
-    (first : Result Part Refusal) × (told : Option (List ℕ)) × BeginsOrNot trees number start.moment first × Appends was told (start_text start.kind first) × GoesToEnd start.limit start.can_read first start.line known told is status
+abbrev pub RunsFrom : PartStart → List TreeMap → ℕ → ℕ → Option (List ℕ) → Option (List ℕ) → Option (List ℕ) → Status → Type 0
+RunsFrom start trees number hives known was is status =
+    (first : Result Part Refusal) × (told : Option (List ℕ)) × BeginsOrNot trees number hives start.moment first × Appends was told (start_text start.kind first) × GoesToEnd start.limit start.can_read first start.line known told is status
 
 -- The run ended in a part that was to begin so. Or the part's history is to be folded: however the run goes to its end
 -- then, that is how it does from the part's beginning.
-abbrev pub EndsPart : PartStart → List TreeMap → ℕ → Option (List ℕ) → Option (List ℕ) → PartEnd → Option (List ℕ) → Option (List ℕ) → Type 0
-EndsPart start trees number known was (RunEnded ran) rest is = IfOk ran (λ status. RunsFrom start trees number known was is status)
-EndsPart start trees number known was (ToFold next) rest is =
-    (follows : Result Part Refusal) (told after : Option (List ℕ)) (status : Status) → FoldsAt trees number next.moment follows → Appends is told (start_text next.kind follows) → GoesToEnd start.limit start.can_read follows next.line rest told after status
-    → RunsFrom start trees number known was after (with_refusal next.has_refusal status)
+abbrev pub EndsPart : PartStart → List TreeMap → ℕ → ℕ → Option (List ℕ) → Option (List ℕ) → PartEnd → Option (List ℕ) → Option (List ℕ) → Type 0
+EndsPart start trees number hives known was (RunEnded ran) rest is = IfOk ran (λ status. RunsFrom start trees number hives known was is status)
+EndsPart start trees number hives known was (ToFold next) rest is =
+    (follows : Result Part Refusal) (told after : Option (List ℕ)) (status : Status) → FoldsAt trees number hives next.moment follows → Appends is told (start_text next.kind follows) → GoesToEnd start.limit start.can_read follows next.line rest told after status
+    → RunsFrom start trees number hives known was after (with_refusal next.has_refusal status)

@@ -32,7 +32,7 @@ pub struct Caller<'a, E: StoreEngine, O: Origin, R> {
 impl<'a, E: StoreEngine, O: Origin, R: Wait> Caller<'a, E, O, R> {
     /// The reply to a request alone, at a moment.
     pub fn reply_alone(&self, session: &mut Session<O>, moment: u64, asked: Operation) -> ReplyLine
-        ensures { HearsAlone O.trees O.number moment session.old asked result session.new }
+        ensures { HearsAlone O.trees O.number O.hives moment session.old asked result session.new }
     {
         match asked {
             Operation::Write { op } => {
@@ -58,7 +58,7 @@ impl<'a, E: StoreEngine, O: Origin, R: Wait> Caller<'a, E, O, R> {
         tx: Tx,
         asked: Operation,
     ) -> ReplyLine
-        ensures { HearsInside O.trees O.number moment tx session.old asked result session.new }
+        ensures { HearsInside O.trees O.number O.hives moment tx session.old asked result session.new }
     {
         match asked {
             Operation::Write { op } => {
@@ -85,8 +85,8 @@ impl<'a, E: StoreEngine, O: Origin, R: Wait> Caller<'a, E, O, R> {
 
     /// Opens a session. Refused as it is.
     pub fn open_session(&self) -> Result<Session<O>, Refusal>
-        ensures opened { IfOk result (λ session. (told : AnyTold) × IsOpened O.trees O.number session told) }
-        ensures refused { IfErr result (MayNotEnter O.trees O.number) }
+        ensures opened { IfOk result (λ session. (told : AnyTold) × IsOpened O.trees O.number O.hives session told) }
+        ensures refused { IfErr result (MayNotEnter O.trees O.number O.hives) }
     {
         match self.registry.session(self.rt) {
             Ok((session, _told)) => Ok(session),
@@ -97,7 +97,7 @@ impl<'a, E: StoreEngine, O: Origin, R: Wait> Caller<'a, E, O, R> {
     /// Whether a session could be opened but for a seat. Refused with `Faulted` if the device has failed, and with
     /// `NoMemory`.
     pub fn check_not_faulted(&self) -> Result<(), Refusal>
-        ensures { IfErr result (MayNotEnter O.trees O.number) }
+        ensures { IfErr result (MayNotEnter O.trees O.number O.hives) }
     {
         // a session that isn't open begins no transaction, but is refused for the device first
         let mut nobody = self.registry.closed_session(self.rt);
@@ -145,8 +145,8 @@ pub fn denied_reply(denied: Denied) -> ReplyLine
 
 // the refusal that a call was denied with. There is one in each denial
 fn refusal_of(denied: Denied) -> Refusal
-    ensures { (trees : List TreeMap) (number : ℕ) (was is : List Element) (event : Event) →
-        IsDenied trees number was is event denied → MayNotEnter trees number result }
+    ensures { (trees : List TreeMap) (number hives : ℕ) (was is : List Element) (event : Event) →
+        IsDenied trees number hives was is event denied → MayNotEnter trees number hives result }
 {
     match denied.refusal() {
         Some(refusal) => refusal,

@@ -72,7 +72,7 @@ pub fn read_lines<E: StoreEngine, O: Origin, R: Wait, B: BufRead, W: Write>(
 ) -> LinesRead
     requires number { start.number ≡ O.number }
     ensures { IfOk result.played (λ end. LinesCome start.limit true
-        (part_of O.trees O.number script.old) start.line (B.remaining reader.old)
+        (part_of O.trees O.number O.hives script.old) start.line (B.remaining reader.old)
         (W.contents writer.old) end (script_of script.new) (B.remaining reader.new)
         (W.contents writer.new)) }
 {
@@ -90,7 +90,7 @@ fn go_on<E: StoreEngine, O: Origin, R: Wait, B: BufRead, W: Write>(
     has_failed: &mut bool,
 ) -> io::Result<LinesEnd>
     requires number { start.number ≡ O.number }
-    ensures { IfOk result (λ end. LinesCome start.limit true (part_of O.trees O.number script.old)
+    ensures { IfOk result (λ end. LinesCome start.limit true (part_of O.trees O.number O.hives script.old)
         start.line (B.remaining reader.old) (W.contents writer.old) end (script_of script.new)
         (B.remaining reader.new) (W.contents writer.new)) }
 {
@@ -144,7 +144,7 @@ fn take_line<E: StoreEngine, O: Origin, R: Wait, B: BufRead, W: Write>(
     writer: &mut W,
     number: u64,
 ) -> io::Result<LineOutcome>
-    ensures { IfOk result (λ outcome. OutcomeOfLine limit (part_of O.trees O.number script.old) number
+    ensures { IfOk result (λ outcome. OutcomeOfLine limit (part_of O.trees O.number O.hives script.old) number
         (B.remaining reader.old) (W.contents writer.old) outcome (script_of script.new)
         (B.remaining reader.new) (W.contents writer.new)) }
 {
@@ -183,7 +183,7 @@ fn work_between_lines<E: StoreEngine, O: Origin, R: Wait, W: Write>(
 ) -> io::Result<BetweenLines>
     requires first { history.old.first ≡ O.number }
     ensures between { IfOk result (λ next. Between history.old.limit
-        (part_of O.trees O.number script.old) told next (script_of script.new)) }
+        (part_of O.trees O.number O.hives script.old) told next (script_of script.new)) }
     ensures kept { OnOk result (Keeps (W.contents writer.old) (W.contents writer.new)) }
     ensures same { (history.new.first ≡ history.old.first) × (history.new.limit ≡ history.old.limit) }
 {

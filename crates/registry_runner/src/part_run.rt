@@ -44,12 +44,12 @@ pub fn run_part<
     writer: &mut W,
 ) -> (E, PartEnd)
     requires book { (count ≡ O.book) × (seen ≡ record { book = O.book; list = [] }) }
-    requires engine { IsOf O.trees O.number (E.machine engine)
+    requires engine { IsOf O.trees O.number O.hives (E.machine engine)
         × ((E.machine engine).accepted ≡ []) × ((E.machine engine).sessions ≡ []) }
     requires number { start.number ≡ O.number }
-    ensures owner { IsOf O.trees O.number (E.machine result.0) }
+    ensures owner { IsOf O.trees O.number O.hives (E.machine result.0) }
     ensures sessions { (E.machine result.0).sessions ≡ [] }
-    ensures ends { EndsPart start O.trees O.number (B.remaining reader.old) (W.contents writer.old)
+    ensures ends { EndsPart start O.trees O.number O.hives (B.remaining reader.old) (W.contents writer.old)
         result.1 (B.remaining reader.new) (W.contents writer.new) }
 {
     let registry = match Registry::<E, O>::new(alloc, rt, engine, count, seen) {
@@ -82,7 +82,7 @@ fn run_by<
     W: Write,
 >(caller: &Caller<'_, E, O, R>, start: PartStart, reader: &mut B, writer: &mut W) -> PartEnd
     requires number { start.number ≡ O.number }
-    ensures { EndsPart start O.trees O.number (B.remaining reader.old) (W.contents writer.old) result
+    ensures { EndsPart start O.trees O.number O.hives (B.remaining reader.old) (W.contents writer.old) result
         (B.remaining reader.new) (W.contents writer.new) }
 {
     match Script::begin(caller, start.moment) {
@@ -107,9 +107,9 @@ fn run_begun<
     reader: &mut B,
     writer: &mut W,
 ) -> PartEnd
-    requires begun { IsBegun O.trees O.number start.moment (script_of script) }
+    requires begun { IsBegun O.trees O.number O.hives start.moment (script_of script) }
     requires number { start.number ≡ O.number }
-    ensures { EndsPart start O.trees O.number (B.remaining reader.old) (W.contents writer.old) result
+    ensures { EndsPart start O.trees O.number O.hives (B.remaining reader.old) (W.contents writer.old) result
         (B.remaining reader.new) (W.contents writer.new) }
 {
     let mut script = script;
@@ -132,9 +132,9 @@ fn run_told<
     reader: &mut B,
     writer: &mut W,
 ) -> PartEnd
-    requires begun { IsBegun O.trees O.number start.moment (script_of script.old) }
+    requires begun { IsBegun O.trees O.number O.hives start.moment (script_of script.old) }
     requires number { start.number ≡ O.number }
-    ensures { EndsPart start O.trees O.number (B.remaining reader.old) (W.contents writer.old) result
+    ensures { EndsPart start O.trees O.number O.hives (B.remaining reader.old) (W.contents writer.old) result
         (B.remaining reader.new) (W.contents writer.new) }
 {
     if let Err(error) = write_start(writer, start.kind, start.number) {
@@ -187,7 +187,7 @@ fn read_beside_flusher<
     writer: &mut W,
 ) -> (LinesEnded, Result<Stopped, Denied>)
     requires number { start.number ≡ O.number }
-    ensures ended { PartComes start.limit start.can_read (part_of O.trees O.number script.old) start.line
+    ensures ended { PartComes start.limit start.can_read (part_of O.trees O.number O.hives script.old) start.line
         (B.remaining reader.old) (W.contents writer.old) result.0 (script_of script.new)
         (B.remaining reader.new) (W.contents writer.new) }
     ensures flushed { IfErr result.1 IsTurnDenied }
@@ -199,7 +199,7 @@ fn read_beside_flusher<
         &mut || -> LinesEnded
             requires { start.number ≡ O.number }
             ensures { PartComes start.limit start.can_read
-                (part_of O.trees O.number script.entry.now) start.line (B.remaining reader.entry.now)
+                (part_of O.trees O.number O.hives script.entry.now) start.line (B.remaining reader.entry.now)
                 (W.contents writer.entry.now) result (script_of script.exit.now)
                 (B.remaining reader.exit.now) (W.contents writer.exit.now) }
         { read_to_end(caller, gate, script, start, reader, writer) },
@@ -231,7 +231,7 @@ fn read_to_end<O: Origin, E: StoreEngine, R: Wait, B: BufRead, W: Write>(
     writer: &mut W,
 ) -> LinesEnded
     requires number { start.number ≡ O.number }
-    ensures { PartComes start.limit start.can_read (part_of O.trees O.number script.old) start.line
+    ensures { PartComes start.limit start.can_read (part_of O.trees O.number O.hives script.old) start.line
         (B.remaining reader.old) (W.contents writer.old) result (script_of script.new)
         (B.remaining reader.new) (W.contents writer.new) }
 {
@@ -264,7 +264,7 @@ fn read_if<O: Origin, E: StoreEngine, R: Wait, B: BufRead, W: Write>(
 ) -> LinesRead
     requires number { start.number ≡ O.number }
     ensures { IfOk result.played (λ end. LinesCome start.limit start.can_read
-        (part_of O.trees O.number script.old) start.line (B.remaining reader.old)
+        (part_of O.trees O.number O.hives script.old) start.line (B.remaining reader.old)
         (W.contents writer.old) end (script_of script.new) (B.remaining reader.new)
         (W.contents writer.new)) }
 {

@@ -4,7 +4,7 @@ ghost use Rattle.script_syntax.specs.Statuses.{with_refusal};
 ghost use Rattle.store_model.specs.Steps.{Step};
 ghost use Rattle.store_model.specs.declared.event.Event.TheVariants as event;
 ghost use Rattle.store_model.specs.declared.event.Reply.TheVariants as reply;
-ghost use Rattle.registry_runner.specs.Folding.{HasAllHives, HistoryStays, IsFoldedAt, IsIdle};
+ghost use Rattle.registry_runner.specs.Folding.{HistoryStays, IsFoldedAt, IsIdle};
 ghost use Rattle.registry_runner.specs.Parts.{MayNotFold};
 ghost use Rattle.registry_runner.specs.Running.{IsOfStore, RunsFrom};
 
@@ -91,10 +91,10 @@ pub fn run_parts<E: StoreEngine + Send, R: Threads + Wait + Sync, B: BufRead, W:
     requires engine { IsIdle (E.machine engine) }
     requires number { start.number ≡ (E.machine engine).before }
     ensures owner { IsOfStore (E.machine engine).opened (E.machine engine).before
-        (E.machine result.0) }
+        (E.machine engine).bounds.hives (E.machine result.0) }
     ensures runs { IfOk result.1 (λ status. RunsFrom start (E.machine engine).opened
-        (E.machine engine).before (B.remaining reader.old) (W.contents writer.old)
-        (W.contents writer.new) status) }
+        (E.machine engine).before (E.machine engine).bounds.hives (B.remaining reader.old)
+        (W.contents writer.old) (W.contents writer.new) status) }
 {
     let mut engine = engine;
     let mut start = start;
@@ -155,7 +155,6 @@ impl PartStart {
 // Folds the history of an engine whose registry has ended. All was made durable before that. If some change isn't
 // durable all the same, it is made so first.
 fn fold<E: StoreEngine, R: Wait>(rt: &R, engine: &mut E) -> Result<u64, Refusal>
-    requires hives { HasAllHives (E.machine engine.old) }
     requires sessions { (E.machine engine.old).sessions ≡ [] }
     ensures folded { IfOk result (IsFoldedAt (E.machine engine.old) (E.machine engine.new)) }
     ensures refused { IfErr result MayNotFold }

@@ -98,8 +98,8 @@ impl<O: Origin> Script<O> {
         caller: &Caller<'_, E, O, R>,
         moment: u64,
     ) -> Result<Script<O>, Refusal>
-        ensures begun { IfOk result (λ script. IsBegun O.trees O.number moment (script_of script)) }
-        ensures refused { IfErr result (MayNotEnter O.trees O.number) }
+        ensures begun { IfOk result (λ script. IsBegun O.trees O.number O.hives moment (script_of script)) }
+        ensures refused { IfErr result (MayNotEnter O.trees O.number O.hives) }
     {
         let root = Key::new(0, Path::root(caller.alloc)?);
         let session = caller.open_session()?;
@@ -126,7 +126,7 @@ impl<O: Origin> Script<O> {
         ensures err { OnErr result (self.new ≡ self.old) }
         ensures some { IfOk result (λ made. IfSome made
             (λ answer. (asked : AnyLine) × (line_asked bytes.now ≡ Some asked)
-            × AnswersLine O.trees O.number (script_of self.old) asked answer (script_of self.new))) }
+            × AnswersLine O.trees O.number O.hives (script_of self.old) asked answer (script_of self.new))) }
     {
         match read_line(caller.alloc, bytes) {
             Ok(line) => Ok(self.answer(caller, line)),
@@ -143,7 +143,7 @@ impl<O: Origin> Script<O> {
     ) -> Option<LineAnswer>
         ensures answered { MatchOption result ((later_line (Some line) ≡ None) × (self.new ≡ self.old))
             (λ answer. (later_line (Some line) ≡ Some line)
-            × AnswersLine O.trees O.number (script_of self.old) line answer (script_of self.new)) }
+            × AnswersLine O.trees O.number O.hives (script_of self.old) line answer (script_of self.new)) }
     {
         let answered = match line {
             Line::Hives { .. } | Line::History { .. } | Line::Lab { .. } => return None,
@@ -161,6 +161,7 @@ impl<O: Origin> Script<O> {
             Line::Rollback { label } => self.rollback(caller, label),
             Line::Close { label } => self.close(caller, label),
             Line::Outcome { label } => self.outcome(caller, label),
+            Line::Kept { id } => Ok(self.kept(caller, id)),
             Line::Flush => Ok(self.flush(caller)),
         };
         match answered {
@@ -176,9 +177,9 @@ impl<O: Origin> Script<O> {
         caller: &Caller<'_, E, O, R>,
         request: Request,
     ) -> Result<ReplyLine, Refusal>
-        ensures ok { IfOk result (λ reported. Answers O.trees O.number (script_of self.old) (Plain request)
+        ensures ok { IfOk result (λ reported. Answers O.trees O.number O.hives (script_of self.old) (Plain request)
             reported (script_of self.new)) }
-        ensures refused { IfErr result (λ refusal. Answers O.trees O.number (script_of self.old)
+        ensures refused { IfErr result (λ refusal. Answers O.trees O.number O.hives (script_of self.old)
             (Plain request) (Refused refusal) (script_of self.new)) }
     {
         let asked = operation_of(caller.alloc, request)?;
@@ -191,9 +192,9 @@ impl<O: Origin> Script<O> {
         label: Label,
         request: Request,
     ) -> Result<ReplyLine, Refusal>
-        ensures ok { IfOk result (λ reported. Answers O.trees O.number (script_of self.old) (Inside label request)
+        ensures ok { IfOk result (λ reported. Answers O.trees O.number O.hives (script_of self.old) (Inside label request)
             reported (script_of self.new)) }
-        ensures refused { IfErr result (λ refusal. Answers O.trees O.number (script_of self.old)
+        ensures refused { IfErr result (λ refusal. Answers O.trees O.number O.hives (script_of self.old)
             (Inside label request) (Refused refusal) (script_of self.new)) }
     {
         let asked = operation_of(caller.alloc, request)?;

@@ -22,9 +22,9 @@ impl<O: Origin> Script<O> {
         caller: &Caller<'_, E, O, R>,
         number: u32,
     ) -> Result<ReplyLine, Refusal>
-        ensures ok { IfOk result (λ reported. Answers O.trees O.number (script_of self.old) (line.Session number)
+        ensures ok { IfOk result (λ reported. Answers O.trees O.number O.hives (script_of self.old) (line.Session number)
             reported (script_of self.new)) }
-        ensures refused { IfErr result (λ refusal. Answers O.trees O.number (script_of self.old)
+        ensures refused { IfErr result (λ refusal. Answers O.trees O.number O.hives (script_of self.old)
             (line.Session number) (Refused refusal) (script_of self.new)) }
     {
         if self.is_open && number == self.number {
@@ -74,9 +74,9 @@ impl<O: Origin> Script<O> {
         caller: &Caller<'_, E, O, R>,
         number: u32,
     ) -> Result<ReplyLine, Refusal>
-        ensures ok { IfOk result (λ reported. Answers O.trees O.number (script_of self.old) (line.End number)
+        ensures ok { IfOk result (λ reported. Answers O.trees O.number O.hives (script_of self.old) (line.End number)
             reported (script_of self.new)) }
-        ensures refused { IfErr result (λ refusal. Answers O.trees O.number (script_of self.old)
+        ensures refused { IfErr result (λ refusal. Answers O.trees O.number O.hives (script_of self.old)
             (line.End number) (Refused refusal) (script_of self.new)) }
     {
         match self.take(caller, number) {

@@ -1,6 +1,6 @@
 //! The lines of transactions, and the lines `flush` and `fold`.
 ghost use Rattle.std.specs.Prelude.{IfErr, IfOk};
-ghost use Rattle.script_syntax.specs.declared.line.Line.TheVariants.{Begin, Close, Commit, Flush, Fold, Outcome, Rollback};
+ghost use Rattle.script_syntax.specs.declared.line.Line.TheVariants.{Begin, Close, Commit, Flush, Fold, Kept, Outcome, Rollback};
 ghost use Rattle.script_syntax.specs.declared.reply.ReplyLine.TheVariants.{Refused};
 ghost use Rattle.registry_runner.specs.Interpreters.{script_of};
 ghost use Rattle.registry_runner.specs.Scripts.{Answers, AnswersLine};
@@ -25,9 +25,9 @@ impl<O: Origin> Script<O> {
         label: Label,
         id: Uuid,
     ) -> Result<ReplyLine, Refusal>
-        ensures ok { IfOk result (λ reported. Answers O.trees O.number (script_of self.old) (Begin label id)
+        ensures ok { IfOk result (λ reported. Answers O.trees O.number O.hives (script_of self.old) (Begin label id)
             reported (script_of self.new)) }
-        ensures refused { IfErr result (λ refusal. Answers O.trees O.number (script_of self.old)
+        ensures refused { IfErr result (λ refusal. Answers O.trees O.number O.hives (script_of self.old)
             (Begin label id) (Refused refusal) (script_of self.new)) }
     {
         make_room(&mut self.labels, caller.alloc, label)?;
@@ -49,9 +49,9 @@ impl<O: Origin> Script<O> {
         caller: &Caller<'_, E, O, R>,
         label: Label,
     ) -> Result<ReplyLine, Refusal>
-        ensures ok { IfOk result (λ reported. Answers O.trees O.number (script_of self.old) (Commit label)
+        ensures ok { IfOk result (λ reported. Answers O.trees O.number O.hives (script_of self.old) (Commit label)
             reported (script_of self.new)) }
-        ensures refused { IfErr result (λ refusal. Answers O.trees O.number (script_of self.old)
+        ensures refused { IfErr result (λ refusal. Answers O.trees O.number O.hives (script_of self.old)
             (Commit label) (Refused refusal) (script_of self.new)) }
     {
         let tx = self.tx(label)?;
@@ -71,9 +71,9 @@ impl<O: Origin> Script<O> {
         caller: &Caller<'_, E, O, R>,
         label: Label,
     ) -> Result<ReplyLine, Refusal>
-        ensures ok { IfOk result (λ reported. Answers O.trees O.number (script_of self.old) (Rollback label)
+        ensures ok { IfOk result (λ reported. Answers O.trees O.number O.hives (script_of self.old) (Rollback label)
             reported (script_of self.new)) }
-        ensures refused { IfErr result (λ refusal. Answers O.trees O.number (script_of self.old)
+        ensures refused { IfErr result (λ refusal. Answers O.trees O.number O.hives (script_of self.old)
             (Rollback label) (Refused refusal) (script_of self.new)) }
     {
         let tx = self.tx(label)?;
@@ -88,9 +88,9 @@ impl<O: Origin> Script<O> {
         caller: &Caller<'_, E, O, R>,
         label: Label,
     ) -> Result<ReplyLine, Refusal>
-        ensures ok { IfOk result (λ reported. Answers O.trees O.number (script_of self.old) (Close label)
+        ensures ok { IfOk result (λ reported. Answers O.trees O.number O.hives (script_of self.old) (Close label)
             reported (script_of self.new)) }
-        ensures refused { IfErr result (λ refusal. Answers O.trees O.number (script_of self.old)
+        ensures refused { IfErr result (λ refusal. Answers O.trees O.number O.hives (script_of self.old)
             (Close label) (Refused refusal) (script_of self.new)) }
     {
         let tx = self.tx(label)?;
@@ -105,9 +105,9 @@ impl<O: Origin> Script<O> {
         caller: &Caller<'_, E, O, R>,
         label: Label,
     ) -> Result<ReplyLine, Refusal>
-        ensures ok { IfOk result (λ reported. Answers O.trees O.number (script_of self.old) (Outcome label)
+        ensures ok { IfOk result (λ reported. Answers O.trees O.number O.hives (script_of self.old) (Outcome label)
             reported (script_of self.new)) }
-        ensures refused { IfErr result (λ refusal. Answers O.trees O.number (script_of self.old)
+        ensures refused { IfErr result (λ refusal. Answers O.trees O.number O.hives (script_of self.old)
             (Outcome label) (Refused refusal) (script_of self.new)) }
     {
         let tx = self.tx(label)?;
@@ -117,9 +117,30 @@ impl<O: Origin> Script<O> {
         }
     }
 
+    // The number of a unit of work's commit, by what the current session sees. No session needs to be open for it: if
+    // this one has ended, the registry itself is asked
+    pub(crate) fn kept<E: StoreEngine, R: Wait>(
+        &mut self,
+        caller: &Caller<'_, E, O, R>,
+        id: Uuid,
+    ) -> ReplyLine
+        ensures { Answers O.trees O.number O.hives (script_of self.old) (Kept id) result (script_of self.new) }
+    {
+        if self.is_open {
+            return match self.session.outcome_of(&id) {
+                Ok(number) => ReplyLine::Committed { number },
+                Err(refusal) => ReplyLine::Refused { refusal },
+            };
+        }
+        match caller.registry.outcome_of(caller.rt, &mut self.session, id) {
+            Ok((_number, told)) => reply_of(told.into_reply()),
+            Err(denied) => denied_reply(denied),
+        }
+    }
+
     /// Makes all accepted changes durable, as the line `flush` does.
     pub fn flush<E: StoreEngine, R: Wait>(&mut self, caller: &Caller<'_, E, O, R>) -> ReplyLine
-        ensures { Answers O.trees O.number (script_of self.old) Flush result (script_of self.new) }
+        ensures { Answers O.trees O.number O.hives (script_of self.old) Flush result (script_of self.new) }
     {
         match caller
             .registry
@@ -135,7 +156,7 @@ impl<O: Origin> Script<O> {
     /// Makes ready for a fold: makes all accepted changes durable, as the line `flush` does, and moves them into the
     /// hives. If one of the two is refused, that is the reply.
     pub fn fold<E: StoreEngine, R: Wait>(&mut self, caller: &Caller<'_, E, O, R>) -> LineAnswer
-        ensures { AnswersLine O.trees O.number (script_of self.old) Fold result (script_of self.new) }
+        ensures { AnswersLine O.trees O.number O.hives (script_of self.old) Fold result (script_of self.new) }
     {
         let reply = self.flush(caller);
         if is_refusal(&reply) {

@@ -16,10 +16,10 @@ run_parts-engine-requires-send-E g c κs within =
     let e = engine_send (param 0 g.row.D) g.D.Disk c.type_bounds.send-D in param_send 0 _ (arg_send _ no _ e)
 
 pub run_parts-engine-requires-clause-engine : goal.run_parts-engine-requires-clause-engine
-run_parts-engine-requires-clause-engine g c κs within = let opened = c.in-Ok.ensures.ok in begins_idle c.in-Ok.number opened.room opened.trees c.in-Ok.engine.machine opened.begins
+run_parts-engine-requires-clause-engine g c κs within = let opened = c.in-Ok.ensures.ok in begins_idle c.in-Ok.engine.store.hives c.in-Ok.number opened.room opened.trees c.in-Ok.engine.machine opened.begins
 
 pub run_parts-engine-requires-clause-number : goal.run_parts-engine-requires-clause-number
-run_parts-engine-requires-clause-number g c κs within = let opened = c.in-Ok.ensures.ok in sym (begins_before c.in-Ok.number opened.room opened.trees c.in-Ok.engine.machine opened.begins)
+run_parts-engine-requires-clause-number g c κs within = let opened = c.in-Ok.ensures.ok in sym (begins_before c.in-Ok.engine.store.hives c.in-Ok.number opened.room opened.trees c.in-Ok.engine.machine opened.begins)
 
 pub returns-in-Ok-clause-runs : goal.returns-in-Ok-clause-runs
 returns-in-Ok-clause-runs g c =
@@ -30,16 +30,16 @@ returns-in-Ok-clause-runs g c =
     let before = g.W.Write.contents c.args.writer.now in
     let after = g.W.Write.contents c.run_parts-engine.new.writer in
     let start : ℕ → PartStart = λ limit. record { kind = Opened; number = number; limit = limit; can_read = c.args.can_read; line = 1; moment = 0 } in
-    let same = begins_before number opened.room opened.trees engine.machine opened.begins in
-    if_ok (λ status. RunsFrom (start c.history_limit.result) engine.machine.opened engine.machine.before known before after status) _ c.run_parts-engine.result.1
+    let same = begins_before engine.store.hives number opened.room opened.trees engine.machine opened.begins in
+    if_ok (λ status. RunsFrom (start c.history_limit.result) engine.machine.opened engine.machine.before engine.machine.bounds.hives known before after status) _ c.run_parts-engine.result.1
     (λ status runs. inr (record {
       first = engine.disk;
       store = engine.store;
       number = number;
       machine = engine.machine;
       opened = opened;
-      runs = run_from engine.machine.bounds.changes number c.args.can_read engine.machine.opened known before after status
-          (subst (λ limit. RunsFrom (start limit) engine.machine.opened number known before after status) c.history_limit.ensures (subst (λ n. RunsFrom (start c.history_limit.result) engine.machine.opened n known before after status) same runs));
+      runs = run_from engine.machine.bounds.changes number engine.machine.bounds.hives c.args.can_read engine.machine.opened known before after status
+          (subst (λ limit. RunsFrom (start limit) engine.machine.opened number engine.machine.bounds.hives known before after status) c.history_limit.ensures (subst (λ n. RunsFrom (start c.history_limit.result) engine.machine.opened n engine.machine.bounds.hives known before after status) same runs));
     }))
     c.run_parts-engine.ensures.runs
 
@@ -57,7 +57,7 @@ returns-in-Ok-clause-left g c =
       opened = opened;
       store = last.store;
       machine = last.machine;
-      owner = subst (λ n. IsOfStore engine.machine.opened n last.machine) (begins_before c.in-Ok.number opened.room opened.trees engine.machine opened.begins) c.run_parts-engine.ensures.owner;
+      owner = subst (λ n. IsOfStore engine.machine.opened n engine.machine.bounds.hives last.machine) (begins_before c.in-Ok.engine.store.hives c.in-Ok.number opened.room opened.trees engine.machine opened.begins) c.run_parts-engine.ensures.owner;
       left = subst (λ d. LeavesPrefix (D.faithful d) (D.state_at d) (D.clock d) last.store last.machine) (sym c.into_disk.ensures) (λ f. (c.keeps_a_prefix.ensures f, λ e. c.reads_a_prefix.ensures.prefix f (inl e)));
     })
 

@@ -14,5 +14,5 @@ invariant-loop-number g l =
     let remaining = g.B.Read.remaining in
     let contents = g.W.Write.contents in
     (l.history.first ≡ O.number) × (l.history.limit ≡ l.fn.start.limit)
-    × ((status : Status) (after : Option (List ℕ)) (end : Result Part Refusal) → IsPlayedOn l.fn.start.limit true (Ok (part_of O.trees O.number l.script)) l.number (remaining l.reader) (contents l.writer) after status end
-    → IsPlayedOn l.fn.start.limit true (Ok (part_of O.trees O.number l.fn.script)) l.fn.start.line (remaining l.fn.reader) (contents l.fn.writer) after (with_refusal l.has_refusal status) end)
+    × ((status : Status) (after : Option (List ℕ)) (end : Result Part Refusal) → IsPlayedOn l.fn.start.limit true (Ok (part_of O.trees O.number O.hives l.script)) l.number (remaining l.reader) (contents l.writer) after status end
+    → IsPlayedOn l.fn.start.limit true (Ok (part_of O.trees O.number O.hives l.fn.script)) l.fn.start.line (remaining l.fn.reader) (contents l.fn.writer) after (with_refusal l.has_refusal status) end)

@@ -13,4 +13,4 @@ returns-in-Some-2-clause-folded g c =
     let new = machine c.ask_fold.new.engine in
     let number = c.in-Some-2.number in
     let step = subst (λ (made : Option ℕ). IfSome made (λ number. Step old event.Fold (reply.Folded number) new)) c.in-Some-2.is c.in_ok-number.ensures.folded in
-    folded_at (machine c.args.engine.now) old new number c.loop.invariant c.requires.hives c.requires.sessions (c.openings_stay.ensures.bounds old new event.Fold (reply.Folded number) step).1 step
+    folded_at (machine c.args.engine.now) old new number c.loop.invariant c.requires.sessions step

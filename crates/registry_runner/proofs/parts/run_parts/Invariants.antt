@@ -7,7 +7,7 @@ use Rattle.registry_runner.proofs.parts.run_parts.Given as goal
 
 -- the registry of the part
 abbrev pub ghosts-run_part : goal.ghosts-run_part
-ghosts-run_part g a = let machine = g.E.StoreEngine.machine a.engine in record { book = a.count; trees = machine.opened; number = machine.before }
+ghosts-run_part g a = let machine = g.E.StoreEngine.machine a.engine in record { book = a.count; trees = machine.opened; number = machine.before; hives = machine.bounds.hives }
 
 -- the next part may begin; and however the run goes to its end from there, it is the whole run with the refusals so far
 abbrev pub invariant-loop : goal.invariant-loop
@@ -16,6 +16,6 @@ invariant-loop g l =
     let contents = g.W.Write.contents in
     let begun = g.E.StoreEngine.machine l.fn.engine in
     let machine = g.E.StoreEngine.machine l.engine in
-    IsOfStore begun.opened begun.before machine × IsIdle machine × (l.start.number ≡ machine.before)
-    × ((status : Status) (after : Option (List ℕ)) → RunsFrom l.start machine.opened machine.before (remaining l.reader) (contents l.writer) after status
-    → RunsFrom l.fn.start begun.opened begun.before (remaining l.fn.reader) (contents l.fn.writer) after (with_refusal l.has_refusal status))
+    IsOfStore begun.opened begun.before begun.bounds.hives machine × IsIdle machine × (l.start.number ≡ machine.before)
+    × ((status : Status) (after : Option (List ℕ)) → RunsFrom l.start machine.opened machine.before machine.bounds.hives (remaining l.reader) (contents l.writer) after status
+    → RunsFrom l.fn.start begun.opened begun.before begun.bounds.hives (remaining l.fn.reader) (contents l.fn.writer) after (with_refusal l.has_refusal status))

@@ -5,4 +5,4 @@ use Rattle.registry_runner.proofs.caller.Caller.open_session.Goals as goal
 pub returns-in-Err-clause-refused : goal.returns-in-Err-clause-refused
 returns-in-Err-clause-refused g c =
     let d = c.in-Err.ensures.denied in
-    c.refusal_of.ensures g.O.Origin.trees g.O.Origin.number [] d.1 (event.StartSession d.0) d.2
+    c.refusal_of.ensures g.O.Origin.trees g.O.Origin.number g.O.Origin.hives [] d.1 (event.StartSession d.0) d.2
