@@ -1,7 +1,6 @@
 -- The run of a script in a laboratory, line by line.
 use Rattle.std.proofs.Common.{◌≡◌, ℕ, ◌+◌, Bool, List, [], ◌∷◌, ◌++◌, Option, Some, None, refl, ap, inl, inr}
 use Rattle.std.specs.Io.KnownBytes.{Appends}
-use Rattle.store_model.specs.Machine.{trees_now}
 use Rattle.script_syntax.specs.Replies.{reply_line}
 use Rattle.script_syntax.proofs.Written.{appends_more}
 use Rattle.script_syntax.specs.declared.reply.ReplyLine.TheVariants as reply
@@ -15,6 +14,7 @@ use Rattle.script_runner.specs.declared.end_of_script.EndOfScript.{EndOfScript}
 use Rattle.script_runner.specs.declared.end_of_script.EndOfScript.TheVariants.{OutOfMemory}
 use Rattle.script_runner.proofs.Runs.{one_read, more_read, none_read, is_end}
 use Rattle.crash_lab.specs.LabStates.{LabState, IsLimited, IsNew}
+use Rattle.store_model.specs.Machine.{named_trees}
 use Rattle.crash_lab.specs.Experiments.{line_asked, lab_reply_text}
 use Rattle.crash_lab.specs.Runs.{AnswerOfLine, IsExperiment, IsExperimentOn, IsExperimentOverNew, OutcomeOfLine}
 use Rattle.crash_lab.specs.declared.lab_run.LabLineOutcome.{LabLineOutcome}
@@ -35,7 +35,7 @@ pub continues : (old new : LabState) (number : ℕ) (known rest before mid after
     → IsExperimentOn old number known before after (with_refusal refused status)
 continues old new number known rest before mid after refused status turn on =
     let line = turn.0 in
-    let text = lab_reply_text turn.2 (trees_now new.script.machine) in (
+    let text = lab_reply_text turn.2 (named_trees new.script.machine) in (
       line ∷ on.0,
       on.1,
       text ++ on.2,
@@ -72,7 +72,7 @@ pub second_answered : (old new : LabState) (known rest before mid after : Option
     → TakesLine known rest line → history_asked line ≡ None → AnswerOfLine old 2 line before (Replied refused) new mid → IsExperimentOn new 3 rest mid after status
     → IsExperimentOverNew old known before after (with_refusal refused status)
 second_answered old new known rest before mid after line refused status taken other told on =
-    let text = lab_reply_text told.1 (trees_now new.script.machine) in (
+    let text = lab_reply_text told.1 (named_trees new.script.machine) in (
       line ∷ on.0,
       on.1,
       text ++ on.2,

@@ -2,7 +2,7 @@
 use Rattle.std.proofs.Common.{◌≡◌, Option, Some, None, refl}
 use Rattle.std.specs.Prelude.{MatchOption}
 use Rattle.script_syntax.specs.declared.line.Line.{Line}
-use Rattle.script_syntax.specs.declared.line.Line.TheVariants.{Hives, History, At, Session, End, Plain, Begin, Inside, Commit, Rollback, Close, Outcome, Flush, Fold, Lab}
+use Rattle.script_syntax.specs.declared.line.Line.TheVariants.{Hives, History, At, Session, End, Plain, Begin, Inside, Commit, Rollback, Close, Outcome, Kept, Flush, Fold, Lab}
 use Rattle.script_syntax.specs.declared.reply.ReplyLine.{ReplyLine}
 use Rattle.script_runner.specs.Scripts.{Answers as AnswersOf}
 use Rattle.crash_lab.specs.LabStates.{LabState}
@@ -25,6 +25,7 @@ answered_as_theirs old new (Commit label) reported is kept = (refl, (is, kept.0,
 answered_as_theirs old new (Rollback label) reported is kept = (refl, (is, kept.0, kept.1))
 answered_as_theirs old new (Close label) reported is kept = (refl, (is, kept.0, kept.1))
 answered_as_theirs old new (Outcome label) reported is kept = (refl, (is, kept.0, kept.1))
+answered_as_theirs old new (Kept id) reported is kept = (refl, (is, kept.0, kept.1))
 answered_as_theirs old new Flush reported is kept = (refl, (is, kept.0, kept.1))
 answered_as_theirs old new Fold reported is kept = (refl, (is, kept.0, kept.1))
 answered_as_theirs old new (Lab line) reported is kept = absurd is

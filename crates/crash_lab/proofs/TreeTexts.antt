@@ -1,9 +1,9 @@
 -- The text of trees, one after another.
-use Rattle.std.proofs.Common.{◌≡◌, ℕ, ◌+◌, List, ◌∷◌, length, drop, Option, Some, sym, ◌∙◌, ap, subst}
+use Rattle.std.proofs.Common.{◌≡◌, ℕ, ◌+◌, ◌<◌, List, ◌∷◌, length, drop, take, Option, Some, sym, ◌∙◌, ap, subst, arith}
 use Rattle.std.specs.Prelude.{slice_get, ◌≤◌}
 use Rattle.std.specs.Io.KnownBytes.{Appends}
-use Rattle.std.proofs.lemmas.List.{drop_more, drop_all}
-use Rattle.std.proofs.lemmas.Option.{slice_get_within, get_or_from_slice_get}
+use Rattle.std.proofs.lemmas.List.{drop_more, drop_all, get_or-take, length-take}
+use Rattle.std.proofs.lemmas.Option.{slice_get_within, slice_get-get_or, get_or_from_slice_get}
 use Rattle.script_syntax.proofs.Written.{appends_more, appends_nothing}
 use Rattle.reg_tree.specs.Maps.{TreeMap}
 use Rattle.tree_printer.specs.TreeTexts.{tree_text}
@@ -22,3 +22,10 @@ one_tree_more trees i tree before mid after there now later =
 -- no tree is left
 pub no_tree_more : (trees : List TreeMap) (i : ℕ) (known : Option (List ℕ)) → length trees ≤ i → Appends known known (trees_text i (drop i trees))
 no_tree_more trees i known past = subst (λ ts. Appends known known (trees_text i ts)) (sym (drop_all i trees past)) (appends_nothing known)
+
+-- a tree of the first `hives` ones is the tree of its hive
+pub named_tree : (trees : List TreeMap) (hives i : ℕ) (tree : TreeMap) → i < hives → slice_get trees i ≡ Some tree → slice_get (take hives trees) i ≡ Some tree
+named_tree trees hives i tree named there =
+    let inside = slice_get_within trees i tree there in
+    let short : i < length (take hives trees) = subst (λ n. i < n) (sym (length-take hives trees)) (omega (arith, named, inside)) in
+    slice_get-get_or (take hives trees) i tree short ∙ ap Some (get_or-take hives trees i tree named ∙ get_or_from_slice_get trees i tree tree there)

@@ -109,7 +109,7 @@ abbrev pub trees_text : ℕ → List TreeMap → List ℕ
 trees_text hive [] = []
 trees_text hive (tree ∷ trees) = tree_text hive tree ++ trees_text (hive + 1) trees
 
--- what is written, with the trees after the line
+-- what is written, with the trees after the line of the hives that calls name
 abbrev pub lab_reply_text : LabReply → List TreeMap → List ℕ
 lab_reply_text (OneLine reported) trees = reply_line reported
 lab_reply_text (Opened number) trees = opened_text number ++ trees_text 0 trees

@@ -7,13 +7,13 @@ use Rattle.script_syntax.specs.declared.line.Line.{Line}
 use Rattle.script_syntax.specs.declared.reply.ReplyLine.TheVariants as reply
 use Rattle.script_syntax.specs.declared.status.Status.{Status}
 use Rattle.script_syntax.specs.declared.status.Status.TheVariants.{Wrong}
-use Rattle.store_model.specs.Machine.{trees_now}
 use Rattle.script_runner.specs.Plays.{Ends, EndsAs, IsWrong, WereRead, wrong_text}
 use Rattle.script_runner.specs.Scripts.{hives_asked, history_asked}
 use Rattle.script_runner.specs.OutcomeOfLine.{TakesLine}
 use Rattle.script_runner.specs.declared.end_of_script.EndOfScript.{EndOfScript}
 use Rattle.script_runner.specs.declared.end_of_script.EndOfScript.TheVariants.{Ended, Broken, OutOfMemory}
 use Rattle.crash_lab.specs.LabStates.{LabState, IsLimited, IsNew}
+use Rattle.store_model.specs.Machine.{named_trees}
 use Rattle.crash_lab.specs.Experiments.{Answered, is_refused, line_asked, lab_reply_text}
 use Rattle.crash_lab.specs.declared.reply.LabReply.{LabReply}
 use Rattle.crash_lab.specs.declared.lab_run.LabLineOutcome.{LabLineOutcome}
@@ -26,7 +26,7 @@ RunsOn old number [] end_of_script text status = EndsAs end_of_script text statu
 RunsOn old number (line ∷ lines) end_of_script text status =
     ((line_asked line ≡ None) × IsWrong number lines end_of_script text status)
     ⊎ ((asked : Line) × (reported : LabReply) × (new : LabState) × (rest : List ℕ) × (later : Status) × (line_asked line ≡ Some asked) × Answered old asked reported new
-    × RunsOn new (number + 1) lines end_of_script rest later × (text ≡ lab_reply_text reported (trees_now new.script.machine) ++ rest) × (status ≡ with_refusal (is_refused reported) later))
+    × RunsOn new (number + 1) lines end_of_script rest later × (text ≡ lab_reply_text reported (named_trees new.script.machine) ++ rest) × (status ≡ with_refusal (is_refused reported) later))
 
 -- A script over its new store, from line 2 on. If that line is `history`, it is answered `ok`, and says how many changes
 -- the store accepts until its history is folded. Any other is answered as those after it.
@@ -70,11 +70,11 @@ AnswerOfLine old number line before (Over status) new after =
     ⊎ ((text : List ℕ) × Ends OutOfMemory text status × Appends before after text)
 AnswerOfLine old number line before (Replied refused) new after =
     (asked : Line) × (reported : LabReply) × (line_asked line ≡ Some asked) × Answered old asked reported new
-    × Appends before after (lab_reply_text reported (trees_now new.script.machine)) × (refused ≡ is_refused reported)
+    × Appends before after (lab_reply_text reported (named_trees new.script.machine)) × (refused ≡ is_refused reported)
 
 -- one line of a run: a line was read and answered, or the run is over
 abbrev pub OutcomeOfLine : LabState → ℕ → Option (List ℕ) → Option (List ℕ) → LabLineOutcome → LabState → Option (List ℕ) → Option (List ℕ) → Type 0
 OutcomeOfLine old number known before (Over status) new rest after = IsExperimentOn old number known before after status
 OutcomeOfLine old number known before (Replied refused) new rest after =
     (line : List ℕ) × (asked : Line) × (reported : LabReply) × TakesLine known rest line × (line_asked line ≡ Some asked) × Answered old asked reported new
-    × Appends before after (lab_reply_text reported (trees_now new.script.machine)) × (refused ≡ is_refused reported)
+    × Appends before after (lab_reply_text reported (named_trees new.script.machine)) × (refused ≡ is_refused reported)

@@ -152,7 +152,7 @@ fn answer_line<W: Write>(
 {
     match laboratory.reply_to(line) {
         Ok(Some(reported)) => {
-            reported.write(laboratory.trees(), writer)?;
+            reported.write(laboratory.hives(), laboratory.trees(), writer)?;
             let is_refusal = reported.is_refusal();
             Ok(LabLineOutcome::Replied { is_refusal })
         }

@@ -72,11 +72,18 @@ impl Laboratory {
         self.interpreter.engine().keeps_a_prefix(); // for the prover
     }
 
-    /// The trees after all accepted changes.
+    /// The trees after all accepted changes, also those of hives that calls don't name.
     pub(crate) fn trees(&self) -> &Trees
         ensures { result.now ≡ trees_now (lab_state_of self.now).script.machine }
     {
         self.interpreter.engine().trees()
+    }
+
+    /// How many hives calls name.
+    pub(crate) fn hives(&self) -> usize
+        ensures { result ≡ (lab_state_of self.now).script.machine.bounds.hives }
+    {
+        usize::from(self.interpreter.engine().hives())
     }
 
     /// Answers a further line of the script, or `None` if the bytes are no such line. Memory is refused only for

@@ -1,5 +1,5 @@
 //! The reply to a line of a laboratory, and its text.
-ghost use Rattle.std.specs.Prelude.{◌≡◌, OnOk, IfOk};
+ghost use Rattle.std.specs.Prelude.{◌≡◌, OnOk, IfOk, take};
 ghost use Rattle.std.specs.Io.KnownBytes.{Appends};
 ghost use Rattle.crash_lab.specs.Experiments.{is_refused, lab_reply_text, trees_text};
 
@@ -36,27 +36,32 @@ impl LabReply {
         }
     }
 
-    /// Writes its text; these are the trees of the store that was opened.
-    pub(crate) fn write<W: Write>(&self, trees: &Trees, writer: &mut W) -> io::Result<()>
+    /// Writes its text. These are the trees of the store that was opened, of which calls name the first `hives`.
+    pub(crate) fn write<W: Write>(
+        &self,
+        hives: usize,
+        trees: &Trees,
+        writer: &mut W,
+    ) -> io::Result<()>
         ensures { OnOk result (Appends (W.contents writer.old) (W.contents writer.new)
-            (lab_reply_text self.now trees.now)) }
+            (lab_reply_text self.now (take hives trees.now))) }
     {
         match self {
             LabReply::OneLine { reported } => reported.write(writer),
             LabReply::Opened { number } => {
                 writeln!(writer, "opened {number}")?;
-                write_trees(trees, writer)
+                write_trees(hives, trees, writer)
             }
         }
     }
 }
 
-// the text of each hive's tree, in the order of hives
-fn write_trees<W: Write>(trees: &Trees, writer: &mut W) -> io::Result<()>
+// the text of the tree of each of the first `hives` hives, in their order
+fn write_trees<W: Write>(hives: usize, trees: &Trees, writer: &mut W) -> io::Result<()>
     ensures { OnOk result (Appends (W.contents writer.old) (W.contents writer.new)
-        (trees_text 0 trees.now)) }
+        (trees_text 0 (take hives trees.now))) }
 {
-    for hive in 0..trees.len() {
+    for hive in 0..hives.min(trees.len()) {
         let Some(tree) = trees.tree(hive as u8) else {
             unreachable!();
         };
