@@ -1,4 +1,4 @@
-//! The trees after each of a script's changes.
+//! The trees after each of a script's changes: of all hives, that of outcomes among them.
 use crate::same_trees::are_same;
 use reg_tree::Trees;
 use std::alloc::{AllocError, Global};

@@ -2,7 +2,8 @@
 use reg_tree::{Tree, Trees, Value};
 use reg_tree_parts::{Key, Node, Values};
 
-/// Whether the hives have the same trees: the same keys and values with all their data, and names in the same spelling.
+/// Whether all hives have the same trees, that of outcomes among them. Keys and values are the same with all their data,
+/// and names in the same spelling.
 pub(crate) fn are_same(mine: &Trees, theirs: &Trees) -> bool {
     mine.len() == theirs.len() && (0..mine.len()).all(|hive| is_same_in(mine, theirs, hive as u8))
 }

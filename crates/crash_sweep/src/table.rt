@@ -103,7 +103,8 @@ impl Rows {
     }
 }
 
-// writes what a call did, by the name that the file has in the folder of a store
+// writes what a call did, by the name that the file has in the folder of a store; a file may be one of the hive of
+// outcomes
 fn write_change<W: Write>(writer: &mut W, change: FileChange) -> io::Result<()> {
     let verb = match change.kind {
         ChangeKind::Write => "write",
