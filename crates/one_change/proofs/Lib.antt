@@ -1,3 +1,4 @@
 pub mod Transacting
 pub mod Waiting
 pub mod Steps
+pub mod NamedTrees

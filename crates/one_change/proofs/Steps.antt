@@ -15,10 +15,10 @@ use Rattle.one_change.proofs.Transacting.{keeps_on, keeps_same}
 -- a step that is refused accepts nothing
 fails_keep : (old new : Machine) (wanted : Option Refusal) (why : Refusal) → StepFails old wanted why new → KeepsAccepted old new
 fails_keep old new wanted why (inl refuses) = keeps_same old new refuses.1
-fails_keep old new wanted why (inr fails) = record { opened = ap (λ (m : Machine). m.opened) fails.1.next; before = ap (λ (m : Machine). m.before) fails.1.next; accepted = ap (λ (m : Machine). m.accepted) fails.1.next }
+fails_keep old new wanted why (inr fails) = record { opened = ap (λ (m : Machine). m.opened) fails.1.next; before = ap (λ (m : Machine). m.before) fails.1.next; accepted = ap (λ (m : Machine). m.accepted) fails.1.next; bounds = ap (λ (m : Machine). m.bounds) fails.1.next }
 
 journal_keeps : (old new : Machine) (answer : Reply) → Step old JournalStep answer new → KeepsAccepted old new
-journal_keeps old new (reply.Stepped progress) step = record { opened = ap (λ (m : Machine). m.opened) step.next; before = ap (λ (m : Machine). m.before) step.next; accepted = ap (λ (m : Machine). m.accepted) step.next }
+journal_keeps old new (reply.Stepped progress) step = record { opened = ap (λ (m : Machine). m.opened) step.next; before = ap (λ (m : Machine). m.before) step.next; accepted = ap (λ (m : Machine). m.accepted) step.next; bounds = ap (λ (m : Machine). m.bounds) step.next }
 journal_keeps old new (reply.Refused why) step = fails_keep old new _ why step
 journal_keeps old new _ step = absurd step
 
@@ -28,7 +28,7 @@ flusher_keeps old new hive (reply.Refused why) step = fails_keep old new _ why s
 flusher_keeps old new hive _ step = absurd step
 
 trim_keeps : (old new : Machine) (answer : Reply) → Step old TrimStep answer new → KeepsAccepted old new
-trim_keeps old new (reply.Stepped progress) step = record { opened = ap (λ (m : Machine). m.opened) step.next; before = ap (λ (m : Machine). m.before) step.next; accepted = ap (λ (m : Machine). m.accepted) step.next }
+trim_keeps old new (reply.Stepped progress) step = record { opened = ap (λ (m : Machine). m.opened) step.next; before = ap (λ (m : Machine). m.before) step.next; accepted = ap (λ (m : Machine). m.accepted) step.next; bounds = ap (λ (m : Machine). m.bounds) step.next }
 trim_keeps old new (reply.Refused why) step = fails_keep old new _ why step
 trim_keeps old new _ step = absurd step
 

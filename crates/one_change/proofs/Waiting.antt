@@ -13,11 +13,11 @@ use Rattle.one_change.proofs.Transacting.{keeps_same, keeps_on}
 
 -- a step of the journal accepts nothing, whether it is made or refused
 made_keeps : (old new : Machine) (progress : Progress) → Step old JournalStep (Stepped progress) new → KeepsAccepted old new
-made_keeps old new progress step = record { opened = ap (λ (m : Machine). m.opened) step.next; before = ap (λ (m : Machine). m.before) step.next; accepted = ap (λ (m : Machine). m.accepted) step.next }
+made_keeps old new progress step = record { opened = ap (λ (m : Machine). m.opened) step.next; before = ap (λ (m : Machine). m.before) step.next; accepted = ap (λ (m : Machine). m.accepted) step.next; bounds = ap (λ (m : Machine). m.bounds) step.next }
 
 refused_keeps : (old new : Machine) (why : Refusal) → Step old JournalStep (Refused why) new → KeepsAccepted old new
 refused_keeps old new why (inl refuses) = keeps_same old new refuses.1
-refused_keeps old new why (inr fails) = record { opened = ap (λ (m : Machine). m.opened) fails.1.next; before = ap (λ (m : Machine). m.before) fails.1.next; accepted = ap (λ (m : Machine). m.accepted) fails.1.next }
+refused_keeps old new why (inr fails) = record { opened = ap (λ (m : Machine). m.opened) fails.1.next; before = ap (λ (m : Machine). m.before) fails.1.next; accepted = ap (λ (m : Machine). m.accepted) fails.1.next; bounds = ap (λ (m : Machine). m.bounds) fails.1.next }
 
 -- a question accepts nothing
 pair_keeps : (old next : Machine) (number : ℕ) (progress : Progress) → Run old (Acked number ∷ JournalStep ∷ []) (NotYet ∷ Stepped progress ∷ []) next → KeepsAccepted old next
@@ -42,10 +42,10 @@ pub waited_durable : (old : Machine) (number : ℕ) (new : Machine) → IsWaited
 waited_durable old number new waited = waits_durable waited.0 old number new waited.1
 
 -- what was accepted before the wait is accepted after it
-pub accepts_on : (first old new : Machine) (moment : ℕ) (ops : List Op) → AcceptsOps first moment ops old → KeepsAccepted old new → AcceptsOps first moment ops new
-accepts_on first old new moment ops accepts keeps = record { opened = keeps.opened ∙ accepts.opened; before = keeps.before ∙ accepts.before; accepted = keeps.accepted ∙ accepts.accepted }
+pub accepts_on : (first old new : Machine) (id : List ℕ) (moment : ℕ) (ops : List Op) → AcceptsOps first id moment ops old → KeepsAccepted old new → AcceptsOps first id moment ops new
+accepts_on first old new id moment ops accepts keeps = record { opened = keeps.opened ∙ accepts.opened; before = keeps.before ∙ accepts.before; accepted = keeps.accepted ∙ accepts.accepted; bounds = keeps.bounds ∙ accepts.bounds }
 
 -- a change was accepted, and the wait for it was refused
-pub wait_stops : (first old new : Machine) (moment number : ℕ) (ops : List Op) (why : Refusal) → AcceptsOps first moment ops old → number ≡ number_of first ops → IsWaited old number (Some why) new → FailsToCommit first moment ops why new
-wait_stops first old new moment number ops why accepts numbered waited =
-    inr (accepts_on first old new moment ops accepts (waited_keeps old number (Some why) new waited), (old, accepts, subst (λ (n : ℕ). IsWaited old n (Some why) new) numbered waited))
+pub wait_stops : (first old new : Machine) (id : List ℕ) (moment number : ℕ) (ops : List Op) (why : Refusal) → AcceptsOps first id moment ops old → number ≡ number_of first ops → IsWaited old number (Some why) new → FailsToCommit first id moment ops why new
+wait_stops first old new id moment number ops why accepts numbered waited =
+    inr (accepts_on first old new id moment ops accepts (waited_keeps old number (Some why) new waited), (old, accepts, subst (λ (n : ℕ). IsWaited old n (Some why) new) numbered waited))

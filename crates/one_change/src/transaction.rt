@@ -24,7 +24,7 @@ const _: () = prove!(SESSION == 0);
 /// Begins a transaction of a unit of work.
 pub(crate) fn begin<D: Disk>(engine: &mut Engine<D>, id: Uuid) -> Result<Tx, Refusal>
     requires open { is_open engine.old.machine 0 ≡ true }
-    ensures begun { IfOk result (λ tx. (moment : ℕ) → InTransaction engine.old.machine tx moment []
+    ensures begun { IfOk result (λ tx. (moment : ℕ) → InTransaction engine.old.machine id tx moment []
         engine.new.machine) }
     ensures refused { IfErr result (λ why. KeepsAccepted engine.old.machine engine.new.machine) }
     ensures cause { IfErr result (λ why.
@@ -51,10 +51,10 @@ pub(crate) fn add<D: Disk>(
     moment: u64,
     op: Op,
 ) -> Result<(), Refusal>
-    ensures added { OnOk result ((first : Machine) (ops : List AnyOp) →
-        InTransaction first tx moment ops engine.old.machine →
+    ensures added { OnOk result ((first : Machine) (id : List ℕ) (ops : List AnyOp) →
+        InTransaction first id tx moment ops engine.old.machine →
         legal (applied (trees_now first) ops moment) op ≡ Ok Legal →
-        InTransaction first tx moment (ops ++ op ∷ []) engine.new.machine) }
+        InTransaction first id tx moment (ops ++ op ∷ []) engine.new.machine) }
     ensures kept { KeepsAccepted engine.old.machine engine.new.machine }
     ensures cause { IfErr result (λ why.
         Step engine.old.machine (Event.TxWrite 0 tx moment op) (Reply.Refused why) engine.new.machine) }
@@ -79,9 +79,9 @@ pub(crate) fn add<D: Disk>(
 /// Commits the transaction: its operations are accepted as one change. Answers the change's number.
 pub(crate) fn accept<D: Disk>(engine: &mut Engine<D>, tx: Tx, moment: u64) -> Result<u64, Refusal>
     ensures accepted { IfOk result (λ number. (number ≤ last_number engine.new.machine)
-        × ((first : Machine) (ops : List AnyOp) →
-        InTransaction first tx moment ops engine.old.machine →
-        AcceptsOps first moment ops engine.new.machine × (number ≡ number_of first ops))) }
+        × ((first : Machine) (id : List ℕ) (ops : List AnyOp) →
+        InTransaction first id tx moment ops engine.old.machine →
+        AcceptsOps first id moment ops engine.new.machine × (number ≡ number_of first ops))) }
     ensures refused { IfErr result (λ why. KeepsAccepted engine.old.machine engine.new.machine) }
     ensures cause { IfErr result (λ why.
         Step engine.old.machine (Event.CommitAccept 0 tx moment) (Reply.Refused why) engine.new.machine) }

@@ -1,5 +1,5 @@
 -- How an application ends.
-use Rattle.std.proofs.Common.{◌≡◌, inl, inr, ℕ, List, None, Result, Ok, Err, IfOk, refl}
+use Rattle.std.proofs.Common.{◌≡◌, inl, inr, ℕ, List, Option, None, Result, Ok, Err, IfOk, refl}
 use Rattle.store_model.specs.Machine.{Machine}
 use Rattle.one_change.specs.Commits.{FailsToCommit, KeepsAccepted}
 use Rattle.one_change.proofs.Transacting.{keeps_on}
@@ -19,17 +19,17 @@ no_steps (Denied line why) old other = (refl, refl)
 no_steps (Refused why) old other = (refl, refl)
 
 -- however it ends, all was accepted or nothing
-pub all_or_nothing : (prefixes : List Prefix) (moment : ℕ) (file : RegFile) (old mid new : Machine) (outcome : Outcome) → Ends prefixes moment file old outcome mid → KeepsAccepted mid new → AllOrNothing prefixes moment file old new
-all_or_nothing prefixes moment file old mid new (Applied number) ends keeps = inr (ends.0, ends.2, accepts_on old mid new moment _ ends.3.accepts keeps)
-all_or_nothing prefixes moment file old mid new (BadFile fault) ends keeps = inl (keeps_on old mid new ends.0 keeps)
-all_or_nothing prefixes moment file old mid new (NoHive line) ends keeps = inl (keeps_on old mid new ends.0 keeps)
-all_or_nothing prefixes moment file old mid new (Denied line why) ends keeps = inl (keeps_on old mid new ends.0 keeps)
-all_or_nothing prefixes moment file old mid new (Refused why) (inl lacking) keeps = inl (keeps_on old mid new lacking.1 keeps)
-all_or_nothing prefixes moment file old mid new (Refused why) (inr failed) keeps = by_case failed.3
+pub all_or_nothing : (prefixes : List Prefix) (moment : ℕ) (unit : Option (List ℕ)) (file : RegFile) (old mid new : Machine) (outcome : Outcome) → Ends prefixes moment unit file old outcome mid → KeepsAccepted mid new → AllOrNothing prefixes moment unit file old new
+all_or_nothing prefixes moment unit file old mid new (Applied number) ends keeps = inr (ends.0, ends.2, ends.3, ends.4, accepts_on old mid new ends.3 moment _ ends.5.accepts keeps)
+all_or_nothing prefixes moment unit file old mid new (BadFile fault) ends keeps = inl (keeps_on old mid new ends.0 keeps)
+all_or_nothing prefixes moment unit file old mid new (NoHive line) ends keeps = inl (keeps_on old mid new ends.0 keeps)
+all_or_nothing prefixes moment unit file old mid new (Denied line why) ends keeps = inl (keeps_on old mid new ends.0 keeps)
+all_or_nothing prefixes moment unit file old mid new (Refused why) (inl lacking) keeps = inl (keeps_on old mid new lacking.1 keeps)
+all_or_nothing prefixes moment unit file old mid new (Refused why) (inr failed) keeps = by_case failed.5
   where
-    by_case : FailsToCommit old moment failed.0.ops why mid → AllOrNothing prefixes moment file old new
+    by_case : FailsToCommit old failed.3 moment failed.0.ops why mid → AllOrNothing prefixes moment unit file old new
     by_case (inl none) = inl (keeps_on old mid new none.0 keeps)
-    by_case (inr accepts) = inr (failed.0, failed.2, accepts_on old mid new moment _ accepts.0 keeps)
+    by_case (inr accepts) = inr (failed.0, failed.2, failed.3, failed.4, accepts_on old mid new failed.3 moment _ accepts.0 keeps)
 
 pub if_ok : {T E : Type 0} {P Q : T → Type 0} (answer : Result T E) → ((x : T) → P x → Q x) → IfOk answer P → IfOk answer Q
 if_ok (Ok x) f p = f x p

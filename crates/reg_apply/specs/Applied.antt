@@ -1,11 +1,11 @@
 -- How a registration file is applied to a store.
-use Rattle.std.specs.Prelude.{◌≡◌, ◌⊎◌, ℕ, List, [], ◌∷◌, ◌++◌, length, Option, Some, None}
+use Rattle.std.specs.Prelude.{◌≡◌, ◌⊎◌, ℕ, List, [], ◌∷◌, ◌++◌, length, Option, Some, None, ⊤}
 use Rattle.std.specs.Io.KnownBytes.{Appends}
 use Rattle.refusals.specs.declared.refusal.Refusal.{Refusal}
 use Rattle.refusals.specs.declared.refusal.Refusal.TheVariants.{NoMemory}
 use Rattle.refusals.specs.Refusals.{refusal_text}
 use Rattle.disk_model.specs.FileState.{FileState}
-use Rattle.store_model.specs.Machine.{Machine, trees_now}
+use Rattle.store_model.specs.Machine.{Machine, named_trees}
 use Rattle.script_syntax.specs.declared.status.Status.{Status}
 use Rattle.script_syntax.specs.declared.status.Status.TheVariants as status
 use Rattle.script_runner.specs.Work.{MakesSteps}
@@ -24,34 +24,40 @@ use Rattle.reg_apply.specs.declared.outcome.Outcome.TheVariants.{Applied, BadFil
 use Rattle.reg_apply.specs.Outcomes.{outcome_status, outcome_text}
 use Rattle.reg_apply.specs.Statements.{StopsAt, TakesStatements}
 
--- the plan before a file's first statement: on the trees of a store, without operations
+-- the plan before a file's first statement: on the trees of the hives that calls name, without operations
 abbrev pub first_plan : Machine → ℕ → Planned
-first_plan old moment = record { view = trees_now old; ops = []; moment = moment }
+first_plan old moment = record { view = named_trees old; ops = []; moment = moment }
 
 -- all statements of a file are taken into a plan
 abbrev pub TakesAll : List Prefix → ℕ → RegFile → Machine → Planned → Type 0
 TakesAll prefixes moment file old plan =
-    (last : Option Place) × TakesStatements prefixes (length (trees_now old)) None (first_plan old moment) file.statements last plan
+    (last : Option Place) × TakesStatements prefixes (length (named_trees old)) None (first_plan old moment) file.statements last plan
 
 -- a statement of a file is the first that isn't
 abbrev pub StopsIn : List Prefix → ℕ → RegFile → Machine → ℕ → Denial → Type 0
-StopsIn prefixes moment file old line why = StopsAt prefixes (length (trees_now old)) (first_plan old moment) file.statements line why
+StopsIn prefixes moment file old line why = StopsAt prefixes (length (named_trees old)) (first_plan old moment) file.statements line why
 
--- How it ends. The operations of all statements are the change that is committed, if the file has no fault. If a
--- statement is denied, or the file has a fault after statements that are taken, nothing is accepted. The first of these
--- is told. An application is refused if memory for its plan is lacking, or for the same reason as its commit.
-abbrev pub Ends : List Prefix → ℕ → RegFile → Machine → Outcome → Machine → Type 0
-Ends prefixes moment file old (Applied number) new =
-    (plan : Planned) × (file.fault ≡ None) × TakesAll prefixes moment file old plan × Commits old moment plan.ops number new
-Ends prefixes moment file old (BadFile fault) new =
+-- the unit of work of an application: the one that was asked for, or any if none was
+abbrev pub IsUnit : Option (List ℕ) → List ℕ → Type 0
+IsUnit None id = ⊤
+IsUnit (Some unit) id = id ≡ unit
+
+-- How it ends. The operations of all statements are the change that is committed for the unit of work, if the file has no
+-- fault. If a statement is denied, or the file has a fault after statements that are taken, nothing is accepted. The
+-- first of these is told. An application is refused if memory for its plan is lacking, or for the same reason as its
+-- commit.
+abbrev pub Ends : List Prefix → ℕ → Option (List ℕ) → RegFile → Machine → Outcome → Machine → Type 0
+Ends prefixes moment unit file old (Applied number) new =
+    (plan : Planned) × (file.fault ≡ None) × TakesAll prefixes moment file old plan × (id : List ℕ) × IsUnit unit id × Commits old id moment plan.ops number new
+Ends prefixes moment unit file old (BadFile fault) new =
     KeepsAccepted old new
     × (((plan : Planned) × (file.fault ≡ Some fault) × TakesAll prefixes moment file old plan)
     ⊎ ((fault.kind ≡ kind.NoKey) × StopsIn prefixes moment file old fault.line denial.NoKey))
-Ends prefixes moment file old (NoHive line) new = KeepsAccepted old new × StopsIn prefixes moment file old line denial.NoHive
-Ends prefixes moment file old (Denied line why) new = KeepsAccepted old new × StopsIn prefixes moment file old line (denial.Refused why)
-Ends prefixes moment file old (Refused why) new =
+Ends prefixes moment unit file old (NoHive line) new = KeepsAccepted old new × StopsIn prefixes moment file old line denial.NoHive
+Ends prefixes moment unit file old (Denied line why) new = KeepsAccepted old new × StopsIn prefixes moment file old line (denial.Refused why)
+Ends prefixes moment unit file old (Refused why) new =
     ((why ≡ NoMemory) × KeepsAccepted old new)
-    ⊎ ((plan : Planned) × (file.fault ≡ None) × TakesAll prefixes moment file old plan × FailsToCommit old moment plan.ops why new)
+    ⊎ ((plan : Planned) × (file.fault ≡ None) × TakesAll prefixes moment file old plan × (id : List ℕ) × IsUnit unit id × FailsToCommit old id moment plan.ops why new)
 
 -- what is printed: how it ended, and what is refused of the steps that are left, if anything is
 abbrev pub report_text : Outcome → Option Refusal → List ℕ
@@ -72,7 +78,7 @@ abbrev pub IsPrinted : Option (List ℕ) → Option (List ℕ) → Outcome → O
 IsPrinted before after outcome ended its_status = Appends before after (report_text outcome ended) × (its_status ≡ report_status outcome ended)
 
 -- A store was opened on these files, and the file was applied to it. The disk as it was after the opening is `first`.
-pub record OpensAndApplies {D : Type 0} (is_faithful : D → Type 0) (files : ℕ → List ℕ) (prefixes : List Prefix) (moment : ℕ) (file : RegFile) (before after : Option (List ℕ)) (its_status : Status) : Type 0 where
+pub record OpensAndApplies {D : Type 0} (is_faithful : D → Type 0) (files : ℕ → List ℕ) (prefixes : List Prefix) (moment : ℕ) (unit : Option (List ℕ)) (file : RegFile) (before after : Option (List ℕ)) (its_status : Status) : Type 0 where
   pub first : D
   pub store : Store
   pub number : ℕ
@@ -80,32 +86,33 @@ pub record OpensAndApplies {D : Type 0} (is_faithful : D → Type 0) (files : �
   pub opened : IsOpenedOn (is_faithful first) files store number session_0 begun
   pub outcome : Outcome
   pub mid : Machine
-  pub ends : Ends prefixes moment file begun outcome mid
+  pub ends : Ends prefixes moment unit file begun outcome mid
   pub ended : Option Refusal
   pub last : Machine
   pub finishes : Finishes outcome ended mid last
   pub printed : IsPrinted before after outcome ended its_status
 
 -- No store was opened, and the reason is printed; or one was, and the file was applied.
-abbrev pub Reports : {D : Type 0} → (D → Type 0) → Type 0 → Type 0 → (ℕ → List ℕ) → List Prefix → ℕ → RegFile → Option (List ℕ) → Option (List ℕ) → Status → Type 0
-Reports is_faithful failed faithful files prefixes moment file before after its_status =
+abbrev pub Reports : {D : Type 0} → (D → Type 0) → Type 0 → Type 0 → (ℕ → List ℕ) → List Prefix → ℕ → Option (List ℕ) → RegFile → Option (List ℕ) → Option (List ℕ) → Status → Type 0
+Reports is_faithful failed faithful files prefixes moment unit file before after its_status =
     ((why : Refusal) × MayNotOpen failed faithful files why × IsPrinted before after (Refused why) None its_status)
-    ⊎ OpensAndApplies is_faithful files prefixes moment file before after its_status
+    ⊎ OpensAndApplies is_faithful files prefixes moment unit file before after its_status
 
 -- all that a file asks for was accepted as one change, or nothing was
-abbrev pub AllOrNothing : List Prefix → ℕ → RegFile → Machine → Machine → Type 0
-AllOrNothing prefixes moment file old new = KeepsAccepted old new ⊎ ((plan : Planned) × TakesAll prefixes moment file old plan × AcceptsOps old moment plan.ops new)
+abbrev pub AllOrNothing : List Prefix → ℕ → Option (List ℕ) → RegFile → Machine → Machine → Type 0
+AllOrNothing prefixes moment unit file old new =
+    KeepsAccepted old new ⊎ ((plan : Planned) × TakesAll prefixes moment file old plan × (id : List ℕ) × IsUnit unit id × AcceptsOps old id moment plan.ops new)
 
 -- A store was opened on these files, and all or nothing of the file was accepted. If the disk that is left is faithful,
 -- whatever a crash leaves of it recovers a prefix of that, and so does what a read gives unless the store is faulted.
-pub record LeavesStore {D : Type 0} (is_faithful : D → Type 0) (files : ℕ → List ℕ) (prefixes : List Prefix) (moment : ℕ) (file : RegFile) (faithful : Type 0) (states : ℕ → ℕ → FileState) (clock : ℕ) : Type 0 where
+pub record LeavesStore {D : Type 0} (is_faithful : D → Type 0) (files : ℕ → List ℕ) (prefixes : List Prefix) (moment : ℕ) (unit : Option (List ℕ)) (file : RegFile) (faithful : Type 0) (states : ℕ → ℕ → FileState) (clock : ℕ) : Type 0 where
   pub first : D
   pub store : Store
   pub number : ℕ
   pub begun : Machine
   pub opened : IsOpenedOn (is_faithful first) files store number session_0 begun
   pub last : Machine
-  pub all : AllOrNothing prefixes moment file begun last
+  pub all : AllOrNothing prefixes moment unit file begun last
   pub left : LeavesPrefix faithful states clock store last
 
 -- a denial at a line, as it is told

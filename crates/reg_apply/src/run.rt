@@ -8,7 +8,7 @@ ghost use Rattle.script_runner.specs.Later.{IsLater};
 ghost use Rattle.script_runner.specs.Running.{LeavesLife};
 ghost use Rattle.one_change.specs.Commits.{KeepsAccepted};
 ghost use Rattle.reg_apply.specs.Outcomes.{outcome_status, outcome_text};
-ghost use Rattle.reg_apply.specs.Applied.{Ends, Finishes, IsPrinted, LeavesStore, Reports, StopsSo};
+ghost use Rattle.reg_apply.specs.Applied.{Ends, Finishes, IsPrinted, IsUnit, LeavesStore, Reports, StopsSo};
 
 use crate::outcome::Outcome;
 use crate::place::Denial;
@@ -40,7 +40,9 @@ pub struct Request<'a> {
 
 impl Request<'_> {
     // the unit of work, if the store's last change has this number
-    fn unit_of_work(&self, number: u64) -> Uuid {
+    fn unit_of_work(&self, number: u64) -> Uuid
+        ensures { IsUnit self.now.id result }
+    {
         match self.id {
             Some(id) => id,
             None => {
@@ -65,11 +67,11 @@ pub fn apply<D: Disk, W: Write>(
 ) -> (D, io::Result<Status>)
     ensures reports { IfOk result.1 (λ status. Reports D.faithful (D.failures disk < D.failures result.0)
         (D.faithful result.0) (seen_in (D.state_at disk (D.clock disk))) request.now.prefixes.now
-        request.now.moment file (W.contents writer.old) (W.contents writer.new) status) }
+        request.now.moment request.now.id file (W.contents writer.old) (W.contents writer.new) status) }
     ensures left { LeavesLife (D.failures disk < D.failures result.0) (D.faithful result.0)
         (D.state_at disk (D.clock disk)) (D.state_at result.0 (D.clock result.0))
         ⊎ LeavesStore D.faithful (seen_in (D.state_at disk (D.clock disk))) request.now.prefixes.now
-        request.now.moment file (D.faithful result.0) (D.state_at result.0) (D.clock result.0) }
+        request.now.moment request.now.id file (D.faithful result.0) (D.state_at result.0) (D.clock result.0) }
 {
     match open_store(alloc, disk) {
         Ok((engine, number)) => {
@@ -93,11 +95,12 @@ pub fn change<D: Disk>(
     file: RegFile,
 ) -> Outcome
     requires open { is_open engine.old.machine 0 ≡ true }
-    ensures ends { Ends request.now.prefixes.now request.now.moment file engine.old.machine result engine.new.machine }
+    ensures ends { Ends request.now.prefixes.now request.now.moment request.now.id file engine.old.machine
+        result engine.new.machine }
     ensures later { IsLater D.faithful D.failures engine.old engine.new }
 {
     let RegFile { statements, fault } = file;
-    let Ok(trees) = engine.trees().try_clone(alloc) else {
+    let Ok(trees) = engine.named_trees(alloc) else {
         return Outcome::Refused {
             refusal: Refusal::NoMemory,
         };

@@ -4,7 +4,7 @@ use Rattle.std.specs.List.{AllZip}
 use Rattle.std.proofs.lemmas.Option.{slice_get_within}
 use Rattle.reg_tree.specs.Maps.{TreeMap}
 use Rattle.reg_tree.specs.Fresh.{fresh_tree}
-use Rattle.store_model.specs.Machine.{Machine, trees_now}
+use Rattle.store_model.specs.Machine.{Machine, named_trees}
 use Rattle.key_walk.specs.KeyRows.{NamedRow}
 use Rattle.key_walk.specs.SubtreeRows.{rows_below}
 use Rattle.reg_prefixes.specs.declared.prefix.Prefix.{Prefix}
@@ -35,12 +35,12 @@ module _ (r : ReadsText) (prefixes : List Prefix) (trees : List TreeMap) (moment
       let are = can.prefixes_are in
       export_restores r prefixes trees (exported prefixes trees) moment old are.showable are.apart (are_shown prefixes trees can.have) can.calls can.short can.is_new
 
-  pub whole_ended : (new : Machine) (outcome : Outcome) → Ends prefixes moment (reg_file_of (reg_text (exported prefixes trees))) old outcome new → EndsGood (AllZip SameContent trees) outcome new
-  whole_ended new outcome ends =
+  pub whole_ended : (unit : Option (List ℕ)) (new : Machine) (outcome : Outcome) → Ends prefixes moment unit (reg_file_of (reg_text (exported prefixes trees))) old outcome new → EndsGood (AllZip SameContent trees) outcome new
+  whole_ended unit new outcome ends =
       let are = can.prefixes_are in
       let shown = exported prefixes trees in
       let read = shown_read r prefixes trees shown are.showable (are_shown prefixes trees can.have) can.calls in
-      ended_so prefixes moment (reg_text shown) (trees_ops 0 trees) (AllZip SameContent trees) old new whole_restores (bytes_add (reg_text shown) (export_statements shown) read (export_adds shown)) (made_same trees moment old can.calls can.is_new) outcome ends
+      ended_so prefixes moment (reg_text shown) (trees_ops 0 trees) (AllZip SameContent trees) old new whole_restores (bytes_add (reg_text shown) (export_statements shown) read (export_adds shown)) (made_same trees moment old can.calls can.is_new) unit outcome ends
 
 -- the prefix of a hive
 prefix_of_some : (o : Option (List ℕ)) → IsSome o → o ≡ Some (text_or_none o)
@@ -54,15 +54,15 @@ module _ (r : ReadsText) (prefixes : List Prefix) (hive : ℕ) (tree : TreeMap) 
   shown_is : shown_in prefixes hive ≡ Some (text_or_none (shown_in prefixes hive))
   shown_is = prefix_of_some (shown_in prefixes hive) can.has
 
-  pub part_does : Restores prefixes moment (reg_text (exported_part prefixes hive tree top)) old (part_ops hive tree top) (HasPartIn tree top hive (trees_now old))
+  pub part_does : Restores prefixes moment (reg_text (exported_part prefixes hive tree top)) old (part_ops hive tree top) (HasPartIn tree top hive (named_trees old))
   part_does =
       let are = can.prefixes_are in
-      part_restores r prefixes hive tree top prefix moment old are.showable are.apart shown_is can.call can.there can.near can.short can.are_trees can.is_new (slice_get_within (trees_now old) hive fresh_tree can.is_new)
+      part_restores r prefixes hive tree top prefix moment old are.showable are.apart shown_is can.call can.there can.near can.short can.are_trees can.is_new (slice_get_within (named_trees old) hive fresh_tree can.is_new)
 
-  pub part_ended : (new : Machine) (outcome : Outcome) → Ends prefixes moment (reg_file_of (reg_text (exported_part prefixes hive tree top))) old outcome new → EndsGood (HasPartIn tree top hive (trees_now old)) outcome new
-  part_ended new outcome ends =
+  pub part_ended : (unit : Option (List ℕ)) (new : Machine) (outcome : Outcome) → Ends prefixes moment unit (reg_file_of (reg_text (exported_part prefixes hive tree top))) old outcome new → EndsGood (HasPartIn tree top hive (named_trees old)) outcome new
+  part_ended unit new outcome ends =
       let are = can.prefixes_are in
       let shown : List (List ℕ × List NamedRow) = (prefix, rows_below tree top) ∷ [] in
       let read = part_read r prefixes hive tree top prefix moment old are.showable are.apart shown_is can.call can.there can.near can.short can.are_trees can.is_new in
       let made = part_made r prefixes hive tree top prefix moment old are.showable are.apart shown_is can.call can.there can.near can.short can.are_trees can.is_new in
-      ended_so prefixes moment (reg_text shown) (part_ops hive tree top) (HasPartIn tree top hive (trees_now old)) old new part_does (bytes_add (reg_text shown) (export_statements shown) read (export_adds shown)) made outcome ends
+      ended_so prefixes moment (reg_text shown) (part_ops hive tree top) (HasPartIn tree top hive (named_trees old)) old new part_does (bytes_add (reg_text shown) (export_statements shown) read (export_adds shown)) made unit outcome ends

@@ -13,7 +13,7 @@ use Rattle.reg_tree.specs.Operations.{hive_of}
 use Rattle.reg_tree.specs.Judgement.{changed, legal_if, applied, applied_if, applied_one}
 use Rattle.reg_tree.specs.declared.op.Op.{Op}
 use Rattle.reg_tree.proofs.OthersStay.{hives_stay}
-use Rattle.store_model.specs.Machine.{Machine, trees_now}
+use Rattle.store_model.specs.Machine.{Machine, named_trees}
 use Rattle.store_model.specs.Invariant.{AreLegalChanges}
 use Rattle.key_walk.specs.SubtreeRows.{rows_below}
 use Rattle.reg_prefixes.specs.declared.prefix.Prefix.{Prefix}
@@ -80,27 +80,27 @@ part_shown tree call top =
     (all_then (λ (e : Entry). (begins_path top e.0 ≡ true) × (row tree e.0 ≡ Some e.1)) (λ e. row tree e.0 ≡ Some e.1) (λ e h. h.1) (inside tree top) (filter_all (λ (e : Entry). begins_path top e.0) (λ e. row tree e.0 ≡ Some e.1) (finite.entries tree) (each_got paths_total tree)))
 
 module _ (r : ReadsText) (prefixes : List Prefix) (hive : ℕ) (tree : TreeMap) (top : List (List ℕ)) (prefix : List ℕ) (moment : ℕ) (old : Machine) (texts : AreShowable prefixes) (apart : AreApart prefixes) (shown : shown_in prefixes hive ≡ Some prefix) (call : IsCallTree tree) (some : IsSome (row tree top))
-    (few : length top ≤ MOST_NEW_LEVELS) (short : ops_len (part_ops hive tree top) ≤ MOST_ELEMENT_BYTES) (are : AreTrees (trees_now old)) (new : slice_get (trees_now old) hive ≡ Some fresh_tree) where
+    (few : length top ≤ MOST_NEW_LEVELS) (short : ops_len (part_ops hive tree top) ≤ MOST_ELEMENT_BYTES) (are : AreTrees (named_trees old)) (new : slice_get (named_trees old) hive ≡ Some fresh_tree) where
   pub part_read : AreReadAs (reg_text ((prefix, rows_below tree top) ∷ [])) (export_statements ((prefix, rows_below tree top) ∷ []))
   part_read =
       let its = shown_all (λ text. IsPrefixText text × (length text ≤ MOST_VALUE_BYTES)) prefixes texts hive prefix shown in
       export_is_read r ((prefix, rows_below tree top) ∷ []) (keys_limits prefix its.0 its.1 (rows_below tree top) (part_shown tree call top), tt) (hives_fit ((prefix, rows_below tree top) ∷ []) (part_shown tree call top, tt))
 
-  made : (new_tree : TreeMap) × OnHive (trees_now old) hive (part_ops hive tree top) moment new_tree × HasPartIn tree top hive (trees_now old) (applied (trees_now old) (part_ops hive tree top) moment)
+  made : (new_tree : TreeMap) × OnHive (named_trees old) hive (part_ops hive tree top) moment new_tree × HasPartIn tree top hive (named_trees old) (applied (named_trees old) (part_ops hive tree top) moment)
   made =
       let built = part_rebuilt tree call hive moment top some few in
-      let on = on_hive (trees_now old) hive fresh_tree (part_ops hive tree top) moment built.new new (keys_of hive (rows_below tree top)) built.steps in
+      let on = on_hive (named_trees old) hive fresh_tree (part_ops hive tree top) moment built.new new (keys_of hive (rows_below tree top)) built.steps in
       (built.new, on, (built.new, on.there, built.has, on.others))
 
-  pub part_made : HasPartIn tree top hive (trees_now old) (applied (trees_now old) (part_ops hive tree top) moment)
+  pub part_made : HasPartIn tree top hive (named_trees old) (applied (named_trees old) (part_ops hive tree top) moment)
   part_made = made.2
 
-  pub part_restores : hive < length (trees_now old) → Restores prefixes moment (reg_text ((prefix, rows_below tree top) ∷ [])) old (part_ops hive tree top) (HasPartIn tree top hive (trees_now old))
+  pub part_restores : hive < length (named_trees old) → Restores prefixes moment (reg_text ((prefix, rows_below tree top) ∷ [])) old (part_ops hive tree top) (HasPartIn tree top hive (named_trees old))
   part_restores within =
       let on = made.1 in
       let first = first_plan old moment in
       let calls = all_then IsCallShown IsCallRow call_row (rows_below tree top) (part_shown tree call top) in
-      let taken = keys_taken prefixes (length (trees_now old)) apart hive within prefix shown (rows_below tree top) calls None first (trees_has (trees_now old) are) on.legals short in
-      let whole : Takes prefixes (length (trees_now old)) None first (export_statements ((prefix, rows_below tree top) ∷ [])) taken.0 (behind first (part_ops hive tree top)) =
-      subst (λ ss. Takes prefixes (length (trees_now old)) None first ss taken.0 (behind first (part_ops hive tree top))) (sym (append-nil (flat_map (key_statements prefix) (rows_below tree top)))) taken.1 in
-      restores_by prefixes moment (reg_text ((prefix, rows_below tree top) ∷ [])) old (part_ops hive tree top) (HasPartIn tree top hive (trees_now old)) (export_statements ((prefix, rows_below tree top) ∷ [])) part_read (export_adds ((prefix, rows_below tree top) ∷ [])) taken.0 whole part_made
+      let taken = keys_taken prefixes (length (named_trees old)) apart hive within prefix shown (rows_below tree top) calls None first (trees_has (named_trees old) are) on.legals short in
+      let whole : Takes prefixes (length (named_trees old)) None first (export_statements ((prefix, rows_below tree top) ∷ [])) taken.0 (behind first (part_ops hive tree top)) =
+      subst (λ ss. Takes prefixes (length (named_trees old)) None first ss taken.0 (behind first (part_ops hive tree top))) (sym (append-nil (flat_map (key_statements prefix) (rows_below tree top)))) taken.1 in
+      restores_by prefixes moment (reg_text ((prefix, rows_below tree top) ∷ [])) old (part_ops hive tree top) (HasPartIn tree top hive (named_trees old)) (export_statements ((prefix, rows_below tree top) ∷ [])) part_read (export_adds ((prefix, rows_below tree top) ∷ [])) taken.0 whole part_made

@@ -9,7 +9,7 @@ use Rattle.reg_tree.specs.Maps.{TreeMap}
 use Rattle.reg_tree.specs.Fresh.{fresh_tree}
 use Rattle.reg_tree.specs.Judgement.{applied}
 use Rattle.reg_tree.specs.declared.op.Op.{Op}
-use Rattle.store_model.specs.Machine.{Machine, trees_now}
+use Rattle.store_model.specs.Machine.{Machine, named_trees}
 use Rattle.store_model.specs.Invariant.{AreLegalChanges}
 use Rattle.key_walk.specs.KeyRows.{NamedRow, tree_rows}
 use Rattle.reg_prefixes.specs.declared.prefix.Prefix.{Prefix}
@@ -50,9 +50,9 @@ bytes_add bytes statements read adds = subst (λ (file : RegFile). AllAdd file.s
 
 -- they restore what their operations make
 pub restores_by : (prefixes : List Prefix) (moment : ℕ) (bytes : List ℕ) (old : Machine) (ops : List Op) (AreGood : List TreeMap → Type 0) (statements : List Statement) → AreReadAs bytes statements → AllByRecursion IsAdding statements
-    → (last : Option Place) → Takes prefixes (length (trees_now old)) None (first_plan old moment) statements last (behind (first_plan old moment) ops) → AreGood (applied (trees_now old) ops moment) → Restores prefixes moment bytes old ops AreGood
+    → (last : Option Place) → Takes prefixes (length (named_trees old)) None (first_plan old moment) statements last (behind (first_plan old moment) ops) → AreGood (applied (named_trees old) ops moment) → Restores prefixes moment bytes old ops AreGood
 restores_by prefixes moment bytes old ops AreGood statements read adds last takes good =
-    let hives = length (trees_now old) in
+    let hives = length (named_trees old) in
     let first = first_plan old moment in
     let plan = behind first ops in
     let numbered = with_numbers prefixes hives None first read.numbered last plan (subst (λ ss. Takes prefixes hives None first ss last plan) (sym read.are_statements) takes) in
@@ -100,14 +100,14 @@ pub shown_read : ReadsText → (prefixes : List Prefix) (trees : List TreeMap) (
 shown_read r prefixes trees shown texts are calls = export_is_read r shown (limits prefixes texts 0 trees shown are calls) (hives_fit shown (shown_rows prefixes 0 trees shown are calls))
 
 -- in new hives the same content is made
-pub made_same : (trees : List TreeMap) (moment : ℕ) (old : Machine) → AllByRecursion IsCallTree trees → trees_now old ≡ new_trees trees → AllZip SameContent trees (applied (trees_now old) (trees_ops 0 trees) moment)
+pub made_same : (trees : List TreeMap) (moment : ℕ) (old : Machine) → AllByRecursion IsCallTree trees → named_trees old ≡ new_trees trees → AllZip SameContent trees (applied (named_trees old) (trees_ops 0 trees) moment)
 made_same trees moment old calls is_new = subst (λ ts. AllZip SameContent trees (applied ts (trees_ops 0 trees) moment)) (sym is_new) (all_same trees moment calls)
 
 pub export_restores : ReadsText → (prefixes : List Prefix) (trees : List TreeMap) (shown : Rows) (moment : ℕ) (old : Machine) → AreShowable prefixes → AreApart prefixes → AreShown prefixes 0 trees shown → AllByRecursion IsCallTree trees
-    → ops_len (trees_ops 0 trees) ≤ MOST_ELEMENT_BYTES → trees_now old ≡ new_trees trees → Restores prefixes moment (reg_text shown) old (trees_ops 0 trees) (AllZip SameContent trees)
+    → ops_len (trees_ops 0 trees) ≤ MOST_ELEMENT_BYTES → named_trees old ≡ new_trees trees → Restores prefixes moment (reg_text shown) old (trees_ops 0 trees) (AllZip SameContent trees)
 export_restores r prefixes trees shown moment old texts apart are calls short is_new =
-    let count : length (trees_now old) ≡ length trees = ap length is_new ∙ length-map trees (λ _. fresh_tree) in
-    let has : HasTrees (length (trees_now old)) (trees_now old) = subst (λ n. HasTrees n (trees_now old)) (sym count) (subst (HasTrees (length trees)) (sym is_new) (new_has trees)) in
-    let legals : AreLegalChanges (trees_now old) (trees_ops 0 trees) moment = subst (λ ts. AreLegalChanges ts (trees_ops 0 trees) moment) (sym is_new) (all_legal trees moment calls) in
-    let taken = hives_taken prefixes (length (trees_now old)) apart 0 trees shown are (omega (arith, count)) (call_rows trees calls) None (first_plan old moment) has legals short in
+    let count : length (named_trees old) ≡ length trees = ap length is_new ∙ length-map trees (λ _. fresh_tree) in
+    let has : HasTrees (length (named_trees old)) (named_trees old) = subst (λ n. HasTrees n (named_trees old)) (sym count) (subst (HasTrees (length trees)) (sym is_new) (new_has trees)) in
+    let legals : AreLegalChanges (named_trees old) (trees_ops 0 trees) moment = subst (λ ts. AreLegalChanges ts (trees_ops 0 trees) moment) (sym is_new) (all_legal trees moment calls) in
+    let taken = hives_taken prefixes (length (named_trees old)) apart 0 trees shown are (omega (arith, count)) (call_rows trees calls) None (first_plan old moment) has legals short in
     restores_by prefixes moment (reg_text shown) old (trees_ops 0 trees) (AllZip SameContent trees) (export_statements shown) (shown_read r prefixes trees shown texts are calls) (export_adds shown) taken.0 taken.1 (made_same trees moment old calls is_new)

@@ -5,7 +5,7 @@ use Rattle.refusals.specs.declared.limits.TheConstants.{MOST_ELEMENT_BYTES, MOST
 use Rattle.reg_tree.specs.Maps.{TreeMap, row}
 use Rattle.reg_tree.specs.Fresh.{fresh_tree}
 use Rattle.reg_tree.specs.Sequences.{AreTrees}
-use Rattle.store_model.specs.Machine.{Machine, trees_now}
+use Rattle.store_model.specs.Machine.{Machine, named_trees}
 use Rattle.reg_prefixes.specs.declared.prefix.Prefix.{Prefix}
 use Rattle.reg_prefixes.specs.Places.{shown_in}
 use Rattle.change_plan.specs.Plans.{ops_len}
@@ -26,7 +26,7 @@ pub record CanRestore (prefixes : List Prefix) (trees : List TreeMap) (old : Mac
   pub have : HavePrefixes prefixes (length trees)
   pub calls : AllByRecursion IsCallTree trees
   pub short : ops_len (trees_ops 0 trees) ≤ MOST_ELEMENT_BYTES
-  pub is_new : trees_now old ≡ new_trees trees
+  pub is_new : named_trees old ≡ new_trees trees
 
 -- A key of a hive and all below it can be restored in a store: the hive has a prefix, calls may make its tree, the key is
 -- there and has at most 32 names on its path, the operations fit one change, and the hive of this number is new.
@@ -37,5 +37,5 @@ pub record CanRestorePart (prefixes : List Prefix) (hive : ℕ) (tree : TreeMap)
   pub there : IsSome (row tree top)
   pub near : length top ≤ MOST_NEW_LEVELS
   pub short : ops_len (part_ops hive tree top) ≤ MOST_ELEMENT_BYTES
-  pub are_trees : AreTrees (trees_now old)
-  pub is_new : slice_get (trees_now old) hive ≡ Some fresh_tree
+  pub are_trees : AreTrees (named_trees old)
+  pub is_new : slice_get (named_trees old) hive ≡ Some fresh_tree

@@ -3,7 +3,7 @@ use Rattle.std.specs.Prelude.{◌≡◌, ◌≢◌, ℕ, List, Some, None, slice
 use Rattle.refusals.specs.declared.refusal.Refusal.TheVariants.{NoMemory}
 use Rattle.reg_tree.specs.Maps.{TreeMap}
 use Rattle.reg_tree.specs.declared.op.Op.{Op}
-use Rattle.store_model.specs.Machine.{Machine, trees_now}
+use Rattle.store_model.specs.Machine.{Machine, named_trees}
 use Rattle.reg_prefixes.specs.declared.prefix.Prefix.{Prefix}
 use Rattle.reg_file.specs.Files.{reg_file_of}
 use Rattle.change_plan.specs.Plans.{Planned}
@@ -22,10 +22,10 @@ pub record Restores (prefixes : List Prefix) (moment : ℕ) (bytes : List ℕ) (
   pub good : AreGood plan.view
   pub only : (other : Planned) → TakesAll prefixes moment (reg_file_of bytes) old other → other ≡ plan
 
--- How applying ends: if the file was applied, the store's trees are good. No line is refused but for want of memory. What
--- else may fail is the commit.
+-- How applying ends: if the file was applied, the trees of the hives that calls name are good. No line is refused but for
+-- want of memory. What else may fail is the commit.
 abbrev pub EndsGood : (List TreeMap → Type 0) → Outcome → Machine → Type 0
-EndsGood AreGood (Applied number) new = AreGood (trees_now new)
+EndsGood AreGood (Applied number) new = AreGood (named_trees new)
 EndsGood AreGood (BadFile fault) new = ⊥
 EndsGood AreGood (NoHive line) new = ⊥
 EndsGood AreGood (Denied line why) new = why ≡ NoMemory

@@ -1,5 +1,5 @@
 //! Laws of exports that are read again. They have no code: each is the contract of a function.
-ghost use Rattle.std.specs.Prelude.{◌≡◌, ◌≢◌, ◌==◌, [], ◌∷◌, ◌≤◌, ℕ, List, length, true, Some, Ok};
+ghost use Rattle.std.specs.Prelude.{◌≡◌, ◌≢◌, ◌==◌, [], ◌∷◌, ◌≤◌, ℕ, List, length, Option, true, Some, Ok};
 ghost use Rattle.std.specs.List.{AllByRecursion, AllZip, list_all, slice_split};
 ghost use Rattle.refusals.specs.declared.limits.TheConstants.{MOST_PATH_NAMES};
 ghost use Rattle.reg_names.specs.Names.{is_key_name, is_name_unit, path_of};
@@ -11,7 +11,7 @@ ghost use Rattle.reg_export.specs.RegFiles.{file_names, reg_text};
 ghost use Rattle.reg_tree.specs.Maps.{TreeMap};
 ghost use Rattle.reg_tree.specs.Judgement.{applied};
 ghost use Rattle.store_model.specs.Invariant.{AreLegalChanges};
-ghost use Rattle.store_model.specs.Machine.{Machine, trees_now};
+ghost use Rattle.store_model.specs.Machine.{Machine, named_trees};
 ghost use Rattle.key_walk.specs.KeyRows.{NamedRow};
 ghost use Rattle.reg_file.specs.Files.{reg_file_of};
 ghost use Rattle.reg_apply.specs.declared.outcome.Outcome.{Outcome};
@@ -79,9 +79,9 @@ pub fn exports_restore_trees()
         CanRestore prefixes trees old →
         Restores prefixes moment (reg_text (exported prefixes trees)) old (trees_ops 0 trees)
         (AllZip SameContent trees) }
-    ensures ended { (prefixes : List Prefix) (trees : List TreeMap) (moment : ℕ) (old new : Machine)
-        (outcome : Outcome) → CanRestore prefixes trees old →
-        Ends prefixes moment (reg_file_of (reg_text (exported prefixes trees))) old outcome new →
+    ensures ended { (prefixes : List Prefix) (trees : List TreeMap) (moment : ℕ)
+        (unit : Option (List ℕ)) (old new : Machine) (outcome : Outcome) → CanRestore prefixes trees old →
+        Ends prefixes moment unit (reg_file_of (reg_text (exported prefixes trees))) old outcome new →
         EndsGood (AllZip SameContent trees) outcome new }
 {
     reg_file::laws::files_are_parsed();
@@ -95,11 +95,11 @@ pub fn part_exports_restore_parts()
     ensures restores { (prefixes : List Prefix) (hive : ℕ) (tree : TreeMap) (top : List (List ℕ))
         (moment : ℕ) (old : Machine) → CanRestorePart prefixes hive tree top old →
         Restores prefixes moment (reg_text (exported_part prefixes hive tree top)) old (part_ops hive tree top)
-        (HasPartIn tree top hive (trees_now old)) }
+        (HasPartIn tree top hive (named_trees old)) }
     ensures ended { (prefixes : List Prefix) (hive : ℕ) (tree : TreeMap) (top : List (List ℕ))
-        (moment : ℕ) (old new : Machine) (outcome : Outcome) → CanRestorePart prefixes hive tree top old →
-        Ends prefixes moment (reg_file_of (reg_text (exported_part prefixes hive tree top))) old outcome new →
-        EndsGood (HasPartIn tree top hive (trees_now old)) outcome new }
+        (moment : ℕ) (unit : Option (List ℕ)) (old new : Machine) (outcome : Outcome) → CanRestorePart prefixes hive tree top old →
+        Ends prefixes moment unit (reg_file_of (reg_text (exported_part prefixes hive tree top))) old outcome new →
+        EndsGood (HasPartIn tree top hive (named_trees old)) outcome new }
 {
     reg_file::laws::files_are_parsed();
     reg_file::laws::text_is_read();

@@ -3,7 +3,7 @@ use Rattle.std.proofs.Common.{◌≡◌, inl, inr, ℕ, List, [], ◌∷◌, Res
 use Rattle.refusals.specs.declared.refusal.Refusal.{Refusal}
 use Rattle.reg_tree.specs.Maps.{TreeMap}
 use Rattle.reg_tree.specs.declared.op.Op.{Op}
-use Rattle.store_model.specs.Machine.{Machine, trees_now}
+use Rattle.store_model.specs.Machine.{Machine, named_trees}
 use Rattle.store_model.specs.Invariant.{AreLegalChanges}
 use Rattle.change_plan.specs.declared.edit.Edit.{Edit}
 use Rattle.change_plan.specs.Plans.{Planned}
@@ -31,15 +31,15 @@ planned_legal trees moment change plan is =
 
 -- however it ends, all was accepted or nothing
 pub all_or_nothing : (moment : ℕ) (change : Change) (old mid new : Machine) (outcome : Result ℕ Refusal) → Ends moment change old outcome mid → KeepsAccepted mid new → AllOrNothing moment change old new
-all_or_nothing moment change old mid new (Ok number) ends keeps = inr (ends.0, ends.1, accepts_on old mid new moment _ ends.2.accepts keeps)
+all_or_nothing moment change old mid new (Ok number) ends keeps = inr (ends.0, ends.1, ends.2, accepts_on old mid new ends.1 moment _ ends.3.accepts keeps)
 all_or_nothing moment change old mid new (Err why) (inl denied) keeps = inl (keeps_on old mid new denied.0 keeps)
-all_or_nothing moment change old mid new (Err why) (inr failed) keeps = by_case failed.2
+all_or_nothing moment change old mid new (Err why) (inr failed) keeps = by_case failed.3
   where
-    by_case : FailsToCommit old moment failed.0.ops why mid → AllOrNothing moment change old new
+    by_case : FailsToCommit old failed.1 moment failed.0.ops why mid → AllOrNothing moment change old new
     by_case (inl none) = inl (keeps_on old mid new none.0 keeps)
-    by_case (inr accepts) = inr (failed.0, failed.1, accepts_on old mid new moment _ accepts.0 keeps)
+    by_case (inr accepts) = inr (failed.0, failed.1, failed.2, accepts_on old mid new failed.1 moment _ accepts.0 keeps)
 
 -- how the commit of a change that was planned ends
-pub commit_ends : (moment : ℕ) (change : Change) (old new : Machine) (plan : Planned) (ops : List Op) (outcome : Result ℕ Refusal) → IsPlanned (trees_now old) moment change plan → ops ≡ plan.ops → IfOk outcome (λ number. Commits old moment ops number new) → IfErr outcome (λ why. FailsToCommit old moment ops why new) → Ends moment change old outcome new
-commit_ends moment change old new plan ops (Ok number) is same commits fails = (plan, is, subst (λ (os : List Op). Commits old moment os number new) same commits)
-commit_ends moment change old new plan ops (Err why) is same commits fails = inr (plan, is, subst (λ (os : List Op). FailsToCommit old moment os why new) same fails)
+pub commit_ends : (id : List ℕ) (moment : ℕ) (change : Change) (old new : Machine) (plan : Planned) (ops : List Op) (outcome : Result ℕ Refusal) → IsPlanned (named_trees old) moment change plan → ops ≡ plan.ops → IfOk outcome (λ number. Commits old id moment ops number new) → IfErr outcome (λ why. FailsToCommit old id moment ops why new) → Ends moment change old outcome new
+commit_ends id moment change old new plan ops (Ok number) is same commits fails = (plan, id, is, subst (λ (os : List Op). Commits old id moment os number new) same commits)
+commit_ends id moment change old new plan ops (Err why) is same commits fails = inr (plan, id, is, subst (λ (os : List Op). FailsToCommit old id moment os why new) same fails)

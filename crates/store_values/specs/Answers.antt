@@ -1,11 +1,11 @@
 -- What is printed of a value and of a key.
-use Rattle.std.specs.Prelude.{◌≡◌, ◌⊎◌, ℕ, List, ◌++◌, slice_get, codes, Option, Some, None}
+use Rattle.std.specs.Prelude.{◌≡◌, ◌⊎◌, ℕ, List, ◌++◌, slice_get, take, codes, Option, Some, None}
 use Rattle.std.specs.Option.{option_map, option_and_then}
 use Rattle.std.specs.List.{flat_map}
 use Rattle.std.specs.FinMap as finite
 use Rattle.std.specs.Io.KnownBytes.{Appends}
 use Rattle.refusals.specs.declared.refusal.Refusal.{Refusal}
-use Rattle.refusals.specs.declared.refusal.Refusal.TheVariants.{NotFound}
+use Rattle.refusals.specs.declared.refusal.Refusal.TheVariants.{NoMemory, NotFound}
 use Rattle.reg_names.specs.Names.{folded_path}
 use Rattle.reg_tree_parts.specs.declared.value.Value.{Value}
 use Rattle.reg_tree_parts.specs.Rows.{Row}
@@ -58,8 +58,13 @@ abbrev pub PrintsAnswer : Option (List ℕ) → Option (List ℕ) → Option (Li
 PrintsAnswer None before after its_status = PrintsRefusal before after NotFound its_status
 PrintsAnswer (Some text) before after its_status = Appends before after text × (its_status ≡ status.Clean)
 
--- The files recover trees, if the disk is faithful, of which the answer is printed; or they are refused, and that is.
+-- an answer is printed; or, for want of memory, its refusal
+abbrev pub AnswersOrNot : Option (List ℕ) → Option (List ℕ) → Option (List ℕ) → Status → Type 0
+AnswersOrNot answer before after its_status = PrintsAnswer answer before after its_status ⊎ PrintsRefusal before after NoMemory its_status
+
+-- The files recover trees, if the disk is faithful, and the answer of those of the hives that calls name is printed; or
+-- they are refused, and that is.
 abbrev pub Reports : Type 0 → Type 0 → (ℕ → List ℕ) → (List TreeMap → Option (List ℕ)) → Option (List ℕ) → Option (List ℕ) → Status → Type 0
 Reports failed faithful files answer before after its_status =
-    ((store : Store) × (number : ℕ) × (trees : List TreeMap) × (faithful → IsRecovered files store number trees) × PrintsAnswer (answer trees) before after its_status)
+    ((store : Store) × (number : ℕ) × (trees : List TreeMap) × (faithful → IsRecovered files store number trees) × PrintsAnswer (answer (take store.hives trees)) before after its_status)
     ⊎ ((why : Refusal) × RefusalHasCause failed (IsNoStore faithful files) why × PrintsRefusal before after why its_status)

@@ -3,7 +3,7 @@ use Rattle.std.specs.Prelude.{◌≡◌, ◌⊎◌, ℕ, List, ◌++◌, Option,
 use Rattle.std.specs.Io.KnownBytes.{Appends}
 use Rattle.refusals.specs.declared.refusal.Refusal.{Refusal}
 use Rattle.disk_model.specs.FileState.{FileState}
-use Rattle.store_model.specs.Machine.{Machine, trees_now}
+use Rattle.store_model.specs.Machine.{Machine, named_trees}
 use Rattle.commit_journal.specs.Store.{Store}
 use Rattle.script_syntax.specs.declared.status.Status.{Status}
 use Rattle.script_syntax.specs.declared.status.Status.TheVariants as status
@@ -16,13 +16,13 @@ use Rattle.one_change.specs.Commits.{AcceptsOps, Commits, FailsToCommit, KeepsAc
 use Rattle.store_values.specs.declared.change.Change.{Change}
 use Rattle.store_values.specs.Changes.{IsDenied, IsPlanned}
 
--- How it ends: the operations that are planned are committed as one change of this number. Or it is refused: it can't be
--- planned, and nothing is accepted; or its commit is refused, for this reason.
+-- How it ends: the operations that are planned are committed as one change of this number, for some unit of work. Or it
+-- is refused: it can't be planned, and nothing is accepted; or its commit is refused, for this reason.
 abbrev pub Ends : ℕ → Change → Machine → Result ℕ Refusal → Machine → Type 0
-Ends moment change old (Ok number) new = (plan : Planned) × IsPlanned (trees_now old) moment change plan × Commits old moment plan.ops number new
+Ends moment change old (Ok number) new = (plan : Planned) × (id : List ℕ) × IsPlanned (named_trees old) moment change plan × Commits old id moment plan.ops number new
 Ends moment change old (Err why) new =
-    (KeepsAccepted old new × IsDenied (trees_now old) moment change why)
-    ⊎ ((plan : Planned) × IsPlanned (trees_now old) moment change plan × FailsToCommit old moment plan.ops why new)
+    (KeepsAccepted old new × IsDenied (named_trees old) moment change why)
+    ⊎ ((plan : Planned) × (id : List ℕ) × IsPlanned (named_trees old) moment change plan × FailsToCommit old id moment plan.ops why new)
 
 -- After a change was committed the steps that are left are made, up to one that is refused; else none is made.
 abbrev pub Finishes : Result ℕ Refusal → Option Refusal → Machine → Machine → Type 0
@@ -74,7 +74,8 @@ ReportsChange is_faithful failed faithful files moment change before after its_s
 
 -- all that a change asks for was accepted as one change, or nothing was
 abbrev pub AllOrNothing : ℕ → Change → Machine → Machine → Type 0
-AllOrNothing moment change old new = KeepsAccepted old new ⊎ ((plan : Planned) × IsPlanned (trees_now old) moment change plan × AcceptsOps old moment plan.ops new)
+AllOrNothing moment change old new =
+    KeepsAccepted old new ⊎ ((plan : Planned) × (id : List ℕ) × IsPlanned (named_trees old) moment change plan × AcceptsOps old id moment plan.ops new)
 
 -- A store was opened on these files, and all or nothing of the change was accepted. If the disk that is left is
 -- faithful, whatever a crash leaves of it recovers a prefix of that, and so does what a read gives unless the store is

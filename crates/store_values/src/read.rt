@@ -1,13 +1,14 @@
 //! What is read of a store.
-ghost use Rattle.std.specs.Prelude.{◌<◌, IfOk};
+ghost use Rattle.std.specs.Prelude.{◌<◌, IfOk, take};
 ghost use Rattle.disk_model.specs.ReadOnly.{OnlySyncs};
 ghost use Rattle.recovery.specs.Recovered.{seen_in};
-ghost use Rattle.store_values.specs.Answers.{PrintsAnswer, Reports, key_answer, value_answer};
+ghost use Rattle.recovery.specs.Shown.{store_of};
+ghost use Rattle.store_values.specs.Answers.{AnswersOrNot, PrintsAnswer, Reports, key_answer, value_answer};
 
 use crate::key_lines::{write_datum_line, write_subkeys, write_values};
 use crate::reply::print_refusal;
 use disk_model::Disk;
-use recovery::open;
+use recovery::{Opened, open};
 use refusals::Refusal;
 use reg_names::{Path, ValueName};
 use reg_tree::Trees;
@@ -35,7 +36,7 @@ pub fn get_value<D: Disk, W: Write>(
 {
     match open(alloc, disk) {
         Ok(opened) => {
-            let status = print_value(writer, opened.trees(), hive, path, name);
+            let status = print_named_value(alloc, writer, &opened, hive, path, name);
             (opened.into_disk(), status)
         }
         Err((refusal, disk)) => (disk, print_refusal(writer, refusal)),
@@ -61,10 +62,46 @@ pub fn list_key<D: Disk, W: Write>(
 {
     match open(alloc, disk) {
         Ok(opened) => {
-            let status = print_key(writer, opened.trees(), hive, path);
+            let status = print_named_key(alloc, writer, &opened, hive, path);
             (opened.into_disk(), status)
         }
         Err((refusal, disk)) => (disk, print_refusal(writer, refusal)),
+    }
+}
+
+// the same of an opened store, whose calls name its first hives
+fn print_named_value<D: Disk, W: Write>(
+    alloc: Global,
+    writer: &mut W,
+    opened: &Opened<D>,
+    hive: u8,
+    path: &Path,
+    name: &ValueName,
+) -> io::Result<Status>
+    ensures { IfOk result (AnswersOrNot (value_answer hive path.now name.now
+        (take (store_of opened.now).hives opened.now.found.trees))
+        (W.contents writer.old) (W.contents writer.new)) }
+{
+    match opened.named_trees(alloc) {
+        Ok(trees) => print_value(writer, &trees, hive, path, name),
+        Err(_) => print_refusal(writer, Refusal::NoMemory),
+    }
+}
+
+fn print_named_key<D: Disk, W: Write>(
+    alloc: Global,
+    writer: &mut W,
+    opened: &Opened<D>,
+    hive: u8,
+    path: &Path,
+) -> io::Result<Status>
+    ensures { IfOk result (AnswersOrNot (key_answer hive path.now
+        (take (store_of opened.now).hives opened.now.found.trees))
+        (W.contents writer.old) (W.contents writer.new)) }
+{
+    match opened.named_trees(alloc) {
+        Ok(trees) => print_key(writer, &trees, hive, path),
+        Err(_) => print_refusal(writer, Refusal::NoMemory),
     }
 }
 

@@ -73,7 +73,7 @@ fn make<D: Disk>(
     ensures ends { Ends moment change engine.old.machine result engine.new.machine }
     ensures later { IsLater D.faithful D.failures engine.old engine.new }
 {
-    let Ok(trees) = engine.trees().try_clone(alloc) else {
+    let Ok(trees) = engine.named_trees(alloc) else {
         return Err(Refusal::NoMemory);
     };
     match planned(alloc, trees, moment, change) {

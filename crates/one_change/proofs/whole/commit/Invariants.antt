@@ -8,6 +8,6 @@ use Rattle.one_change.proofs.whole.commit.Given as goal
 abbrev pub invariant-loop-op : goal.invariant-loop-op
 invariant-loop-op g l =
     (into_iter_items l.initial.op-iterator ≡ l.yielded ++ into_iter_items l.op-iterator)
-    × InTransaction l.fn.engine.machine l.tx l.moment l.yielded l.engine.machine
+    × InTransaction l.fn.engine.machine l.fn.id l.tx l.moment l.yielded l.engine.machine
     × (into_iter_len l.op-iterator ≡ length (into_iter_items l.op-iterator))
     × IsLater g.D.Disk.faithful g.D.Disk.failures l.fn.engine l.engine

@@ -1,12 +1,12 @@
 use Rattle.std.proofs.Common.{rules, inr, ◌≡◌, [], None, List, sym, ◌∙◌, ap, subst}
 use Rattle.reg_tree.specs.Maps.{TreeMap}
 use Rattle.reg_tree.specs.declared.op.Op.{Op}
-use Rattle.store_model.specs.Machine.{trees_now}
 use Rattle.store_model.specs.Invariant.{AreLegalChanges}
 use Rattle.script_runner.proofs.Later.{later_same}
 use Rattle.change_plan.specs.Plans.{Planned}
 use Rattle.change_plan.proofs.LegalPlans.{IsLegalPlan, fresh_plan}
 use Rattle.one_change.specs.Commits.{FailsToCommit}
+use Rattle.store_model.specs.Machine.{named_trees}
 use Rattle.reg_apply.specs.Applied.{TakesAll}
 use Rattle.reg_apply.proofs.LegalPlans.{same_moment, statements_on}
 use Rattle.reg_apply.proofs.run.change.Goals as goal
@@ -22,11 +22,11 @@ returns-in-Some-clause-later g c = later_same g.D.Disk.faithful g.D.Disk.failure
 
 pub commit-requires-clause-are_legal : goal.commit-requires-clause-are_legal
 commit-requires-clause-are_legal g c =
-    let trees = trees_now c.args.engine.now.machine in
+    let trees = named_trees c.args.engine.now.machine in
     let prefixes = c.args.request.now.prefixes.now in
     let moment = c.args.request.now.moment in
     let taken = c.in_default-take_all.ensures.taken in
-    let seen : c.in-Ok.trees ≡ trees = c.in-Ok.ensures ∙ c.trees.ensures in
+    let seen : c.in-Ok.trees ≡ trees = c.in-Ok.ensures in
     let fresh : IsLegalPlan trees c.new-plan.result = subst (IsLegalPlan trees) (sym (c.new-plan.ensures ∙ ap (λ (ts : List TreeMap). record { view = ts; ops = []; moment = moment }) seen)) (fresh_plan trees moment) in
     let plan = statements_on trees prefixes c.len-hives.result None c.new-plan.result c.into_vec.result.items taken.0 c.take_all.new.plan fresh taken.1 in
     let same : c.take_all.new.plan.moment ≡ moment = same_moment prefixes c.len-hives.result None c.new-plan.result c.into_vec.result.items taken.0 c.take_all.new.plan taken.1 ∙ ap (λ (p : Planned). p.moment) c.new-plan.ensures in
@@ -38,4 +38,4 @@ returns-in-Err-commit-clause-ends g c =
     let moment = c.args.request.now.moment in
     let none : c.args.file.fault ≡ None = search rules in
     let takes : TakesAll c.args.request.now.prefixes.now moment c.args.file old c.take_all.new.plan = search rules in
-    inr (c.take_all.new.plan, none, takes, subst (λ (ops : List Op). FailsToCommit old moment ops c.in-Err-commit.refusal c.commit.new.engine.machine) c.into_ops.ensures c.in-Err-commit.ensures.refused)
+    inr (c.take_all.new.plan, none, takes, c.unit_of_work-id.result, c.unit_of_work-id.ensures, subst (λ (ops : List Op). FailsToCommit old c.unit_of_work-id.result moment ops c.in-Err-commit.refusal c.commit.new.engine.machine) c.into_ops.ensures c.in-Err-commit.ensures.refused)

@@ -5,4 +5,4 @@ pub returns-clause-restores : goal.returns-clause-restores
 returns-clause-restores c = λ prefixes hive tree top moment old can. part_does (record { ascii = c.text_is_read.ensures.ascii; wide = c.text_is_read.ensures.wide; crlf = c.text_is_read.ensures.crlf; read = c.files_are_parsed.ensures.read }) prefixes hive tree top moment old can
 
 pub returns-clause-ended : goal.returns-clause-ended
-returns-clause-ended c = λ prefixes hive tree top moment old new outcome can ends. part_ended (record { ascii = c.text_is_read.ensures.ascii; wide = c.text_is_read.ensures.wide; crlf = c.text_is_read.ensures.crlf; read = c.files_are_parsed.ensures.read }) prefixes hive tree top moment old can new outcome ends
+returns-clause-ended c = λ prefixes hive tree top moment unit old new outcome can ends. part_ended (record { ascii = c.text_is_read.ensures.ascii; wide = c.text_is_read.ensures.wide; crlf = c.text_is_read.ensures.crlf; read = c.files_are_parsed.ensures.read }) prefixes hive tree top moment old can unit new outcome ends
