@@ -1,5 +1,5 @@
 -- What an export of a store prints and answers.
-use Rattle.std.specs.Prelude.{◌≡◌, ◌⊎◌, ℕ, List, [], ◌∷◌, ◌++◌, Option, Result, Ok, Err}
+use Rattle.std.specs.Prelude.{◌≡◌, ◌⊎◌, ℕ, List, [], ◌∷◌, ◌++◌, take, Option, Result, Ok, Err}
 use Rattle.std.specs.Io.KnownBytes.{Appends, Keeps}
 use Rattle.refusals.specs.declared.refusal.Refusal.{Refusal}
 use Rattle.refusals.specs.Refusals.{refusal_text}
@@ -9,7 +9,7 @@ use Rattle.commit_journal.specs.Store.{Store}
 use Rattle.recovery.specs.Recovered.{IsNoStore, IsRecovered}
 use Rattle.script_syntax.specs.declared.status.Status.{Status}
 use Rattle.script_syntax.specs.declared.status.Status.TheVariants as status
-use Rattle.refusals.specs.declared.refusal.Refusal.TheVariants.{BadName}
+use Rattle.refusals.specs.declared.refusal.Refusal.TheVariants.{BadName, NoMemory}
 use Rattle.reg_export.specs.declared.whole_file.ExportError.{ExportError as FileError}
 use Rattle.reg_export.specs.declared.whole_file.ExportError.TheVariants as file_error
 use Rattle.store_export.specs.declared.request.Request.{Request}
@@ -39,8 +39,13 @@ ReportsTrees request trees before after its_status =
     (ShowsAsked request trees before after × (its_status ≡ status.Clean))
     ⊎ ((why : Refusal) × MayRefuse request trees why × PrintsRefusal before after why its_status)
 
--- The files recover trees, if the disk is faithful, of which this is printed; or they are refused, and that is.
+-- the keys are reported; or, for want of memory, the line of its refusal is printed
+abbrev pub ReportsOrNot : Request → List TreeMap → Option (List ℕ) → Option (List ℕ) → Status → Type 0
+ReportsOrNot request trees before after its_status = ReportsTrees request trees before after its_status ⊎ PrintsRefusal before after NoMemory its_status
+
+-- The files recover trees, if the disk is faithful, and of those of the hives that calls name this is printed; or they
+-- are refused, and that is.
 abbrev pub Reports : Type 0 → Type 0 → (ℕ → List ℕ) → Request → Option (List ℕ) → Option (List ℕ) → Status → Type 0
 Reports failed faithful files request before after its_status =
-    ((store : Store) × (number : ℕ) × (trees : List TreeMap) × (faithful → IsRecovered files store number trees) × ReportsTrees request trees before after its_status)
+    ((store : Store) × (number : ℕ) × (trees : List TreeMap) × (faithful → IsRecovered files store number trees) × ReportsTrees request (take store.hives trees) before after its_status)
     ⊎ ((why : Refusal) × RefusalHasCause failed (IsNoStore faithful files) why × PrintsRefusal before after why its_status)

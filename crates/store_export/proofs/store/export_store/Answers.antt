@@ -1,18 +1,14 @@
-use Rattle.std.proofs.Common.{inl, sym, subst}
-use Rattle.recovery.specs.Recovered.{IsRecovered, seen_in}
+use Rattle.std.proofs.Common.{inl, inr, refl, subst}
+use Rattle.refusals.specs.declared.refusal.Refusal.TheVariants.{NoMemory}
 use Rattle.recovery.specs.Shown.{store_of}
-use Rattle.store_export.proofs.Told.{if_ok, trees_reported}
+use Rattle.store_export.proofs.Told.{if_ok}
 use Rattle.store_export.proofs.store.export_store.Goals as goal
 
 pub returns-in-Ok-clause-reports : goal.returns-in-Ok-clause-reports
 returns-in-Ok-clause-reports g c =
     let D = g.D.Disk in
     let opened = c.in-Ok.opened in
-    let files = seen_in (D.state_at c.args.disk (D.clock c.args.disk)) in
-    if_ok c.reported-status.result (λ status told. inl (
-      store_of opened,
-      opened.found.number,
-      c.trees.result.now,
-      (λ f. subst (IsRecovered files (store_of opened) opened.found.number) (sym c.trees.ensures) (c.in-Ok.ensures.recovered (subst D.faithful c.into_disk.ensures f))),
-      trees_reported c.print_trees-printed.result c.args.request.now c.trees.result.now _ _ _ status c.print_trees-printed.ensures.shown c.print_trees-printed.ensures.refused told,
-    )) c.reported-status.ensures
+    if_ok c.print_named-status.result (λ status told. elim (told) [
+      | inl reports ↦ inl (store_of opened, opened.found.number, opened.found.trees, (λ f. c.in-Ok.ensures.recovered (subst D.faithful c.into_disk.ensures f)), reports)
+      | inr refused ↦ inr (NoMemory, inl refl, refused)
+    ]) c.print_named-status.ensures
