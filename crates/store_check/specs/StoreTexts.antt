@@ -1,5 +1,5 @@
 -- The text of what is found of a store.
-use Rattle.std.specs.Prelude.{ℕ, ◌+◌, ◌==◌, if◌then◌else◌, List, [], ◌∷◌, ◌++◌, length, codes}
+use Rattle.std.specs.Prelude.{ℕ, ◌+◌, ◌==◌, nat_lt, if◌then◌else◌, List, [], ◌∷◌, ◌++◌, codes}
 use Rattle.std.specs.Fmt.{decimal}
 use Rattle.uuid.specs.Text.{hyphenated_text, lower}
 use Rattle.refusals.specs.Refusals.{refusal_text}
@@ -24,34 +24,38 @@ lacks_text count = if count == 0 then codes ", has all changes\n" else codes ", 
 abbrev pub repair_text : ℕ → List ℕ
 repair_text pages = if pages == 0 then [] else codes ", half written in " ++ decimal pages ++ codes " pages"
 
--- a hive's number, and that of the last change in its files
-abbrev pub applied_text : ℕ → ℕ → List ℕ
-applied_text hive applied = codes "hive " ++ decimal hive ++ codes ": applied " ++ decimal applied
+-- a hive by its number, if calls name it; else it is that of outcomes
+abbrev pub hive_text : ℕ → ℕ → List ℕ
+hive_text named hive = if nat_lt hive named then codes "hive " ++ decimal hive else codes "outcomes"
+
+-- a hive, and the number of the last change in its files
+abbrev pub applied_text : ℕ → ℕ → ℕ → List ℕ
+applied_text named hive applied = hive_text named hive ++ (codes ": applied " ++ decimal applied)
 
 -- how many pages a repair of a hive's file writes: none if no repair is left
 abbrev pub pages_to_repair : HiveFile → ℕ
 pages_to_repair file = if repairs_left file == 0 then 0 else dirty_pages file
 
-abbrev pub state_line : ℕ → ℕ → ℕ → ℕ → List ℕ
-state_line hive applied pages count = applied_text hive applied ++ (repair_text pages ++ lacks_text count)
+abbrev pub state_line : ℕ → ℕ → ℕ → ℕ → ℕ → List ℕ
+state_line named hive applied pages count = applied_text named hive applied ++ (repair_text pages ++ lacks_text count)
 
--- the line of a hive: its number, that of the last change that is surely in its files, and what they lack
-abbrev pub hive_line : ℕ → List NumberedChange → HiveFile → List ℕ
-hive_line hive changes file =
+-- the line of a hive: which it is, the number of the last change that is surely in its files, and what they lack
+abbrev pub hive_line : ℕ → ℕ → List NumberedChange → HiveFile → List ℕ
+hive_line named hive changes file =
     let applied = (file_choice file).now.1 in
-    state_line hive applied (pages_to_repair file) (count_lacked hive applied changes)
+    state_line named hive applied (pages_to_repair file) (count_lacked hive applied changes)
 
--- the lines of hives, the first of which has this number
-abbrev pub hive_lines : ℕ → List NumberedChange → List HiveFile → List ℕ
-hive_lines hive changes [] = []
-hive_lines hive changes (file ∷ files) = hive_line hive changes file ++ hive_lines (hive + 1) changes files
+-- the lines of hives, the first of which has this number; calls name the first `named` of all
+abbrev pub hive_lines : ℕ → ℕ → List NumberedChange → List HiveFile → List ℕ
+hive_lines named hive changes [] = []
+hive_lines named hive changes (file ∷ files) = hive_line named hive changes file ++ hive_lines named (hive + 1) changes files
 
 -- ---- a store
 
 abbrev pub id_line : List ℕ → List ℕ
 id_line id = codes "store " ++ hyphenated_text lower id ++ codes "\n"
 
--- the number of the last change, and of hives
+-- the number of the last change, and of hives that calls name
 abbrev pub number_lines : ℕ → ℕ → List ℕ
 number_lines number hives = codes "number " ++ decimal number ++ codes "\nhives " ++ decimal hives ++ codes "\n"
 
@@ -62,11 +66,11 @@ journal_line used = codes "journal " ++ decimal used ++ codes " of " ++ decimal 
 -- the lines before those of the hives
 abbrev pub head_lines : RecoveredStore → List ℕ
 head_lines found =
-    id_line (store_of found.journal).id ++ (number_lines found.number (length found.hives.items) ++ journal_line (65 + room_of (choice_of found.journal).now.elements))
+    id_line (store_of found.journal).id ++ (number_lines found.number (store_of found.journal).hives ++ journal_line (65 + room_of (choice_of found.journal).now.elements))
 
 -- all lines of what was found
 abbrev pub store_text : RecoveredStore → List ℕ
-store_text found = head_lines found ++ (hive_lines 0 (numbered_changes found.opened) found.hives.items ++ codes "whole\n")
+store_text found = head_lines found ++ (hive_lines (store_of found.journal).hives 0 (numbered_changes found.opened) found.hives.items ++ codes "whole\n")
 
 -- the lines of a refusal: why, and what to do
 abbrev pub refusal_lines : Refusal → List ℕ

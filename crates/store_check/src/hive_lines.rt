@@ -2,24 +2,25 @@
 ghost use Rattle.std.specs.Prelude.{◌≡◌, ◌<◌, length, OnOk};
 ghost use Rattle.std.specs.Io.KnownBytes.{Appends};
 ghost use Rattle.recovery.specs.Retained.{numbered_changes};
-ghost use Rattle.store_check.specs.StoreTexts.{hive_line, hive_lines, lacks_text, repair_text, applied_text, pages_to_repair, state_line};
+ghost use Rattle.store_check.specs.StoreTexts.{hive_line, hive_lines, hive_text, lacks_text, repair_text, applied_text, pages_to_repair, state_line};
 
 use hive_flush::HiveFile;
 use recovery::RetainedChanges;
 use std::io::{self, Write};
 
-/// Writes the lines of hives, which may lack some of the changes.
+/// Writes the lines of hives, of which calls name the first `named`. They may lack some of the changes.
 pub fn write_hives<W: Write>(
     writer: &mut W,
+    named: u8,
     changes: &RetainedChanges,
     hives: &[HiveFile],
 ) -> io::Result<()>
     requires few { length hives.now < 256 }
     ensures { OnOk result (Appends (W.contents writer.old) (W.contents writer.new)
-        (hive_lines 0 (numbered_changes changes.now) hives.now)) }
+        (hive_lines named 0 (numbered_changes changes.now) hives.now)) }
 {
     for hive in 0..hives.len() {
-        write_hive(writer, changes, hive as u8, &hives[hive])?;
+        write_hive(writer, named, changes, hive as u8, &hives[hive])?;
     }
     Ok(())
 }
@@ -27,16 +28,17 @@ pub fn write_hives<W: Write>(
 // the line of a hive
 fn write_hive<W: Write>(
     writer: &mut W,
+    named: u8,
     changes: &RetainedChanges,
     hive: u8,
     file: &HiveFile,
 ) -> io::Result<()>
     ensures { OnOk result (Appends (W.contents writer.old) (W.contents writer.new)
-        (hive_line hive (numbered_changes changes.now) file.now)) }
+        (hive_line named hive (numbered_changes changes.now) file.now)) }
 {
     let applied = file.applied();
     let count = changes.count_lacked(hive, applied);
-    write_line(writer, hive, applied, pages_to_repair(file), count)
+    write_line(writer, named, hive, applied, pages_to_repair(file), count)
 }
 
 // how many pages a repair of a hive's file writes: none if no repair is left
@@ -52,25 +54,39 @@ fn pages_to_repair(file: &HiveFile) -> usize
 // the same, by numbers
 fn write_line<W: Write>(
     writer: &mut W,
+    named: u8,
     hive: u8,
     applied: u64,
     pages: usize,
     count: usize,
 ) -> io::Result<()>
     ensures { OnOk result (Appends (W.contents writer.old) (W.contents writer.new)
-        (state_line hive applied pages count)) }
+        (state_line named hive applied pages count)) }
 {
-    write_applied(writer, hive, applied)?;
+    write_applied(writer, named, hive, applied)?;
     write_repair(writer, pages)?;
     write_lacks(writer, count)
 }
 
-// a hive's number, and that of the last change in its files
-fn write_applied<W: Write>(writer: &mut W, hive: u8, applied: u64) -> io::Result<()>
+// a hive, and the number of the last change in its files
+fn write_applied<W: Write>(writer: &mut W, named: u8, hive: u8, applied: u64) -> io::Result<()>
     ensures { OnOk result (Appends (W.contents writer.old) (W.contents writer.new)
-        (applied_text hive applied)) }
+        (applied_text named hive applied)) }
 {
-    write!(writer, "hive {hive}: applied {applied}")
+    write_which(writer, named, hive)?;
+    write!(writer, ": applied {applied}")
+}
+
+// a hive by its number, if calls name it
+fn write_which<W: Write>(writer: &mut W, named: u8, hive: u8) -> io::Result<()>
+    ensures { OnOk result (Appends (W.contents writer.old) (W.contents writer.new)
+        (hive_text named hive)) }
+{
+    if hive < named {
+        write!(writer, "hive {hive}")
+    } else {
+        writer.write_all(b"outcomes")
+    }
 }
 
 // how many pages of a hive's file are to be repaired by its log, if some are

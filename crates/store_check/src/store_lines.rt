@@ -18,7 +18,7 @@ pub fn write_store<W: Write>(writer: &mut W, found: &RecoveredStore) -> io::Resu
         (store_text found.now)) }
 {
     write_head(writer, found)?;
-    write_hives(writer, &found.opened, &found.hives)?;
+    write_hives(writer, found.journal.hives(), &found.opened, &found.hives)?;
     writer.write_all(b"whole\n")
 }
 
@@ -28,7 +28,7 @@ fn write_head<W: Write>(writer: &mut W, found: &RecoveredStore) -> io::Result<()
         (head_lines found.now)) }
 {
     write_id(writer, found.journal.id())?;
-    write_number(writer, found.number, found.hives.len())?;
+    write_number(writer, found.number, found.journal.hives())?;
     write_journal(writer, found.journal.used())
 }
 
@@ -39,8 +39,8 @@ fn write_id<W: Write>(writer: &mut W, id: Uuid) -> io::Result<()>
     writeln!(writer, "store {id}")
 }
 
-// the number of the last change, and of hives
-fn write_number<W: Write>(writer: &mut W, number: u64, hives: usize) -> io::Result<()>
+// the number of the last change, and of hives that calls name
+fn write_number<W: Write>(writer: &mut W, number: u64, hives: u8) -> io::Result<()>
     ensures { OnOk result (Appends (W.contents writer.old) (W.contents writer.new)
         (number_lines number hives)) }
 {
