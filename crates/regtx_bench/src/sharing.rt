@@ -49,7 +49,7 @@ fn measure_shared<
     syncs: &AtomicU64,
 ) -> Result<(), Trouble>
     requires book { (count ≡ O.book) × (seen ≡ record { book = O.book; list = [] }) }
-    requires engine { IsOf O.trees O.number (E.machine engine)
+    requires engine { IsOf O.trees O.number O.hives (E.machine engine)
         × ((E.machine engine).accepted ≡ []) × ((E.machine engine).sessions ≡ []) }
 {
     let registry = match Registry::<E, O>::new(alloc, rt, engine, count, seen) {

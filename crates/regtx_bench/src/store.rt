@@ -1,5 +1,5 @@
 //! The store in a folder, on a disk that counts its syncs.
-ghost use Rattle.std.specs.Prelude.{◌≡◌, [], length, IfOk};
+ghost use Rattle.std.specs.Prelude.{◌≡◌, [], IfOk};
 
 use crate::counted_disk::CountedDisk;
 use crate::trouble::Trouble;
@@ -44,8 +44,7 @@ pub fn opened_store<D: Disk + Drop>(
     disk: D,
     makes: bool,
 ) -> Result<Engine<D>, Trouble>
-    ensures { IfOk result (λ e. (e.machine.accepted ≡ []) × (e.machine.sessions ≡ [])
-        × (e.machine.bounds.hives ≡ length e.machine.opened)) }
+    ensures { IfOk result (λ e. (e.machine.accepted ≡ []) × (e.machine.sessions ≡ [])) }
 {
     let mut disk = disk;
     if makes && disk.len(JOURNAL)? == 0 {

@@ -18,7 +18,7 @@ pub record KeepsStore {D : Type 0} (is_faithful : D → Type 0) (files : ℕ →
   pub opened : IsOpenedOn (is_faithful first) files found number [] begun
   pub store : Store
   pub last : Machine
-  pub owner : IsOf begun.opened begun.before last
+  pub owner : IsOf begun.opened begun.before begun.bounds.hives last
   pub durable_is : last.durable ≡ durable
   pub left : LeavesPrefix faithful states clock store last
 

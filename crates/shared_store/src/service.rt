@@ -95,9 +95,9 @@ fn serve_over<
     sharing: Sharing<'_, C>,
 ) -> (E, Result<Served, Refusal>)
     requires book { (count ≡ O.book) × (seen ≡ record { book = O.book; list = [] }) }
-    requires engine { IsOf O.trees O.number (E.machine engine)
+    requires engine { IsOf O.trees O.number O.hives (E.machine engine)
         × ((E.machine engine).accepted ≡ []) × ((E.machine engine).sessions ≡ []) }
-    ensures owner { IsOf O.trees O.number (E.machine result.0) }
+    ensures owner { IsOf O.trees O.number O.hives (E.machine result.0) }
     ensures numbers { IfOk result.1 (λ served. (served.opened ≡ sharing.entry.opened)
         × (served.durable ≡ (E.machine result.0).durable)) }
     ensures refused { IfErr result.1 (λ why. (why ≡ NoMemory) ⊎ (why ≡ NoSeat)) }
