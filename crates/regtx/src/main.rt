@@ -36,7 +36,7 @@ use crate::files::{Source, Target, Trouble, last_error, opened};
 use crate::hint::Hint;
 use crate::lock_wait::{Access, LockWait, take_wait};
 use crate::script_commands::{InMemory, play_script, run_script};
-use crate::store_commands::{import_store, new_store};
+use crate::store_commands::{import_store, new_store, upgrade_store};
 use crate::store_disk::StoreDisk;
 use crate::tasks::Task;
 use crate::terminal::TerminalOutput;
@@ -116,6 +116,7 @@ fn run<
             id,
             sources,
         } => import_store(rt, output, folder, id, &sources),
+        Task::Upgrade { source, folder } => upgrade_store(rt, output, opener, source, folder),
         Task::Run { folder, script } => run_script(rt, output, opener, folder, script),
         Task::Apply {
             folder,

@@ -1,5 +1,5 @@
-//! What the words `new` and `import` do with files: the folder of a store that is to be made, and the files of an
-//! import.
+//! What the words `new`, `import` and `upgrade` do with files: the folder of a store that is to be made, the files of an
+//! import, and the folder of the store that is upgraded.
 //!
 //! `store_create` makes the store and reports it, over the folder as a disk. Of real files it is trusted that they are
 //! what they answer, and that the system keeps what it has synced, a folder's entries too. Nothing is supposed of their
@@ -9,10 +9,12 @@ ghost use Rattle.std.specs.Prelude.{◌≤◌, IfOk};
 use crate::command_error::CommandError;
 use crate::files::{Source, Trouble, last_error, opened};
 use crate::hint::Hint;
+use crate::script_commands::{hint_at, store_in};
+use crate::store_disk::StoreDisk;
 use crate::tasks::{HiveCount, Sources};
 use crate::terminal::{TerminalOutput, end, length_of};
 use disk_model::Disk;
-use file_disk::{Denial, FileDisk, Unknown};
+use file_disk::{Denial, FileDisk, LockError, Unknown};
 use progress_line::{Moved, ProgressLine, WatchedDisk, WatchedReader, Work, WorkStage};
 use refusals::Refusal;
 use script_syntax::Status;
@@ -22,7 +24,7 @@ use std::io::{self, BufWriter, Eprint, ErrorKind, Write};
 use std::path::Path;
 use std::rt::Files;
 use std::time::Clock;
-use store_create::{Import, SourceFailed, make_new};
+use store_create::{Import, SourceFailed, make_new, upgrade};
 use uuid::Uuid;
 
 /// Makes a store of `count` empty hives in a folder, and prints whether it is made.
@@ -58,7 +60,33 @@ pub fn import_store<'a, R: Files<File = File> + Print + Eprint + Clock + AllocGl
     Ok(output.status(rt, made))
 }
 
-// the same, with a line for it if there is one; answers what the system refused of the store's files, too
+/// Makes a store with outcomes in a folder, of the store without them in another, and prints whether it is made. No
+/// other program has either open until this ends. The folder is looked at before the store without them is read.
+pub fn upgrade_store<
+    'a,
+    R: Files<File = File> + Print + Eprint + AllocGlobal,
+    D: StoreDisk + Drop,
+    F: FnOnce(&'a str) -> Result<D, LockError>,
+>(
+    rt: &R,
+    output: TerminalOutput,
+    opener: F,
+    source: &'a str,
+    folder: &'a str,
+) -> Result<Status, CommandError<'a>>
+    requires { F.pre opener source }
+{
+    let alloc = rt.alloc();
+    let mut writer = BufWriter::new(alloc, io::writer(rt))?;
+    let old = store_in(opener(source), source)?;
+    let mut disk = held_folder(rt, folder)?;
+    let (old, made) = upgrade(alloc, old, &mut disk, &mut writer);
+    hint_at(rt, output, source, &old, &made);
+    output.hint(rt, Hint::of_denial(folder, disk.denial()));
+    Ok(output.status(rt, made))
+}
+
+// the same as an import, with a line for it if there is one; answers what the system refused of the store's files, too
 fn import_watched<'a, R: Files<File = File> + Print + Eprint + Clock + AllocGlobal>(
     rt: &R,
     folder: &'a str,

@@ -97,6 +97,13 @@ pub enum Task<'a> {
         /// The paths of the hives' files.
         sources: Sources<'a>,
     },
+    /// `upgrade OLD NEW`: a store with outcomes is to be made of a store without them.
+    Upgrade {
+        /// The folder of the store without them.
+        source: &'a str,
+        /// The folder of the store that is to be made.
+        folder: &'a str,
+    },
 }
 
 /// How many hives a store is to have, 1 to 16.

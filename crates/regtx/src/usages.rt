@@ -18,7 +18,7 @@ impl fmt::Display for Usage {
 }
 
 /// How each command is used.
-pub const USAGES: [Usage; 19] = [
+pub const USAGES: [Usage; 20] = [
     Usage {
         name: "new",
         call: "new DIR ID COUNT",
@@ -28,6 +28,11 @@ pub const USAGES: [Usage; 19] = [
         name: "import",
         call: "import DIR ID FILE..",
         does: "makes a store of the hives in files",
+    },
+    Usage {
+        name: "upgrade",
+        call: "upgrade OLD NEW",
+        does: "copies a store that keeps no outcomes of commits to one that does",
     },
     Usage {
         name: "run",

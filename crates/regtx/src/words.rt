@@ -41,6 +41,10 @@ pub fn parse_task<'a>(alloc: Global, words: &'a [String]) -> Result<Task<'a>, Co
             id: id(given)?,
             sources: sources_named(alloc, given)?,
         }),
+        Some(("upgrade", given)) => Ok(Task::Upgrade {
+            source: text(given, "OLD")?,
+            folder: text(given, "NEW")?,
+        }),
         Some((name, given)) => parse_file_task(alloc, name, given),
         _ => Err(CommandError::WrongWords),
     }
@@ -140,6 +144,7 @@ fn command<'a>(alloc: Global) -> Result<Command<'a>, AllocError> {
     let all = with_run(alloc, all)?;
     let all = with_new(alloc, all)?;
     let all = with_import(alloc, all)?;
+    let all = with_upgrade(alloc, all)?;
     let all = with_apply(alloc, all)?;
     let all = with_export(alloc, all, "export")?;
     let all = with_export(alloc, all, "export-json")?;
@@ -247,6 +252,12 @@ fn with_import<'a>(alloc: Global, all: Command<'a>) -> Result<Command<'a>, Alloc
     let import = import.arg(one(alloc, "ID"))?;
     let files = one(alloc, "FILE").num_args(1..=MOST_HIVES);
     all.subcommand(import.arg(files)?)
+}
+
+// the same, and `upgrade`
+fn with_upgrade<'a>(alloc: Global, all: Command<'a>) -> Result<Command<'a>, AllocError> {
+    let upgrade = Command::new(alloc, "upgrade").arg(one(alloc, "OLD"))?;
+    all.subcommand(upgrade.arg(one(alloc, "NEW"))?)
 }
 
 // one word that has to be there
