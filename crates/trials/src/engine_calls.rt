@@ -1,7 +1,7 @@
 //! The calls of a store, by functions that promise next to nothing.
 //!
 //! The promises of the calls themselves would be stated at each step of a caller, though none here relies on them.
-ghost use Rattle.std.specs.Prelude.{◌≡◌, [], IfOk, is_some, length, true};
+ghost use Rattle.std.specs.Prelude.{◌≡◌, [], IfOk, is_some, true};
 
 use disk_model::{Disk, MemDisk};
 use engine::Engine;
@@ -36,6 +36,8 @@ pub(crate) enum Answer {
     Begun(Tx),
     Awaits(u64),
     OutcomeIs(Outcome),
+    /// The number of a unit of work's last commit.
+    CommittedAs(u64),
     Receipt(u64),
     NotYet,
     /// The number of the last change.
@@ -109,6 +111,7 @@ impl Answer {
             Reply::Begun { tx } => Answer::Begun(*tx),
             Reply::Awaits { number } => Answer::Awaits(*number),
             Reply::OutcomeIs { outcome } => Answer::OutcomeIs(*outcome),
+            Reply::CommittedAs { number } => Answer::CommittedAs(*number),
             Reply::Receipt { number } => Answer::Receipt(*number),
             Reply::NotYet => Answer::NotYet,
             Reply::Folded { number } => Answer::Folded(*number),
@@ -146,8 +149,7 @@ pub(crate) fn begin<D: Disk + Drop>(
     alloc: Global,
     store: Opened<D>,
 ) -> Result<Engine<D>, (Refusal, Opened<D>)>
-    ensures { IfOk result (λ e. (e.machine.accepted ≡ []) × (e.machine.sessions ≡ [])
-        × (e.machine.bounds.hives ≡ length e.machine.opened)) }
+    ensures { IfOk result (λ e. (e.machine.accepted ≡ []) × (e.machine.sessions ≡ [])) }
 {
     if !store.is_whole() {
         return Err((Refusal::Faulted, store));

@@ -35,8 +35,8 @@ use std::alloc::Global;
 use std::sync::{Arc, Wait};
 use test_support::Fault;
 
-// the files of a store of two hives, and how many bytes longer each gets in how many calls
-const FILES: u32 = 5;
+// the files of a store of two hives and that of outcomes, and how many bytes longer each gets in how many calls
+const FILES: u32 = 7;
 
 const ROOM: usize = 262_144;
 

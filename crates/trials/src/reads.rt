@@ -122,7 +122,7 @@ fn cut_commits(alloc: Global) -> Result<Reads, Fault> {
     Ok(seen)
 }
 
-// two hives that are changed and flushed, with a commit, and a trim, cut after each of its steps
+// two hives that are changed and flushed, and that of outcomes, with commits, and a trim, cut after each of its steps
 fn commits(alloc: Global) -> Result<Reads, Fault> {
     let mut seen = Reads::none();
     let mut engine = watched(alloc, 2)?;
@@ -139,6 +139,8 @@ fn commits(alloc: Global) -> Result<Reads, Fault> {
     make_steps(&mut engine, Step::Journal, BATCH)?;
     seen.see_each(alloc, &engine)?;
     settle(&mut engine, Step::Flush(0))?;
+    settle(&mut engine, Step::Flush(2))?;
+    seen.see_each(alloc, &engine)?;
     for wanted in [Progress::More, Progress::Done] {
         if make_step(&mut engine, Step::Trim)? != wanted {
             return Err(Fault::Otherwise("no trim"));

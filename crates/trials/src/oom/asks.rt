@@ -1,12 +1,13 @@
 //! Events and questions as plain values, from which each event is made anew: an event that is refused memory is gone.
 //!
-//! All is asked of hive 0.
+//! All is asked of hive 0, and of one unit of work.
 use crate::engine_calls::{SESSION, beginning, committing, writing, writing_in};
 use crate::oom::operations::{create, delete, path, set, unset, value_name};
 use reg_tree::Op;
 use std::alloc::Global;
 use store_model::{Event, Question, Tx};
 use test_support::Fault;
+use uuid::Uuid;
 
 /// How many bytes each value gets: more than its record holds.
 pub(crate) const VALUE_BYTES: usize = 600;
@@ -45,11 +46,14 @@ pub(crate) enum Ask {
     Rollback(usize),
     Close(usize),
     Outcome(usize),
+    OutcomeOf,
     FlushAsk,
     Acked(u64),
     Fold,
     Journal,
     Flush,
+    /// A step of the flush of the hive of outcomes.
+    FlushOutcomes,
     Trim,
 }
 
@@ -99,11 +103,13 @@ pub(crate) fn event_of(alloc: Global, transactions: &[Tx], what: Ask) -> Result<
             question: question_of(alloc, look)?,
         },
         Ask::Begin => beginning(),
+        Ask::OutcomeOf => Event::OutcomeOf { id: Uuid::nil() },
         Ask::FlushAsk => Event::FlushAsk,
         Ask::Acked(number) => Event::Acked { number },
         Ask::Fold => Event::Fold,
         Ask::Journal => Event::JournalStep,
         Ask::Flush => Event::FlusherStep { hive: 0 },
+        Ask::FlushOutcomes => Event::FlusherStep { hive: 2 },
         Ask::Trim => Event::TrimStep,
         _ => transacted_of(alloc, transactions, what)?,
     })

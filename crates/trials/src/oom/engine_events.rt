@@ -123,15 +123,16 @@ const TRANSACTION: [Step; 21] = [
     ),
     Step::Ask(Ask::Commit(0), Answer::Awaits(5)),
     Step::Free(Ask::Outcome(0), Answer::OutcomeIs(Outcome::Committed)),
-    Step::Room(1_507),
+    Step::Room(1_565),
 ];
 
 // a write that rolls a transaction back, a commit of nothing, and a transaction that stays
-const CONFLICT: [Step; 13] = [
+const CONFLICT: [Step; 14] = [
     Step::Claims(&[
         Claimed::Free(Change::Set("A", "p")),
         Claimed::Free(Change::Create("E")),
     ]),
+    Step::Ask(Ask::OutcomeOf, Answer::CommittedAs(5)),
     Step::Begin,
     Step::Ask(Ask::WriteIn(1, Change::Create("E")), Answer::Added),
     Step::Claims(&[
@@ -152,15 +153,17 @@ const CONFLICT: [Step; 13] = [
         Claimed::Free(Change::Set("E", "p")),
         Claimed::Met(Change::Create("F")),
     ]),
-    Step::Room(1_546),
+    Step::Room(1_604),
 ];
 
 // two batches, each flushed, and a trim; folds of the history, of which the hive lacks the changes of the second batch
-const STEPS: [Step; 18] = [
+const STEPS: [Step; 20] = [
     Step::Ask(Ask::Journal, MORE),
     Step::ToEnd(Ask::Journal),
     Step::Ask(Ask::Flush, MORE),
     Step::ToEnd(Ask::Flush),
+    Step::Ask(Ask::FlushOutcomes, MORE),
+    Step::ToEnd(Ask::FlushOutcomes),
     Step::Ask(Ask::Write(Change::Delete("D")), Answer::Accepted(7)),
     Step::Ask(Ask::Write(Change::Set("A", "v")), Answer::Accepted(8)),
     Step::Ask(Ask::Write(Change::Set("E", "v")), Answer::Accepted(9)),
@@ -172,7 +175,7 @@ const STEPS: [Step; 18] = [
     Step::Ask(Ask::Flush, MORE),
     Step::ToEnd(Ask::Flush),
     Step::Free(Ask::Fold, Answer::Folded(9)),
-    Step::Room(2_885),
+    Step::Room(2_943),
     Step::Ask(Ask::Trim, MORE),
     Step::ToEnd(Ask::Journal),
 ];

@@ -1,6 +1,6 @@
 //! The making of a store and its openings: a call that is refused memory has changed nothing, hands back what it was
 //! given, and is made again.
-ghost use Rattle.std.specs.Prelude.{◌≡◌, [], IfOk, length};
+ghost use Rattle.std.specs.Prelude.{◌≡◌, [], IfOk};
 
 use crate::engine_calls::{begin, make, open};
 use crate::oom::digest::{Digest, digest_of, digest_of_files};
@@ -16,8 +16,7 @@ use test_support::Fault;
 /// An engine over a new store of two hives. Tells whether a call was refused memory.
 pub(crate) fn made(alloc: Global, was_refused: &mut bool) -> Result<WatchedEngine, Fault>
     ensures { IfOk result (λ made. (made.engine.machine.accepted ≡ [])
-        × (made.engine.machine.sessions ≡ [])
-        × (made.engine.machine.bounds.hives ≡ length made.engine.machine.opened)) }
+        × (made.engine.machine.sessions ≡ [])) }
 {
     let watch = DiskWatch::new(alloc)?;
     let seen = Arc::try_clone(&watch)?;
@@ -89,8 +88,7 @@ pub(crate) fn begun(
     watch: &DiskWatch,
     was_refused: &mut bool,
 ) -> Result<Engine<OomDisk>, Fault>
-    ensures { IfOk result (λ e. (e.machine.accepted ≡ []) × (e.machine.sessions ≡ [])
-        × (e.machine.bounds.hives ≡ length e.machine.opened)) }
+    ensures { IfOk result (λ e. (e.machine.accepted ≡ []) × (e.machine.sessions ≡ [])) }
 {
     let before = picture_of(&store, watch);
     let (refusal, store) = match begin(alloc, store) {

@@ -23,6 +23,10 @@ pub(crate) enum Call {
     Rollback(usize),
     Close(usize),
     Outcome(usize),
+    /// The number of the unit of work's commit, by what the session sees.
+    OutcomeOf,
+    /// The same, by the store itself.
+    StoredOutcome,
 }
 
 /// A registry, as it is called.
@@ -88,6 +92,14 @@ fn found(answer: Result<Found, Refusal>) -> Answer {
     }
 }
 
+// the number of a commit, or why it isn't told
+fn committed(answer: Result<u64, Refusal>) -> Answer {
+    match answer {
+        Ok(number) => Answer::CommittedAs(number),
+        Err(refusal) => Answer::Refused(refusal),
+    }
+}
+
 impl<'a, E: StoreEngine, O: Origin, R: Wait> Calls<'a, E, O, R> {
     /// One call.
     pub(crate) fn call(
@@ -115,6 +127,8 @@ impl<'a, E: StoreEngine, O: Origin, R: Wait> Calls<'a, E, O, R> {
                 Ok(answer_of(self.registry.close_transaction(self.rt, session, tx)))
             }
             Call::Outcome(index) => Ok(self.outcome(session, tx_of(transactions, index)?)),
+            Call::OutcomeOf => Ok(committed(session.outcome_of(&Uuid::nil()))),
+            Call::StoredOutcome => Ok(self.stored_outcome(session)),
         }
     }
 
@@ -122,6 +136,14 @@ impl<'a, E: StoreEngine, O: Origin, R: Wait> Calls<'a, E, O, R> {
     pub(crate) fn outcome(&self, session: &mut Session<O>, tx: Tx) -> Answer {
         match self.registry.outcome(self.rt, session, tx) {
             Ok((outcome, _told)) => Answer::OutcomeIs(outcome),
+            Err(denied) => Answer::Refused(refusal_of(&denied)),
+        }
+    }
+
+    // the number of the unit of work's commit
+    fn stored_outcome(&self, session: &mut Session<O>) -> Answer {
+        match self.registry.outcome_of(self.rt, session, Uuid::nil()) {
+            Ok((number, _told)) => Answer::CommittedAs(number),
             Err(denied) => Answer::Refused(refusal_of(&denied)),
         }
     }

@@ -1,6 +1,6 @@
 //! The calls of a registry, each with its growths refused in turn; and the registry itself, whose engine comes back if
 //! there is no memory for it.
-ghost use Rattle.std.specs.Prelude.{◌≡◌, [], length, IfErr};
+ghost use Rattle.std.specs.Prelude.{◌≡◌, [], IfErr};
 ghost use Rattle.ktm_calls.specs.Moments.{IsOf};
 
 use crate::engine_calls::{Answer, Found};
@@ -135,8 +135,10 @@ const TRANSACTION: [Step; 20] = [
 ];
 
 // what else is called, with a transaction that is rolled back by a write, one that is rolled back, and one that stays
-const REST: [Step; 24] = [
-    Step::Room(1_507),
+const REST: [Step; 26] = [
+    Step::Call(Call::OutcomeOf, Answer::CommittedAs(5)),
+    Step::Call(Call::StoredOutcome, Answer::CommittedAs(5)),
+    Step::Room(1_565),
     Step::Call(Call::Write(Change::Delete("D")), Answer::Accepted(6)),
     Step::Call(Call::Write(Change::Unset("C", "w")), Answer::Accepted(7)),
     Step::Begin,
@@ -197,8 +199,7 @@ fn lived<R: Wait>(
     watch: &DiskWatch,
     patience: Patience,
 ) -> Result<(Engine<OomDisk>, bool), Fault>
-    requires fresh { (engine.machine.accepted ≡ []) × (engine.machine.sessions ≡ [])
-        × (engine.machine.bounds.hives ≡ length engine.machine.opened) }
+    requires fresh { (engine.machine.accepted ≡ []) × (engine.machine.sessions ≡ []) }
 {
     let before = EnginePicture::of(&engine, watch);
     let (refusal, engine) = match live_once(rt, alloc, engine, watch, patience) {
@@ -226,8 +227,7 @@ fn live_once<R: Wait>(
     watch: &DiskWatch,
     patience: Patience,
 ) -> Result<(Engine<OomDisk>, Result<bool, Fault>), (Refusal, Engine<OomDisk>)>
-    requires fresh { (engine.machine.accepted ≡ []) × (engine.machine.sessions ≡ [])
-        × (engine.machine.bounds.hives ≡ length engine.machine.opened) }
+    requires fresh { (engine.machine.accepted ≡ []) × (engine.machine.sessions ≡ []) }
     ensures { IfErr result (λ back. back.1 ≡ engine) }
 {
     let (count, seen) = ChangeCount::open();
@@ -245,7 +245,7 @@ fn live_over<O: Origin, E: StoreEngine + Drop, R: Wait>(
     patience: Patience,
 ) -> Result<(E, Result<bool, Fault>), (Refusal, E)>
     requires book { (count ≡ O.book) × (seen ≡ record { book = O.book; list = [] }) }
-    requires engine { IsOf O.trees O.number (E.machine engine)
+    requires engine { IsOf O.trees O.number O.hives (E.machine engine)
         × ((E.machine engine).accepted ≡ []) × ((E.machine engine).sessions ≡ []) }
     ensures { IfErr result (λ back. back.1 ≡ engine) }
 {
