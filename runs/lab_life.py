@@ -1,13 +1,13 @@
 """Prints runs of a laboratory that end at each call of a store's life: too long to be kept as text. There the power goes, the device
 stops, or it fails in that call alone.
 
-The life has seven changes over two hives. Three batches of the journal make six of them durable, and the seventh waits. Three
-flushes and a trim move the first four into the hives. A batch has four calls: its body and its gate, each written and then synced. A
-flush of one page has eight. They write the page into the log, the raised first sector, the page, and the first sector, each with a
-sync. A trim has two, a write and a sync.
+The life has seven changes over two hives. Three batches of the journal make six of them durable, and the seventh waits. Four
+flushes and a trim move the first four into the hives; one of these flushes is that of the hive of outcomes. A batch has four calls:
+its body and its gate, each written and then synced. A flush of one page has eight. They write the page into the log, the raised
+first sector, the page, and the first sector, each with a sync. A trim has two, a write and a sync.
 
 What opens has each change that a `flush` has acknowledged. Beside these it has a batch whose gate is written, if the tear leaves
-that. It has a batch whole, in both hives, or nothing of it.
+that. It has a batch whole, in both hives, or nothing of it. `kept` tells the last commit that is there.
 """
 import os
 import sys
@@ -41,6 +41,7 @@ LIFE = [
     (BATCH, "jstep", "flush", "flushed 4"),
     (FLUSH, "fstep 1", "fall 1", "done"),
     (FLUSH, "fstep 0", "fall 0", "done"),
+    (FLUSH, "fstep 2", "fall 2", "done"),
     (TRIM, "tstep", None, None),
     [5, 6],
     (BATCH, "jstep", "flush", "flushed 6"),
@@ -88,6 +89,19 @@ def opened(number):
     return "\n".join(text)
 
 
+def commit_kept(number):
+    """The reply to `kept` once the changes up to this number are there."""
+    commits = [at for at, (label, _) in enumerate(CHANGES[:number], 1) if label is not None]
+    return f"committed {commits[-1]}" if commits else "E2 NotFound"
+
+
+def crashed(title, lines, tear, number, status):
+    """A run in which the power goes after these lines, and the changes up to this number are there then."""
+    reply = commit_kept(number)
+    status = max(status, 1 if reply.startswith("E") else 0)
+    write(f"{title}; crash {tear}", [*lines, (f"crash {tear}", opened(number)), (f"kept {ID}", reply)], status, HIVES)
+
+
 def there_after(durable, last, part, made, tear):
     """The number that opens once so many calls of a part of the life are done."""
     is_there = part[0] == BATCH and (made == BATCH or made == BATCH - 1 and tear == "new")
@@ -106,17 +120,15 @@ def tried(before, durable, last, part, after):
     for tear in TEARS:
         for made in range(calls + 1):
             number = there_after(durable, last, part, made, tear)
-            lines = [*before, *steps(calls, step, made), (f"crash {tear}", opened(number))]
-            write(f"{step} to change {last}, cut after {made} calls; crash {tear}", lines, 0, HIVES)
+            crashed(f"{step} to change {last}, cut after {made} calls", [*before, *steps(calls, step, made)], tear, number, 0)
         for word in ["stop", "fail"]:
             for call in range(1, calls + 1):
                 # the call at which the device stops is done if it is a write, and each write is followed by its sync
                 made = call if word == "stop" and call % 2 == 1 else call - 1
                 failed = [(line, "E13 DiskFault")] if line else [*steps(calls, step, call - 1), (step, "E13 DiskFault")]
                 left = [] if line else [(step, "E14 Faulted")] * (calls - call)
-                lines = [*before, (f"{word} {call}", "ok"), *failed, *left, *after, *reads(last)]
-                number = there_after(durable, last, part, made, tear)
-                write(f"{step} to change {last}, {word} {call}; crash {tear}", [*lines, (f"crash {tear}", opened(number))], 1, HIVES)
+                lines = [*before, (f"{word} {call}", "ok"), *failed, *left, *after, *reads(last), (f"kept {ID}", commit_kept(last))]
+                crashed(f"{step} to change {last}, {word} {call}", lines, tear, there_after(durable, last, part, made, tear), 1)
 
 
 print("# The life of a store in the laboratory, which ends at each of its calls.\n\ncommand: lab\n")
@@ -132,6 +144,6 @@ for at, part in enumerate(LIFE):
     before = [*before, *lines_of(part)]
 
 for tear in TEARS:
-    write(f"the seventh change waits; crash {tear}", [*before, (f"crash {tear}", opened(6))], 0, HIVES)
+    crashed("the seventh change waits", before, tear, 6, 0)
 for tear in TEARS:
-    write(f"nothing waits; crash {tear}", [*before, ("flush", "flushed 7"), (f"crash {tear}", opened(7))], 0, HIVES)
+    crashed("nothing waits", [*before, ("flush", "flushed 7")], tear, 7, 0)

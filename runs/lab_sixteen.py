@@ -1,7 +1,8 @@
 """Prints runs of a laboratory over 16 hives: too long to be kept as text. The power goes at each step of a batch, and between flushes
 and a trim.
 
-Each hive gets a key A by a change of its own, and one change creates B in all of them. These are moved into the hives, and trimmed.
+Each hive gets a key A by a change of its own, and one commit creates B in all of them. These are moved into the hives, that of
+outcomes too, and trimmed.
 Then each hive gets a key C by a change of its own, and one batch has these 16 changes. They are there all or none: without them the
 journal has no change, and the hives tell the number.
 """
@@ -38,7 +39,7 @@ def steps(line, calls, count):
 
 def run(title, lines, tear, reply):
     """A run in which the last 16 changes wait, these lines follow, and the power goes."""
-    write(f"{title}; crash {tear}", [*WAITING, *lines, (f"crash {tear}", reply)], 0, len(HIVES))
+    write(f"{title}; crash {tear}", [*WAITING, *lines, (f"crash {tear}", reply), (f"kept {ID}", "committed 17")], 0, len(HIVES))
 
 
 WAITING = [
@@ -50,6 +51,7 @@ WAITING = [
     ("accept t", "accepted 17"),
     ("flush", "flushed 17"),
     *[(f"fall {hive}", "done") for hive in HIVES],
+    (f"fall {len(HIVES)}", "done"),
     *steps("tstep", 2, 2),
     ("at 3", "ok"),
     *each("C", 18),
