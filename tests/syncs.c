@@ -2,7 +2,8 @@
  * SYNCS_REPORT=F   each fsync and fdatasync adds the line "folder" or "file NAME" to the file F, by what it is of
  * SYNCS_END_AT=N   the Nth sync of a folder (from 1) isn't made: the program is ended by SIGKILL instead
  * CALLS_REPORT=F   each write, cut and sync of a plain file that is made adds to the file F the line "write NAME OFFSET SIZE", with so
- *                  many bytes behind it, "cut NAME SIZE" or "sync NAME" */
+ *                  many bytes behind it, "cut NAME SIZE" or "sync NAME"
+ * CALLS_END_AT=N   the program is ended by SIGKILL at the Nth of these calls (from 1): after a write or a cut, before a sync */
 #define _GNU_SOURCE
 #include <fcntl.h>
 #include <signal.h>
@@ -14,7 +15,7 @@
 #include <sys/uio.h>
 #include <unistd.h>
 
-static unsigned long folders;
+static unsigned long folders, counted;
 
 /* what is open: 'd' for a folder, 'f' for a plain file, else 0; and its name without those of folders */
 static int kind_of(int fd, char name[4096]) {
@@ -33,6 +34,12 @@ static void add(const char *report, const void *text, size_t size) {
     int to = open(report, O_WRONLY | O_CREAT | O_APPEND, 0644);
     if (to < 0 || syscall(SYS_write, to, text, size) != (ssize_t)size) abort();
     close(to);
+}
+
+static void end_at_call(int fd) {
+    char name[4096];
+    const char *end_at = getenv("CALLS_END_AT");
+    if (end_at && kind_of(fd, name) == 'f' && ++counted == strtoul(end_at, 0, 10)) kill(getpid(), SIGKILL);
 }
 
 static void note_sync(int fd) {
@@ -59,12 +66,13 @@ static void note_cut(int fd, off_t length) {
     if (calls && kind_of(fd, name) == 'f') add(calls, line, sprintf(line, "cut %s %lld\n", name, (long long)length));
 }
 
-int fsync(int fd) { note_sync(fd); return (int)syscall(SYS_fsync, fd); }
-int fdatasync(int fd) { note_sync(fd); return (int)syscall(SYS_fdatasync, fd); }
+int fsync(int fd) { note_sync(fd); end_at_call(fd); return (int)syscall(SYS_fsync, fd); }
+int fdatasync(int fd) { note_sync(fd); end_at_call(fd); return (int)syscall(SYS_fdatasync, fd); }
 
 ssize_t pwrite64(int fd, const void *bytes, size_t size, off64_t offset) {
     ssize_t done = syscall(SYS_pwrite64, fd, bytes, size, offset);
     note_write(fd, bytes, done, offset);
+    end_at_call(fd);
     return done;
 }
 
@@ -74,12 +82,14 @@ ssize_t write(int fd, const void *bytes, size_t size) {
     off_t offset = lseek(fd, 0, SEEK_CUR);
     ssize_t done = syscall(SYS_write, fd, bytes, size);
     note_write(fd, bytes, done, offset);
+    end_at_call(fd);
     return done;
 }
 
 int ftruncate64(int fd, off64_t length) {
     int told = (int)syscall(SYS_ftruncate, fd, length);
     if (told == 0) note_cut(fd, length);
+    end_at_call(fd);
     return told;
 }
 
