@@ -64,6 +64,18 @@ def noting_library(program):
     return path
 
 
+def noting(program, library):
+    """A program that writes down its process and is the program from then on; one that ends itself at a call, if so asked."""
+    path = program.at("noting")
+    with open(path, "w", encoding="ascii") as file:
+        file.write(f"""#!/bin/sh
+cd '{program.home}' && echo $$ > pid
+if mv end_at used 2>/dev/null; then export LD_PRELOAD='{library}' CALLS_END_AT="$(cat used)"; fi
+exec '{program.path}' "$@"
+""")
+    os.chmod(path, 0o755)
+
+
 def as_other():
     """What makes a run one of a user who isn't root; nothing where this isn't root either."""
     return {"user": NOBODY} if os.geteuid() == 0 else {}

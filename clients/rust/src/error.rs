@@ -1,0 +1,76 @@
+//! Why a call failed.
+
+use crate::{Refusal, Uuid};
+use std::{error, fmt, io};
+
+/// Why a call failed.
+#[derive(Debug)]
+#[non_exhaustive]
+pub enum Error {
+    /// The store refused the call, and changed nothing.
+    Refused(Refusal),
+    /// The folder is in use by another run, isn't a folder, or can't be opened.
+    CannotOpen,
+    /// The folder has a journal, is in use, or can't be made.
+    CannotMake,
+    /// The run ended before its time. What was durable is kept; open the store again.
+    Ended,
+    /// It isn't known whether a commit was done: ask [`Store::kept`](crate::Store::kept) of this
+    /// unit in a new run. The cause says why no answer came.
+    CommitUnknown(Uuid, Box<Error>),
+    /// A name that no call can carry, and why. Nothing was sent.
+    Name(String, &'static str),
+    /// The system refused to start the program, or to pass lines to it.
+    Io(io::Error),
+    /// The program printed a line that isn't a reply to the call.
+    Reply(String),
+}
+
+impl Error {
+    /// Whether a commit that is answered so may be done all the same.
+    pub(crate) fn leaves_commit_open(&self) -> bool {
+        match self {
+            Error::Refused(why) => {
+                matches!(
+                    why,
+                    Refusal::NoMemory | Refusal::DiskFault | Refusal::Faulted
+                )
+            }
+            _ => true,
+        }
+    }
+}
+
+impl fmt::Display for Error {
+    fn fmt(&self, f: &mut fmt::Formatter<'_>) -> fmt::Result {
+        match self {
+            Error::Refused(why) => write!(f, "{why}"),
+            Error::CannotOpen => write!(f, "cannot open store"),
+            Error::CannotMake => write!(f, "cannot make store"),
+            Error::Ended => write!(f, "the run ended early"),
+            Error::CommitUnknown(unit, cause) => {
+                write!(f, "it isn't known whether {unit} committed: {cause}")
+            }
+            Error::Name(name, why) => write!(f, "no call carries the name {name:?}: {why}"),
+            Error::Io(why) => write!(f, "{why}"),
+            Error::Reply(reply) => write!(f, "not a reply: {reply:?}"),
+        }
+    }
+}
+
+impl error::Error for Error {
+    fn source(&self) -> Option<&(dyn error::Error + 'static)> {
+        match self {
+            Error::Refused(why) => Some(why),
+            Error::CommitUnknown(_, cause) => Some(&**cause),
+            Error::Io(why) => Some(why),
+            _ => None,
+        }
+    }
+}
+
+impl From<io::Error> for Error {
+    fn from(why: io::Error) -> Self {
+        Error::Io(why)
+    }
+}

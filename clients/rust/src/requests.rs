@@ -1,0 +1,135 @@
+//! What may be asked alone and in a transaction.
+
+use crate::key::value_name_word;
+use crate::reply::{self, understood};
+use crate::{Error, Key, Value};
+use scope::Scope;
+use std::fmt::Write;
+
+pub(crate) mod scope {
+    use crate::Error;
+
+    /// In what a request is asked: a session, or a transaction.
+    pub trait Scope {
+        /// What an accepted write is told by.
+        type Accepted;
+
+        /// The reply to a request, which isn't a refusal.
+        fn ask(&self, request: &str) -> Result<String, Error>;
+
+        /// What the reply to a write says, or what stands behind the levels that were created.
+        fn accepted(reply: &str) -> Option<Self::Accepted>;
+    }
+}
+
+/// What [`Requests::create`] did.
+#[derive(Clone, Copy, Debug, PartialEq, Eq)]
+pub enum Creation<A> {
+    /// The key was made, and those above it that were missing.
+    Created {
+        /// How many keys were made.
+        levels: u32,
+        /// The number of the change, of a write alone.
+        accepted: A,
+    },
+    /// The key was there.
+    Opened,
+}
+
+/// What a key has.
+#[derive(Clone, Copy, Debug, PartialEq, Eq)]
+pub struct Info {
+    /// How many subkeys.
+    pub subkeys: u32,
+    /// How many values.
+    pub values: u32,
+    /// When it was written last: units of 100 ns since 1601, UTC.
+    pub written: u64,
+}
+
+/// What a [`Store`](crate::Store) and a [`Session`](crate::Session) are asked alone, and a
+/// [`Transaction`](crate::Transaction) within it.
+///
+/// A write alone is a change by itself. It answers the change's number, and is durable once a later
+/// commit or flush has returned. A write in a transaction answers `()`.
+pub trait Requests: Scope {
+    /// Creates a key, and the keys above it that are missing, 32 at most. Refused: TooDeep,
+    /// TooLarge, Conflict, NotActive, NotFound (no such hive).
+    fn create(&self, key: Key<'_>) -> Result<Creation<Self::Accepted>, Error> {
+        let reply = self.ask(&format!("create {}", key.word()?))?;
+        if reply == "opened" {
+            return Ok(Creation::Opened);
+        }
+        let created = reply.strip_prefix("created ").and_then(|rest| {
+            let (levels, rest) = rest.split_once(' ').unwrap_or((rest, ""));
+            let levels = levels.parse().ok()?;
+            Some(Creation::Created {
+                levels,
+                accepted: Self::accepted(rest)?,
+            })
+        });
+        understood(created, reply)
+    }
+
+    /// Deletes a key without subkeys. Refused: NotFound, HasSubkeys, Fixed, Conflict, NotActive.
+    fn delete(&self, key: Key<'_>) -> Result<Self::Accepted, Error> {
+        let reply = self.ask(&format!("delete {}", key.word()?))?;
+        understood(Self::accepted(&reply), reply)
+    }
+
+    /// Writes a value of a key. The empty name is the default value's. Refused: NotFound (no such
+    /// key), TooLarge (over 1,048,576 bytes, for one), Conflict, NotActive.
+    fn set(&self, key: Key<'_>, name: &str, value: &Value) -> Result<Self::Accepted, Error> {
+        let (key, name) = (key.word()?, value_name_word(name)?);
+        let reply = self.ask(&format!(
+            "set {key} {name} {} {}",
+            value.kind.0,
+            hex(&value.data)
+        ))?;
+        understood(Self::accepted(&reply), reply)
+    }
+
+    /// Deletes a value. Refused: NotFound, Conflict, NotActive.
+    fn unset(&self, key: Key<'_>, name: &str) -> Result<Self::Accepted, Error> {
+        let reply = self.ask(&format!("unset {} {}", key.word()?, value_name_word(name)?))?;
+        understood(Self::accepted(&reply), reply)
+    }
+
+    /// A value. Refused: NotFound, NotActive.
+    fn get(&self, key: Key<'_>, name: &str) -> Result<Value, Error> {
+        let reply = self.ask(&format!("get {} {}", key.word()?, value_name_word(name)?))?;
+        understood(reply::value(&reply), reply)
+    }
+
+    /// The names of a key's subkeys, in the order of their folded units. A unit that is no UTF-16
+    /// is U+FFFD. Refused: NotFound, NotActive.
+    fn subkeys(&self, key: Key<'_>) -> Result<Vec<String>, Error> {
+        let reply = self.ask(&format!("keys {}", key.word()?))?;
+        understood(reply::names(&reply, "keys"), reply)
+    }
+
+    /// The names of a key's values, as those of subkeys.
+    fn values(&self, key: Key<'_>) -> Result<Vec<String>, Error> {
+        let reply = self.ask(&format!("values {}", key.word()?))?;
+        understood(reply::names(&reply, "values"), reply)
+    }
+
+    /// What a key has. Refused: NotFound, NotActive.
+    fn info(&self, key: Key<'_>) -> Result<Info, Error> {
+        let reply = self.ask(&format!("info {}", key.word()?))?;
+        understood(reply::info(&reply), reply)
+    }
+}
+
+impl<S: Scope> Requests for S {}
+
+fn hex(data: &[u8]) -> String {
+    if data.is_empty() {
+        return "-".to_owned();
+    }
+    let mut digits = String::with_capacity(2 * data.len());
+    for byte in data {
+        write!(digits, "{byte:02x}").expect("a String takes all that is written");
+    }
+    digits
+}

@@ -1,0 +1,154 @@
+//! Stores.
+
+use crate::reply::{answered, number, understood};
+use crate::requests::scope::Scope;
+use crate::run::{Run, FIRST_SESSION};
+use crate::{Error, Refusal, Session, Transaction, Uuid};
+use std::cell::RefCell;
+use std::path::{Path, PathBuf};
+use std::process::{Command, Stdio};
+use std::time::{SystemTime, UNIX_EPOCH};
+
+/// Which program runs on which folder.
+#[derive(Clone, Debug)]
+pub struct Options {
+    pub(crate) program: PathBuf,
+    folder: PathBuf,
+    pub(crate) wait: u32,
+}
+
+impl Options {
+    /// The program, which is looked for on the path if it is a single name; and the store's folder.
+    pub fn new(program: impl Into<PathBuf>, folder: impl Into<PathBuf>) -> Self {
+        Options {
+            program: program.into(),
+            folder: folder.into(),
+            wait: 0,
+        }
+    }
+
+    /// How many seconds an opening waits for a store that is in use: up to 86,400, a day; 0 at
+    /// first.
+    pub fn wait(mut self, seconds: u32) -> Self {
+        self.wait = seconds;
+        self
+    }
+
+    // a folder whose name begins with a hyphen isn't taken for an option so
+    pub(crate) fn folder_word(&self) -> PathBuf {
+        Path::new(".").join(&self.folder)
+    }
+}
+
+/// A store that is open, by a run of the program. No other program uses it meanwhile.
+///
+/// It may be sent to another thread; it isn't shared by two, since a run takes one line at a time.
+#[derive(Debug)]
+pub struct Store {
+    run: RefCell<Run>,
+    opened_at: u64,
+}
+
+impl Store {
+    /// Makes a store of so many empty hives (1 to 16) in the folder, and opens it. Each store needs
+    /// an id of its own. Hive files that lie in the folder without a journal are written over.
+    pub fn create(options: &Options, id: &Uuid, hives: u8) -> Result<Store, Error> {
+        let made = Command::new(&options.program)
+            .arg("new")
+            .arg(options.folder_word())
+            .args([id.to_string(), hives.to_string()])
+            .stdin(Stdio::null())
+            .stderr(Stdio::inherit())
+            .output()?;
+        let text = String::from_utf8_lossy(&made.stdout);
+        match answered(text.trim_end().to_owned())?.as_str() {
+            "ok" => Store::open(options),
+            "cannot make store" => Err(Error::CannotMake),
+            "" => Err(Error::Ended),
+            reply => Err(Error::Reply(reply.to_owned())),
+        }
+    }
+
+    /// Opens the store in the folder, and repairs it if the last run was killed.
+    pub fn open(options: &Options) -> Result<Store, Error> {
+        let (run, opened_at) = Run::start(options)?;
+        Ok(Store {
+            run: RefCell::new(run),
+            opened_at,
+        })
+    }
+
+    /// The number of the store's last change when it was opened.
+    pub fn opened_at(&self) -> u64 {
+        self.opened_at
+    }
+
+    /// Begins a transaction for a unit of work. Refused: NoSeat.
+    pub fn transaction(&self, unit: &Uuid) -> Result<Transaction<'_>, Error> {
+        Transaction::begin(&self.run, FIRST_SESSION, unit)
+    }
+
+    /// Opens a further session. Refused: NoSeat, if 32 are open.
+    pub fn session(&self) -> Result<Session<'_>, Error> {
+        Session::open(&self.run)
+    }
+
+    /// The number of the last change that this unit of work committed, if one is kept. To learn of
+    /// a commit without an answer, ask in another run than its own. Refused: Unsupported,
+    /// if the store keeps no outcomes.
+    pub fn kept(&self, unit: &Uuid) -> Result<Option<u64>, Error> {
+        match self.ask(&format!("kept {unit}")) {
+            Ok(reply) => understood(number(&reply, "committed"), reply).map(Some),
+            Err(Error::Refused(Refusal::NotFound)) => Ok(None),
+            Err(why) => Err(why),
+        }
+    }
+
+    /// Returns when all accepted changes are durable: the last one's number, 0 if there is none.
+    pub fn flush(&self) -> Result<u64, Error> {
+        let reply = self.ask("flush")?;
+        understood(number(&reply, "flushed"), reply)
+    }
+
+    /// Makes all changes durable, moves them into the hives, and empties the history, of which a
+    /// run holds 1,048,576 changes. Answers the last change's number.
+    pub fn fold(&mut self) -> Result<u64, Error> {
+        let reply = self.ask("fold")?;
+        let folded = understood(number(&reply, "folded"), reply)?;
+        self.run.get_mut().forget_handles();
+        Ok(folded)
+    }
+
+    /// The moment of the writes that follow, in units of 100 ns since 1601, UTC; 0 at first. A
+    /// commit takes the moment of its own.
+    pub fn at(&self, moment: u64) -> Result<(), Error> {
+        let reply = self.ask(&format!("at {moment}"))?;
+        understood((reply == "ok").then_some(()), reply)
+    }
+
+    /// Makes all changes durable, moves them into the hives' files, and ends the run. An error that
+    /// a drop met is told here, too. A store that is dropped does the same, and tells no error.
+    pub fn close(self) -> Result<(), Error> {
+        self.run.into_inner().end()
+    }
+}
+
+impl Scope for Store {
+    type Accepted = u64;
+
+    fn ask(&self, request: &str) -> Result<String, Error> {
+        self.run.borrow_mut().ask(FIRST_SESSION, request)
+    }
+
+    fn accepted(reply: &str) -> Option<u64> {
+        number(reply, "accepted")
+    }
+}
+
+/// The moment of a time of the system's clock, for [`Store::at`]. Earlier times give that of 1970.
+pub fn moment_of(time: SystemTime) -> u64 {
+    // from 1601 to 1970 there are 134,774 days
+    const EPOCH: u64 = 134_774 * 86_400 * 10_000_000;
+    let since = time.duration_since(UNIX_EPOCH).unwrap_or_default();
+    EPOCH + since.as_secs() * 10_000_000 + u64::from(since.subsec_nanos()) / 100
+}

@@ -1,0 +1,132 @@
+//! Folders, stores and programs for the tests. `REGTX` in the environment is the program.
+// each test crate uses a part of this
+#![allow(dead_code)]
+
+use regtx_client::{Key, Options, Store, Uuid};
+use std::fs;
+use std::os::unix::fs::PermissionsExt;
+use std::path::{Path, PathBuf};
+use std::process::{Command, Output};
+use std::sync::atomic::{AtomicU32, Ordering};
+
+pub const ID: Uuid = Uuid([0x5e; 16]);
+pub const SOFTWARE: Key = Key::new(0, "Software");
+
+/// A UUID of this number.
+pub fn unit(number: u128) -> Uuid {
+    Uuid(number.to_be_bytes())
+}
+
+/// A folder that goes with the test, and the program.
+pub struct Scratch {
+    home: PathBuf,
+    pub program: PathBuf,
+}
+
+impl Scratch {
+    pub fn new() -> Scratch {
+        static COUNT: AtomicU32 = AtomicU32::new(0);
+        let number = COUNT.fetch_add(1, Ordering::Relaxed);
+        let name = format!("regtx-client-{}-{number}", std::process::id());
+        let home = std::env::temp_dir().join(name);
+        fs::create_dir(&home).unwrap();
+        let program = std::env::var("REGTX").expect("REGTX is the program");
+        Scratch {
+            home,
+            program: program.into(),
+        }
+    }
+
+    pub fn at(&self, name: &str) -> PathBuf {
+        self.home.join(name)
+    }
+
+    pub fn options(&self) -> Options {
+        Options::new(&self.program, self.at("store"))
+    }
+
+    /// A new store of two hives, with one key in the first.
+    pub fn store(&self) -> Store {
+        use regtx_client::Requests;
+        let store = Store::create(&self.options(), &ID, 2).unwrap();
+        store.create(SOFTWARE).unwrap();
+        store
+    }
+
+    /// The store by another run.
+    pub fn open(&self) -> Store {
+        Store::open(&self.options()).unwrap()
+    }
+
+    /// What a command of the program prints; no client is between.
+    pub fn printed(&self, words: &[&str]) -> String {
+        let Output { stdout, .. } = Command::new(&self.program)
+            .args(words)
+            .current_dir(&self.home)
+            .output()
+            .unwrap();
+        String::from_utf8(stdout).unwrap()
+    }
+
+    /// The replies of a run of the program to a script; no client is between.
+    pub fn replies(&self, script: &str) -> Vec<String> {
+        fs::write(self.at("script"), script).unwrap();
+        let printed = self.printed(&["run", "store", "script"]);
+        printed.lines().skip(1).map(str::to_owned).collect()
+    }
+
+    /// A shell script in the place of the program.
+    pub fn script(&self, name: &str, lines: &str) -> PathBuf {
+        let path = self.at(name);
+        fs::write(&path, format!("#!/bin/sh\n{lines}\n")).unwrap();
+        fs::set_permissions(&path, fs::Permissions::from_mode(0o755)).unwrap();
+        path
+    }
+
+    /// The store of a program that answers a line by each of these replies, and ends by a command.
+    pub fn fake(&self, replies: &[&str], end: &str) -> Store {
+        let answers: String = replies
+            .iter()
+            .map(|reply| format!("read -r line\nprintf '%s\\n' '{reply}'\n"))
+            .collect();
+        let lines = format!("echo 'opened 0'\n{answers}while read -r line; do :; done\n{end}");
+        Store::open(&Options::new(self.script("fake", &lines), "store")).unwrap()
+    }
+
+    /// The store by a run whose process is known.
+    pub fn open_to_kill(&self) -> (Store, Victim) {
+        let (pid, program) = (self.at("pid"), self.program.display());
+        let lines = format!("echo $$ > '{}'\nexec '{program}' \"$@\"", pid.display());
+        let options = Options::new(self.script("noting", &lines), self.at("store"));
+        let store = Store::open(&options).unwrap();
+        (
+            store,
+            Victim(fs::read_to_string(pid).unwrap().trim().to_owned()),
+        )
+    }
+}
+
+impl Drop for Scratch {
+    fn drop(&mut self) {
+        fs::remove_dir_all(&self.home).unwrap();
+    }
+}
+
+/// A process to be killed.
+pub struct Victim(String);
+
+impl Victim {
+    pub fn kill(self) {
+        let killed = Command::new("kill")
+            .args(["-KILL", &self.0])
+            .status()
+            .unwrap();
+        assert!(killed.success());
+    }
+}
+
+pub fn spoil(path: &Path, at: usize) {
+    let mut bytes = fs::read(path).unwrap();
+    bytes[at] ^= 0xff;
+    fs::write(path, bytes).unwrap();
+}
