@@ -1,0 +1,253 @@
+/* A store of registry keys and values, kept by the program regtx, which runs beside and is spoken
+ * to through a pipe. README.md has an example.
+ *
+ * Every call answers a code: REGTX_OK, a refusal of the store, or a failure of this client. A
+ * refusal changes nothing. Beside those that a call names, each may answer REGTX_NO_MEMORY,
+ * REGTX_ENDED, REGTX_CLIENT_MEMORY, REGTX_IO and REGTX_REPLY. What points to a result may be NULL
+ * where it says so.
+ *
+ * A store takes one call at a time: threads that share one take turns by a lock of their own. Two
+ * stores are apart. SIGPIPE doesn't come of these calls. The caller doesn't wait for the store's
+ * process, nor ignore SIGCHLD. */
+#ifndef REGTX_CLIENT_H
+#define REGTX_CLIENT_H
+
+#include <stdbool.h>
+#include <stddef.h>
+#include <stdint.h>
+
+#ifdef __cplusplus
+extern "C" {
+#endif
+
+enum {
+    REGTX_OK = 0,
+    /* refusals, by their numbers: E1 and so on */
+    REGTX_NO_MEMORY = 1,
+    REGTX_NOT_FOUND,
+    REGTX_HAS_SUBKEYS,
+    REGTX_BAD_NAME,
+    REGTX_TOO_DEEP,
+    REGTX_TOO_LARGE,
+    REGTX_CONFLICT,
+    REGTX_NOT_ACTIVE,
+    REGTX_NO_SUCH_HANDLE,
+    REGTX_NO_SEAT,
+    REGTX_JOURNAL_FULL,
+    REGTX_HISTORY_FULL,
+    REGTX_DISK_FAULT,
+    REGTX_FAULTED,
+    REGTX_HIVE_DAMAGED,
+    REGTX_JOURNAL_DAMAGED,
+    REGTX_UNSUPPORTED,
+    REGTX_FIXED,
+    /* the run ended early: close the store, and open it again */
+    REGTX_ENDED = 100,
+    /* the commit may be done or not: ask regtx_kept in a new run */
+    REGTX_COMMIT_UNKNOWN,
+    /* the folder is in use, isn't a folder, or can't be opened */
+    REGTX_CANNOT_OPEN,
+    /* the folder has a journal, is in use, or can't be made */
+    REGTX_CANNOT_MAKE,
+    /* a name that no call carries; nothing was sent */
+    REGTX_WRONG_NAME,
+    /* the caller's buffer is too small; the length that is needed was written */
+    REGTX_TOO_SMALL,
+    /* a text isn't UTF-8 or a UUID, or data isn't what is read from it */
+    REGTX_WRONG_DATA,
+    /* this client had no memory */
+    REGTX_CLIENT_MEMORY,
+    /* the system refused to start the program, or to pass lines; errno says why */
+    REGTX_IO,
+    /* the program printed something else than a reply */
+    REGTX_REPLY
+};
+
+/* The text of a code, such as "E2 NotFound"; of static storage. */
+const char *regtx_client_text(int code);
+
+/* UUIDs: of a store, and of a unit of work, whose outcome is kept. */
+typedef struct {
+    unsigned char bytes[16];
+} regtx_uuid;
+
+enum { REGTX_UUID_TEXT = 37 };
+
+/* Reads 36 characters: hex digits in groups of 8, 4, 4, 4 and 12, with hyphens between.
+ * REGTX_WRONG_DATA, if the text is another one. */
+int regtx_uuid_parse(const char *text, regtx_uuid *uuid);
+
+/* Writes the 36 characters, and a zero. */
+void regtx_uuid_print(const regtx_uuid *uuid, char text[REGTX_UUID_TEXT]);
+
+/* A random one, of version 4, from /dev/urandom. REGTX_IO, if that can't be read. */
+int regtx_uuid_random(regtx_uuid *uuid);
+
+/* A store that is open. No other program uses it meanwhile. */
+typedef struct regtx_store regtx_store;
+
+/* Makes a store of 1 to 16 empty hives in a folder; not the folders above it. Each store needs an
+ * id of its own. Hive files that lie there without a journal are written over. REGTX_CANNOT_MAKE,
+ * REGTX_DISK_FAULT; REGTX_REPLY, if there are other numbers of hives. The program is looked for on
+ * the path if its name has no slash. */
+int regtx_create(const char *program, const char *folder, const regtx_uuid *id, unsigned hives);
+
+/* Opens the store in a folder, and repairs it if its last run was killed. Waits so many seconds, up
+ * to 86,400, for a store that is in use. REGTX_CANNOT_OPEN, REGTX_DISK_FAULT, REGTX_HIVE_DAMAGED,
+ * REGTX_JOURNAL_DAMAGED; *store is NULL after each failure. */
+int regtx_open(const char *program, const char *folder, unsigned wait_seconds, regtx_store **store);
+
+/* Rolls back what isn't committed, makes all changes durable, moves them into the hives' files, and
+ * frees the store, whatever is answered. REGTX_ENDED, if the run had ended or was killed; or what
+ * was refused at its end, such as REGTX_DISK_FAULT. Refusals that calls were answered are no
+ * failure. NULL is closed already. */
+int regtx_close(regtx_store *store);
+
+/* The number of the store's last change when it was opened; 0 if there was none. */
+uint64_t regtx_opened_at(const regtx_store *store);
+
+/* A transaction, from its begin to its commit or rollback; or, where a call takes one, REGTX_ALONE:
+ * a write alone is a change by itself, durable after a later commit, flush or close. */
+typedef uint32_t regtx_tx;
+
+enum { REGTX_ALONE = 0, REGTX_FIRST_SESSION = 0 };
+
+/* Opens a session, for transactions of its own. REGTX_FIRST_SESSION is open always. REGTX_NO_SEAT,
+ * if 32 are open. */
+int regtx_session_open(regtx_store *store, uint32_t *session);
+
+/* Ends a session, and rolls back its transactions, which are gone. REGTX_NO_SUCH_HANDLE, if it
+ * isn't open, or is the first. */
+int regtx_session_end(regtx_store *store, uint32_t session);
+
+/* Begins a transaction in a session, for a unit of work. REGTX_NO_SUCH_HANDLE; REGTX_NO_SEAT, if
+ * 1,024 are there. */
+int regtx_begin(regtx_store *store, uint32_t session, const regtx_uuid *unit, regtx_tx *tx);
+
+/* Commits, and returns when the change is durable: its number, 0 if there were no writes. The
+ * number may be NULL. The transaction is gone, and rolled back after a refusal: REGTX_TOO_LARGE,
+ * REGTX_JOURNAL_FULL, REGTX_HISTORY_FULL, REGTX_NOT_ACTIVE, REGTX_NO_SUCH_HANDLE. After
+ * REGTX_COMMIT_UNKNOWN close the store, open it again, and ask regtx_kept. */
+int regtx_commit(regtx_store *store, regtx_tx tx, uint64_t *number);
+
+/* Why the last commit was REGTX_COMMIT_UNKNOWN: REGTX_ENDED, or REGTX_DISK_FAULT, and so on. */
+int regtx_cause(const regtx_store *store);
+
+/* Drops a transaction's writes. The transaction is gone. REGTX_NO_SUCH_HANDLE. */
+int regtx_rollback(regtx_store *store, regtx_tx tx);
+
+/* Whether a transaction is active: a write alone that conflicts with it rolls it back.
+ * REGTX_NO_SUCH_HANDLE. */
+int regtx_is_active(regtx_store *store, regtx_tx tx, bool *active);
+
+/* The number of the last change that a unit of work committed. REGTX_NOT_FOUND, if none is kept;
+ * REGTX_UNSUPPORTED, if the store keeps none. The number may be NULL. To learn of a commit without
+ * an answer, ask in another run than its own. */
+int regtx_kept(regtx_store *store, const regtx_uuid *unit, uint64_t *number);
+
+/* Returns when all accepted changes are durable: the last one's number, 0 if there is none. It may
+ * be NULL. REGTX_DISK_FAULT, REGTX_FAULTED. */
+int regtx_flush(regtx_store *store, uint64_t *number);
+
+/* Flushes, and empties the history, of which a run holds 1,048,576 changes. All transactions are
+ * gone, and all sessions but the first. The last change's number may be NULL. */
+int regtx_fold(regtx_store *store, uint64_t *number);
+
+/* The moment of the writes that follow, in units of 100 ns since 1601, UTC; 0 at first. A commit
+ * takes the moment of its own. */
+int regtx_at(regtx_store *store, uint64_t moment);
+
+/* Requests. A key is a hive's number and a path: names with one backslash between each two, empty
+ * for the hive's root. Names are UTF-8, and of its characters the printable ones of ASCII alone are
+ * carried; up to 255 in a key's name, which isn't empty, and 16,383 in a value's. Else the answer
+ * is REGTX_WRONG_NAME. A value's empty name is the default value's. A transaction may be answered
+ * REGTX_NOT_ACTIVE or REGTX_NO_SUCH_HANDLE; its writes REGTX_CONFLICT, if another transaction's
+ * writes forbid them, REGTX_DISK_FAULT and REGTX_FAULTED. The number of a write alone is its
+ * change's, that of one in a transaction 0; each may be NULL. */
+
+/* Creates a key, and the keys above it that are missing, 32 at most: how many, 0 if it was there;
+ * may be NULL. REGTX_NOT_FOUND (no such hive), REGTX_TOO_DEEP, REGTX_TOO_LARGE. */
+int regtx_create_key(regtx_store *store, regtx_tx tx, uint8_t hive, const char *path,
+                     uint32_t *levels, uint64_t *number);
+
+/* Deletes a key without subkeys. REGTX_NOT_FOUND, REGTX_HAS_SUBKEYS; REGTX_FIXED, of a root. */
+int regtx_delete_key(regtx_store *store, regtx_tx tx, uint8_t hive, const char *path,
+                     uint64_t *number);
+
+/* Writes a value: its type, and data of up to 1,048,576 bytes, which may be NULL if there are none.
+ * REGTX_NOT_FOUND (no such key), REGTX_TOO_LARGE. */
+int regtx_set_value(regtx_store *store, regtx_tx tx, uint8_t hive, const char *path,
+                    const char *name, uint32_t type, const void *data, size_t size,
+                    uint64_t *number);
+
+/* Deletes a value. REGTX_NOT_FOUND. */
+int regtx_delete_value(regtx_store *store, regtx_tx tx, uint8_t hive, const char *path,
+                       const char *name, uint64_t *number);
+
+/* Calls with a buffer: *size is its room in bytes, and becomes the size of what is there. If that
+ * is more, the answer is REGTX_TOO_SMALL, and the buffer's bytes mean nothing. It may be NULL if
+ * *size is 0. */
+
+/* A value's type, which may be NULL, and its data. REGTX_NOT_FOUND, REGTX_TOO_SMALL. */
+int regtx_get_value(regtx_store *store, regtx_tx tx, uint8_t hive, const char *path,
+                    const char *name, uint32_t *type, void *data, size_t *size);
+
+/* The names of a key's subkeys, or of its values, in the order of their folded units: in UTF-8, a
+ * zero behind each, one after another; a unit that is no UTF-16 is U+FFFD. The count may be NULL.
+ * REGTX_NOT_FOUND, REGTX_TOO_SMALL. */
+int regtx_list_keys(regtx_store *store, regtx_tx tx, uint8_t hive, const char *path, char *names,
+                    size_t *size, size_t *count);
+int regtx_list_values(regtx_store *store, regtx_tx tx, uint8_t hive, const char *path, char *names,
+                      size_t *size, size_t *count);
+
+/* What a key has; the time of its last write is in units of 100 ns since 1601, UTC. */
+typedef struct {
+    uint32_t subkeys, values;
+    uint64_t written;
+} regtx_info;
+
+/* REGTX_NOT_FOUND. */
+int regtx_query_info(regtx_store *store, regtx_tx tx, uint8_t hive, const char *path,
+                     regtx_info *info);
+
+/* Types of values. Any other number is a type as well. */
+enum {
+    REGTX_REG_NONE = 0,
+    REGTX_REG_SZ = 1,
+    REGTX_REG_EXPAND_SZ = 2,
+    REGTX_REG_BINARY = 3,
+    REGTX_REG_DWORD = 4,
+    REGTX_REG_DWORD_BIG_ENDIAN = 5,
+    REGTX_REG_LINK = 6,
+    REGTX_REG_MULTI_SZ = 7,
+    REGTX_REG_QWORD = 11
+};
+
+/* Data of values. Readers answer REGTX_WRONG_DATA if the data isn't of that form; the caller looks
+ * at the type. Those with a buffer are as above. */
+
+/* A number of 32 or 64 bits, its low byte first. */
+void regtx_from_dword(uint32_t number, unsigned char data[4]);
+int regtx_to_dword(const void *data, size_t size, uint32_t *number);
+void regtx_from_qword(uint64_t number, unsigned char data[8]);
+int regtx_to_qword(const void *data, size_t size, uint64_t *number);
+
+/* The data of a text in UTF-8, for REG_SZ and REG_EXPAND_SZ: UTF-16 with a zero at its end, 2
+ * bytes. A REG_LINK is the same without these 2. REGTX_WRONG_DATA, if the text isn't UTF-8. */
+int regtx_from_sz(const char *text, void *data, size_t *size);
+
+/* The text in UTF-8, with a zero; the data may lack that. */
+int regtx_to_sz(const void *data, size_t size, char *text, size_t *room);
+
+/* The data of texts, for REG_MULTI_SZ: each with a zero behind it, and one zero more. So are the
+ * texts themselves given, and none of them is empty. */
+int regtx_from_multi_sz(const char *texts, void *data, size_t *size);
+
+/* The texts, in the same form; the data may lack zeros at its end. */
+int regtx_to_multi_sz(const void *data, size_t size, char *texts, size_t *room);
+
+#ifdef __cplusplus
+}
+#endif
+
+#endif

@@ -1,0 +1,69 @@
+/* A run of the program, whose lines and replies the calls of this client are made of. */
+#ifndef REGTX_RUN_H
+#define REGTX_RUN_H
+
+#include "regtx_client.h"
+
+#include <sys/types.h>
+
+/* What the program has places for. */
+enum { SESSIONS = 32, TRANSACTIONS = 1024, NO_SESSION = SESSIONS };
+
+struct regtx_store {
+    pid_t child;
+    int script, replies; /* pipes */
+    char *text;          /* what was read: a reply, its end as a zero, and what came behind it */
+    size_t room, used, line;
+    int broken; /* a failure after which lines and replies are out of step; or 0 */
+    int cause;
+    bool was_refused;
+    uint32_t current; /* the session that lines are of; NO_SESSION once it has ended */
+    bool sessions[SESSIONS];
+    struct {
+        bool is_there;
+        uint32_t session;
+    } transactions[TRANSACTIONS];
+    uint64_t opened_at;
+};
+
+/* A store whose program has been started by these words; the folder stands in a place that is NULL.
+ */
+int regtx_launch(char *words[], size_t place, const char *folder, regtx_store **store);
+
+/* Ends the script, reads what is left, waits for the program's end, and frees the store. */
+int regtx_end(regtx_store *store);
+
+/* Reads a line, which is store->text then. Half a line is none: the run was killed in its midst. */
+int regtx_read_line(regtx_store *store);
+
+/* The refusal that a line tells; REGTX_OK, if it tells none. */
+int regtx_refusal_of(const char *line);
+
+/* Sends a line, and reads its reply into store->text, unless it is a refusal, which is answered.
+ * After a failure no line is sent any more. */
+int regtx_exchange(regtx_store *store, const char *line, size_t size);
+
+/* The same, of a short line by its format. */
+int regtx_ask(regtx_store *store, const char *format, ...);
+
+/* Makes a session the current one, and opens it if it isn't open. */
+int regtx_enter(regtx_store *store, uint32_t session);
+
+/* Makes a transaction's session the current one. */
+int regtx_enter_transaction(regtx_store *store, regtx_tx tx);
+
+bool regtx_is_there(const regtx_store *store, regtx_tx tx);
+
+/* The code of a call; REGTX_REPLY, if it is REGTX_OK and the reply isn't `ok`. */
+int regtx_judge_ok(const regtx_store *store, int code);
+
+/* The number behind a word, such as that of `committed 7`; the number may be NULL. */
+int regtx_read_number(const regtx_store *store, const char *word, uint64_t *number);
+
+/* Takes digits from where they stand. */
+bool regtx_take_number(const char **at, uint64_t *number);
+
+/* Takes a word and the blank at its end. */
+bool regtx_take_word(const char **at, const char *word);
+
+#endif

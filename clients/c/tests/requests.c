@@ -1,0 +1,164 @@
+/* Requests alone, UUIDs, and refusals by their names. */
+#define _POSIX_C_SOURCE 200809L
+
+#include "check.h"
+
+#include <stdio.h>
+#include <string.h>
+
+static void writes_answer_their_numbers(void)
+{
+    regtx_store *store = new_store();
+    uint32_t levels = 99;
+    uint64_t number = 99;
+    const char *path = "Software\\Vendor\\Product";
+    CHECK(regtx_opened_at(store) == 0);
+    CHECK(regtx_create_key(store, REGTX_ALONE, 0, path, &levels, &number) == REGTX_OK);
+    CHECK(levels == 2 && number == 2);
+    CHECK(regtx_create_key(store, REGTX_ALONE, 0, path, &levels, &number) == REGTX_OK);
+    CHECK(levels == 0 && number == 0);
+    CHECK(regtx_set_value(store, REGTX_ALONE, 0, path, "v", 4, "abcd", 4, &number) == REGTX_OK
+          && number == 3);
+    CHECK(regtx_delete_value(store, REGTX_ALONE, 0, path, "v", &number) == REGTX_OK && number == 4);
+    CHECK(regtx_delete_key(store, REGTX_ALONE, 0, path, &number) == REGTX_OK && number == 5);
+    CHECK(regtx_flush(store, &number) == REGTX_OK && number == 5);
+    CHECK(regtx_close(store) == REGTX_OK);
+    CHECK(answers("keys 0:Software\nkeys 0:Software\\Vendor\n", "keys 1 Vendor\nkeys 0\n"));
+    store = open_again();
+    CHECK(regtx_opened_at(store) == 5);
+    CHECK(regtx_close(store) == REGTX_OK);
+}
+
+static void reads_tell_what_is_there(void)
+{
+    regtx_store *store = new_store();
+    regtx_info info;
+    char names[16];
+    size_t size = sizeof names, count = 99;
+    /* 2024-02-29 00:00:00 UTC */
+    CHECK(regtx_at(store, 133536384000000000) == REGTX_OK);
+    CHECK(set_number(store, REGTX_ALONE, "b", 1) == REGTX_OK);
+    CHECK(set_number(store, REGTX_ALONE, "A", 1) == REGTX_OK);
+    CHECK(regtx_query_info(store, REGTX_ALONE, 0, "Software", &info) == REGTX_OK);
+    CHECK(info.subkeys == 0 && info.values == 2 && info.written == 133536384000000000);
+    CHECK(regtx_list_values(store, REGTX_ALONE, 0, "Software", names, &size, &count) == REGTX_OK);
+    CHECK(size == 4 && count == 2 && memcmp(names, "A\0b", 4) == 0);
+    size = 0;
+    CHECK(regtx_list_keys(store, REGTX_ALONE, 1, "", NULL, &size, &count) == REGTX_OK);
+    CHECK(size == 0 && count == 0);
+    CHECK(regtx_close(store) == REGTX_OK);
+    CHECK(answers("info 0:Software\n", "info 0 2 133536384000000000\n"));
+}
+
+static void refusals_change_nothing(void)
+{
+    char deep[2 * 33 + 1] = "d";
+    regtx_store *store = new_store();
+    regtx_info info;
+    size_t size = 0;
+    uint64_t number = 99;
+    for (int level = 1; level < 33; level++)
+        strcat(deep, "\\d");
+    CHECK(regtx_create_key(store, REGTX_ALONE, 0, "Software\\Vendor", NULL, NULL) == REGTX_OK);
+    CHECK(regtx_get_value(store, REGTX_ALONE, 0, "Software", "v", NULL, NULL, &size)
+          == REGTX_NOT_FOUND);
+    CHECK(regtx_delete_value(store, REGTX_ALONE, 0, "Software", "v", NULL) == REGTX_NOT_FOUND);
+    CHECK(regtx_query_info(store, REGTX_ALONE, 9, "", &info) == REGTX_NOT_FOUND);
+    CHECK(regtx_delete_key(store, REGTX_ALONE, 0, "Software", NULL) == REGTX_HAS_SUBKEYS);
+    CHECK(regtx_delete_key(store, REGTX_ALONE, 0, "", NULL) == REGTX_FIXED);
+    CHECK(regtx_create_key(store, REGTX_ALONE, 0, deep, NULL, NULL) == REGTX_TOO_DEEP);
+    CHECK(regtx_flush(store, &number) == REGTX_OK && number == 2);
+    /* a run with refusals ends well */
+    CHECK(regtx_close(store) == REGTX_OK);
+}
+
+static void each_refusal_has_its_code(void)
+{
+    static const char *const names[] = {"E1 NoMemory",        "E2 NotFound",     "E3 HasSubkeys",
+                                        "E4 BadName",         "E5 TooDeep",      "E6 TooLarge",
+                                        "E7 Conflict",        "E8 NotActive",    "E9 NoSuchHandle",
+                                        "E10 NoSeat",         "E11 JournalFull", "E12 HistoryFull",
+                                        "E13 DiskFault",      "E14 Faulted",     "E15 HiveDamaged",
+                                        "E16 JournalDamaged", "E17 Unsupported", "E18 Fixed"};
+    char replies[512] = "";
+    for (int at = 0; at < 18; at++)
+        strcat(strcat(replies, names[at]), at == 14 ? " 0 BadRecord\n" : "\n");
+    regtx_store *store = fake(replies, "exit 1");
+    for (int code = REGTX_NO_MEMORY; code <= REGTX_FIXED; code++) {
+        CHECK(regtx_flush(store, NULL) == code);
+        CHECK(strcmp(regtx_client_text(code), names[code - 1]) == 0);
+    }
+    CHECK(regtx_close(store) == REGTX_OK);
+    CHECK(strcmp(regtx_client_text(REGTX_ENDED), "the run ended early") == 0);
+    CHECK(strcmp(regtx_client_text(REGTX_REPLY), "not a reply") == 0);
+    CHECK(strcmp(regtx_client_text(-1), "no code") == 0);
+}
+
+static void spoil(const char *file, long at)
+{
+    char path[64];
+    snprintf(path, sizeof path, "%s/%s", folder(), file);
+    FILE *spoilt = fopen(path, "r+b");
+    CHECK(spoilt && fseek(spoilt, at, SEEK_SET) == 0 && fputc('?', spoilt) == '?');
+    if (spoilt)
+        fclose(spoilt);
+}
+
+static void damaged_stores_are_refused(void)
+{
+    regtx_store *store;
+    CHECK(regtx_close(new_store()) == REGTX_OK);
+    CHECK(regtx_open(program, "none", 0, &store) == REGTX_JOURNAL_DAMAGED && !store);
+    /* behind the base block: the first bin */
+    spoil("hive01.dat", 4096);
+    CHECK(regtx_open(program, folder(), 0, &store) == REGTX_HIVE_DAMAGED && !store);
+    spoil("journal", 0);
+    CHECK(regtx_open(program, folder(), 0, &store) == REGTX_JOURNAL_DAMAGED && !store);
+}
+
+static void stores_are_made_once(void)
+{
+    regtx_uuid id;
+    regtx_store *store;
+    CHECK(regtx_uuid_random(&id) == REGTX_OK);
+    CHECK(regtx_close(new_store()) == REGTX_OK);
+    CHECK(regtx_create(program, folder(), &id, 1) == REGTX_CANNOT_MAKE);
+    CHECK(regtx_create(program, "no/folder", &id, 1) == REGTX_CANNOT_MAKE);
+    CHECK(regtx_create(program, "other", &id, 17) == REGTX_REPLY);
+    CHECK(regtx_create(program, "--help", &id, 16) == REGTX_OK);
+    CHECK(regtx_open(program, "--help", 0, &store) == REGTX_OK && regtx_close(store) == REGTX_OK);
+}
+
+static void uuids_are_read_and_printed(void)
+{
+    static const char *const wrong[] = {"",
+                                        "6ba7b810",
+                                        "6ba7b810-9dad-11d1-80b4-00c04fd430c",
+                                        "6ba7b810-9dad-11d1-80b4-00c04fd430c8a",
+                                        "6ba7b8109-dad-11d1-80b4-00c04fd430c8",
+                                        "6ba7b810-9dad-11d1-80b4-00c04fd430cg",
+                                        "+ba7b810-9dad-11d1-80b4-00c04fd430c8"};
+    regtx_uuid uuid, other;
+    char text[REGTX_UUID_TEXT];
+    CHECK(regtx_uuid_parse("6BA7b810-9dad-11d1-80b4-00c04fd430c8", &uuid) == REGTX_OK);
+    CHECK(memcmp(uuid.bytes, "\x6b\xa7\xb8\x10\x9d\xad\x11\xd1\x80\xb4\0\xc0\x4f\xd4\x30\xc8", 16)
+          == 0);
+    regtx_uuid_print(&uuid, text);
+    CHECK(strcmp(text, "6ba7b810-9dad-11d1-80b4-00c04fd430c8") == 0);
+    for (size_t at = 0; at < sizeof wrong / sizeof wrong[0]; at++)
+        CHECK(regtx_uuid_parse(wrong[at], &uuid) == REGTX_WRONG_DATA);
+    CHECK(regtx_uuid_random(&uuid) == REGTX_OK && regtx_uuid_random(&other) == REGTX_OK);
+    CHECK(memcmp(&uuid, &other, sizeof uuid) != 0 && uuid.bytes[6] >> 4 == 4
+          && uuid.bytes[8] >> 6 == 2);
+}
+
+void test_requests(void)
+{
+    writes_answer_their_numbers();
+    reads_tell_what_is_there();
+    refusals_change_nothing();
+    each_refusal_has_its_code();
+    damaged_stores_are_refused();
+    stores_are_made_once();
+    uuids_are_read_and_printed();
+}
