@@ -12,6 +12,13 @@ def crates():
     return {head.split()[0]: tail.split() for head, tail in named}
 
 
+def static_libraries():
+    """The crates that programs in other languages link, and no crate uses."""
+    with open(f"{TOP}/crates.txt", encoding="utf-8") as file:
+        heads = [line.split("#")[0].partition(":")[0].split() for line in file]
+    return {head[0] for head in heads if "staticlib" in head[1:]}
+
+
 def own_crates():
     """The crates of the repository, each with those of them on which it stands."""
     graph = crates()

@@ -1,0 +1,5 @@
+pub mod HeldSteps
+pub mod Values
+pub mod Openings
+pub mod WholeFiles
+pub mod Numbered

@@ -1,0 +1,150 @@
+/* regtx.h: Windows registry hives in memory. Link with libregtx.a.
+ *
+ * A hive is opened from the bytes of a hive file (`regf`), or new. It is read and edited in memory, and written as the
+ * bytes of a whole hive file again. No call reads or writes a file.
+ *
+ * Text. Paths and names are UTF-16 units with a length, in the machine's byte order, and no zero ends them. A path is
+ * key names joined by one backslash each; the empty path is the root. Letters `a` to `z` count as `A` to `Z`, so names
+ * that differ in these alone are one name. A call may name units from 0x20 to 0x7e: key names of 1 to 255 units without
+ * a backslash, at most 512 of them in a path, and value names of 0 to 16,383 units. The empty value name is the default
+ * value's. Keys and values of a file may have other names. Such a key is listed, but no path leads to it; such a value
+ * is read by its index.
+ *
+ * Buffers. A call that hands out text or data takes a buffer, its room and `*len`. It sets `*len` to the length of what
+ * there is. With REGTX_NO_ROOM the room is too small, and the buffer is as it was; call again with `*len` of room. With
+ * any other number but REGTX_OK neither buffer nor `*len` is written. What lies in a buffer behind `*len` stays.
+ *
+ * Numbers. Each call answers REGTX_OK or why it is refused. A refused call changes nothing: the hive stays as it was.
+ * REGTX_NO_MEMORY may come of each call.
+ *
+ * What the caller owes. No pointer is null, also not one to 0 units or bytes. What one call is given doesn't overlap. A
+ * handle is used by one call at a time, on the thread that opened its hive; it may be moved, but of two copies only one
+ * may be used from then on. Its fields are never touched. `malloc`, `realloc` and `free` are of one allocator.
+ *
+ * The library owns each open hive, until its handle is closed or another hive is opened by it. It keeps no pointer of
+ * the caller beyond a call, and hands out none of its own.
+ */
+#ifndef REGTX_H
+#define REGTX_H
+
+#include <stdbool.h>
+#include <stddef.h>
+#include <stdint.h>
+
+#ifdef __cplusplus
+extern "C" {
+#endif
+
+enum {
+    REGTX_OK = 0,
+    REGTX_NO_MEMORY = 1,   /* memory was asked for and not given */
+    REGTX_NOT_FOUND = 2,   /* there is no such key or value, or the index is past the last one */
+    REGTX_HAS_SUBKEYS = 3, /* the key to be deleted has subkeys */
+    REGTX_BAD_NAME = 4,    /* a path or a name breaks the rules of names above */
+    REGTX_TOO_DEEP = 5,    /* a path has more than 512 names, or one call would create more than 32 keys */
+    REGTX_TOO_LARGE = 6,   /* data over 1,048,576 bytes, or a hive that weighs more than 16,777,216 */
+    REGTX_UNSUPPORTED = 17, /* a version, a type, a format or a flag that isn't read */
+    REGTX_FIXED = 18,      /* the root, or a key that is marked as not deletable, is to be deleted */
+    REGTX_NOT_OPEN = 100,  /* no hive is open by this handle */
+    REGTX_NO_ROOM = 101,   /* the buffer is too small */
+    /* The bytes are no whole hive. If they have several faults, any one is told. */
+    REGTX_TRUNCATED = 1501,  /* they are fewer than they say */
+    REGTX_BAD_BASE = 1502,   /* no hive at all, or a wrong size of bins data */
+    REGTX_BAD_BIN = 1503,    /* a bin is wrong, or the bins don't fill the bins data */
+    REGTX_BAD_CELL = 1504,   /* a cell is wrong, or the cells don't fill their bin */
+    REGTX_BAD_OFFSET = 1505, /* an offset isn't the start of an allocated cell */
+    REGTX_BAD_RECORD = 1506, /* a record is wrong, or doesn't fit its cell */
+    REGTX_BAD_LIST = 1507,   /* a list of subkeys is wrong */
+    REGTX_BAD_STORED_NAME = 1508, /* a name is wrong, or is there twice below one key */
+    REGTX_SHARED = 1509,     /* a cell is reached twice */
+    REGTX_NOT_CLEAN = 1511   /* the hive was not closed cleanly */
+};
+
+/* An open hive, or none. Set it to zero before its first use: `regtx_hive hive = {0};`. */
+typedef struct {
+    bool full;
+    struct {
+        void *at;
+    } held;
+} regtx_hive;
+
+/* What a key has. `time` is when it was last written, in units of 100 nanoseconds since the year 1601. */
+typedef struct {
+    uint64_t subkeys;
+    uint64_t values;
+    uint64_t time;
+} regtx_info;
+
+/* Opens the hive that the `len` bytes of a hive file hold. They are copied and may go. They are read as they are, without
+ * a log. What was open by the handle before is closed; if the call is refused, it stays open.
+ * Refused: any number from 1501 on, REGTX_UNSUPPORTED, REGTX_TOO_LARGE (also of bins data over 64 MiB, and of a path of
+ * more than 512 names). */
+uint32_t regtx_hive_open(const uint8_t *file, size_t len, regtx_hive *hive);
+
+/* Opens a new hive: a root without name, time, subkeys and values, that is not to be deleted. What was open by the handle
+ * before is closed. */
+uint32_t regtx_hive_new(regtx_hive *hive);
+
+/* Closes the hive that is open by the handle, and frees its memory. A closed handle may be closed again. */
+void regtx_hive_close(regtx_hive *hive);
+
+/* Tells what the key at a path has.
+ * Refused: REGTX_NOT_OPEN, REGTX_BAD_NAME, REGTX_TOO_DEEP, REGTX_NOT_FOUND. */
+uint32_t regtx_hive_info(regtx_hive *hive, const uint16_t *path, size_t path_len, regtx_info *info);
+
+/* Tells the name of the subkey at an index, in the order of names. Indexes begin at 0.
+ * Refused: as regtx_hive_info, REGTX_NO_ROOM. */
+uint32_t regtx_hive_key_at(regtx_hive *hive, const uint16_t *path, size_t path_len, size_t index,
+                           uint16_t *name, size_t room, size_t *len);
+
+/* Tells the name of the value at an index, in the order of names.
+ * Refused: as regtx_hive_key_at. */
+uint32_t regtx_hive_value_name_at(regtx_hive *hive, const uint16_t *path, size_t path_len, size_t index,
+                                  uint16_t *name, size_t room, size_t *len);
+
+/* Tells type and data of the value at an index, in the order of names. `*type` is also set with REGTX_NO_ROOM.
+ * Refused: as regtx_hive_key_at. */
+uint32_t regtx_hive_value_at(regtx_hive *hive, const uint16_t *path, size_t path_len, size_t index,
+                             uint32_t *type, uint8_t *data, size_t room, size_t *len);
+
+/* Tells type and data of the value of a name. `*type` is also set with REGTX_NO_ROOM.
+ * Refused: as regtx_hive_key_at. */
+uint32_t regtx_hive_value(regtx_hive *hive, const uint16_t *path, size_t path_len,
+                          const uint16_t *name, size_t name_len,
+                          uint32_t *type, uint8_t *data, size_t room, size_t *len);
+
+/* Creates the key at a path, and each key that is missing on the way to it. `*made` tells how many were made: 0 if the
+ * key was there, and then nothing changes. New keys have the time, and the security descriptor of the last key on the way
+ * that was there; that key has the time too.
+ * Refused: REGTX_NOT_OPEN, REGTX_BAD_NAME, REGTX_TOO_DEEP, REGTX_TOO_LARGE; then `*made` stays. */
+uint32_t regtx_hive_create_key(regtx_hive *hive, const uint16_t *path, size_t path_len, uint64_t time, size_t *made);
+
+/* Deletes the key at a path, with its values. Its parent has the time.
+ * Refused: REGTX_NOT_OPEN, REGTX_BAD_NAME, REGTX_TOO_DEEP, REGTX_NOT_FOUND, REGTX_FIXED, REGTX_HAS_SUBKEYS. */
+uint32_t regtx_hive_delete_key(regtx_hive *hive, const uint16_t *path, size_t path_len, uint64_t time);
+
+/* Writes the value of a name, of the key at a path, which has the time then. Any number is a type. A value that was there
+ * keeps the spelling of its name. The data are copied.
+ * Refused: REGTX_NOT_OPEN, REGTX_BAD_NAME, REGTX_TOO_DEEP, REGTX_NOT_FOUND, REGTX_TOO_LARGE. */
+uint32_t regtx_hive_set_value(regtx_hive *hive, const uint16_t *path, size_t path_len,
+                              const uint16_t *name, size_t name_len,
+                              uint32_t type, const uint8_t *data, size_t len, uint64_t time);
+
+/* Deletes the value of a name, of the key at a path, which has the time then.
+ * Refused: REGTX_NOT_OPEN, REGTX_BAD_NAME, REGTX_TOO_DEEP, REGTX_NOT_FOUND. */
+uint32_t regtx_hive_delete_value(regtx_hive *hive, const uint16_t *path, size_t path_len,
+                                 const uint16_t *name, size_t name_len, uint64_t time);
+
+/* Writes the hive as the bytes of a whole hive file of version 1.5: a clean one, that needs no log. `*len` is a multiple
+ * of 4,096. With a room of 0 the call tells how many bytes it needs.
+ * Refused: REGTX_NOT_OPEN, REGTX_NO_ROOM. */
+uint32_t regtx_hive_write(regtx_hive *hive, uint8_t *file, size_t room, size_t *len);
+
+/* Tells the text of a number, in ASCII, without a zero at its end: "E2 NotFound". It has at most 64 bytes. */
+uint32_t regtx_text(uint32_t code, uint8_t *text, size_t room, size_t *len);
+
+#ifdef __cplusplus
+}
+#endif
+
+#endif

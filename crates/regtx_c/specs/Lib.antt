@@ -1,0 +1,9 @@
+pub mod Held
+pub mod Codes
+pub mod Handles
+pub mod Openings
+pub mod Buffers
+pub mod Questions
+pub mod Edits
+pub mod Files
+pub mod Texts

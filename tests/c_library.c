@@ -1,0 +1,702 @@
+/* A program over libregtx.a, for tests/c_library, which says what it is for:
+ *
+ *     c_library checks                          tries each call; a line for each thing that is wrong
+ *     c_library failing FILE                    the same edits and reads with each allocation refused in turn
+ *     c_library dump FILE                       prints a hive as `regtx dump` does, as far as paths lead
+ *     c_library rewrite FILE NEW                opens a hive, and writes it to another file
+ *     c_library mutate FILE SEED COUNT FOLDER   opens spoiled copies; some and their texts go to the folder
+ *
+ * The status is 0 if nothing is wrong.
+ */
+#include "regtx.h"
+
+#include <stdio.h>
+#include <stdlib.h>
+#include <string.h>
+
+/* ---- allocations that fail */
+
+static long left_until_refusal = -1; /* how many are given before one is refused; negative: none is */
+
+void *__real_malloc(size_t size);
+void *__real_realloc(void *block, size_t size);
+
+static bool is_refused(void)
+{
+    return left_until_refusal >= 0 && left_until_refusal-- == 0;
+}
+
+void *__wrap_malloc(size_t size)
+{
+    return is_refused() ? NULL : __real_malloc(size);
+}
+
+void *__wrap_realloc(void *block, size_t size)
+{
+    return is_refused() ? NULL : __real_realloc(block, size);
+}
+
+/* ---- texts */
+
+struct text {
+    char *at;
+    size_t len, room;
+};
+
+static void *taken(void *block)
+{
+    if (block == NULL) {
+        fputs("no memory\n", stderr);
+        exit(2);
+    }
+    return block;
+}
+
+/* room for so many characters more */
+static char *end_of(struct text *text, size_t more)
+{
+    if (text->len + more + 1 > text->room) {
+        text->room = 2 * (text->len + more + 1);
+        text->at = taken(__real_realloc(text->at, text->room));
+    }
+    return text->at + text->len;
+}
+
+static void add(struct text *text, const char *some)
+{
+    size_t more = strlen(some);
+    memcpy(end_of(text, more), some, more + 1);
+    text->len += more;
+}
+
+static void add_hex(struct text *text, const uint8_t *data, size_t len)
+{
+    char *end = end_of(text, 2 * len);
+    for (size_t i = 0; i < len; i++) {
+        *end++ = "0123456789abcdef"[data[i] >> 4];
+        *end++ = "0123456789abcdef"[data[i] & 15];
+    }
+    *end = 0;
+    text->len += 2 * len;
+}
+
+static bool is_same(const struct text *a, const struct text *b)
+{
+    return a->len == b->len && memcmp(a->at, b->at, a->len) == 0;
+}
+
+static void drop(struct text *text)
+{
+    free(text->at);
+    *text = (struct text){0};
+}
+
+/* ---- what is wrong */
+
+static int wrong;
+
+static void expect(const char *what, bool is_so)
+{
+    if (!is_so) {
+        wrong++;
+        printf("%s\n", what);
+    }
+}
+
+#define EXPECT(is_so) expect(#is_so, is_so)
+
+/* ---- units */
+
+#define MOST_UNITS 140000
+
+struct units {
+    uint16_t at[MOST_UNITS];
+    size_t len;
+};
+
+static struct units *units_of(const char *ascii, struct units *units)
+{
+    units->len = strlen(ascii);
+    for (size_t i = 0; i < units->len; i++)
+        units->at[i] = (unsigned char)ascii[i];
+    return units;
+}
+
+static struct units path_units, name_units;
+
+/* the pointer and the length of a path, and of a name, which is another buffer */
+#define PATH(ascii) units_of(ascii, &path_units)->at, strlen(ascii)
+#define NAME(ascii) units_of(ascii, &name_units)->at, strlen(ascii)
+
+/* ---- a hive as text */
+
+static void add_name(struct text *text, const uint16_t *name, size_t len)
+{
+    char some[8];
+    if (len == 0 || (len == 1 && name[0] == '@')) {
+        add(text, len == 0 ? "@" : "%0040");
+        return;
+    }
+    for (size_t i = 0; i < len; i++) {
+        bool is_plain = name[i] >= 33 && name[i] <= 126 && name[i] != '%';
+        snprintf(some, sizeof some, is_plain ? "%c" : "%%%04x", name[i]);
+        add(text, some);
+    }
+}
+
+/* the units of a name that a call hands out, in a block of just their length */
+static uint16_t *name_at(regtx_hive *hive, const struct units *path, size_t index, bool of_value, size_t *len)
+{
+    uint16_t none[1] = {7};
+    uint32_t (*call)(regtx_hive *, const uint16_t *, size_t, size_t, uint16_t *, size_t, size_t *) =
+        of_value ? regtx_hive_value_name_at : regtx_hive_key_at;
+    uint32_t code = call(hive, path->at, path->len, index, none, 0, len);
+    uint16_t *name = taken(__real_malloc(*len ? 2 * *len : 1));
+    expect("a name without room", code == (*len ? REGTX_NO_ROOM : REGTX_OK) && none[0] == 7);
+    expect("a name", call(hive, path->at, path->len, index, name, *len, len) == REGTX_OK);
+    return name;
+}
+
+static void add_value(struct text *text, regtx_hive *hive, const struct units *path, size_t index)
+{
+    char some[32];
+    uint8_t none[1];
+    uint32_t type = 0;
+    size_t name_len, len;
+    uint16_t *name = name_at(hive, path, index, true, &name_len);
+    uint32_t code = regtx_hive_value_at(hive, path->at, path->len, index, &type, none, 0, &len);
+    uint8_t *data = taken(__real_malloc(len ? len : 1));
+    expect("data without room", code == (len ? REGTX_NO_ROOM : REGTX_OK));
+    code = regtx_hive_value_at(hive, path->at, path->len, index, &type, data, len, &len);
+    expect("data", code == REGTX_OK);
+    add(text, "val ");
+    add_name(text, name, name_len);
+    snprintf(some, sizeof some, " %u %s", type, len ? "" : "-");
+    add(text, some);
+    add_hex(text, data, len);
+    add(text, "\n");
+    free(name);
+    free(data);
+}
+
+/* adds the key at a path and all below it to which a path leads */
+static void add_key(struct text *text, regtx_hive *hive, struct units *path)
+{
+    char some[32];
+    regtx_info info;
+    size_t before = path->len;
+    if (regtx_hive_info(hive, path->at, path->len, &info) != REGTX_OK)
+        return;
+    add(text, "key 0:");
+    if (before)
+        for (size_t from = 0, i = 0; i <= before; i++)
+            if (i == before || path->at[i] == '\\') {
+                add_name(text, path->at + from, i - from);
+                add(text, i == before ? "" : "\\");
+                from = i + 1;
+            }
+    snprintf(some, sizeof some, " %llu\n", (unsigned long long)info.time);
+    add(text, some);
+    for (size_t i = 0; i < info.values; i++)
+        add_value(text, hive, path, i);
+    for (size_t i = 0; i < info.subkeys; i++) {
+        size_t len;
+        uint16_t *name = name_at(hive, path, i, false, &len);
+        if (before + 1 + len <= MOST_UNITS) {
+            path->len = before + (before ? 1 : 0);
+            if (before)
+                path->at[before] = '\\';
+            memcpy(path->at + path->len, name, 2 * len);
+            path->len += len;
+            add_key(text, hive, path);
+            path->len = before;
+        }
+        free(name);
+    }
+}
+
+static struct text text_of(regtx_hive *hive)
+{
+    static struct units path;
+    struct text text = {0};
+    path.len = 0;
+    add(&text, "hive 0\n");
+    add_key(&text, hive, &path);
+    return text;
+}
+
+static struct text text_of_code(uint32_t code)
+{
+    uint8_t some[65] = {0};
+    size_t len = 0;
+    struct text text = {0};
+    EXPECT(regtx_text(code, some, 64, &len) == REGTX_OK && len <= 64);
+    add(&text, (char *)some);
+    return text;
+}
+
+/* ---- files */
+
+static uint8_t *file_bytes(const char *name, size_t *len)
+{
+    FILE *file = fopen(name, "rb");
+    uint8_t *bytes = taken(__real_malloc(1 << 26));
+    *len = file ? fread(bytes, 1, 1 << 26, file) : 0;
+    if (file == NULL || fclose(file) != 0)
+        exit(2);
+    return taken(__real_realloc(bytes, *len ? *len : 1));
+}
+
+static void put_file(const char *folder, const char *name, const void *bytes, size_t len)
+{
+    char path[4096];
+    snprintf(path, sizeof path, "%s%s%s", folder, *folder ? "/" : "", name);
+    FILE *file = fopen(path, "wb");
+    if (file == NULL || fwrite(bytes, 1, len, file) != len || fclose(file) != 0)
+        exit(2);
+}
+
+/* the bytes of a whole file, in a block of just their length */
+static uint8_t *written(regtx_hive *hive, size_t *len)
+{
+    uint8_t none[1] = {7};
+    EXPECT(regtx_hive_write(hive, none, 0, len) == REGTX_NO_ROOM && none[0] == 7 && *len % 4096 == 0);
+    uint8_t *bytes = taken(__real_malloc(*len));
+    EXPECT(regtx_hive_write(hive, bytes, *len, len) == REGTX_OK);
+    return bytes;
+}
+
+/* whether a hive that is written and opened again is the same */
+static void expect_written(const char *what, regtx_hive *hive)
+{
+    size_t len;
+    regtx_hive again = {0};
+    uint8_t *bytes = written(hive, &len);
+    uint32_t code = regtx_hive_open(bytes, len, &again);
+    free(bytes);
+    struct text before = text_of(hive), after = text_of(&again);
+    expect(what, code == REGTX_OK && is_same(&before, &after));
+    drop(&before);
+    drop(&after);
+    regtx_hive_close(&again);
+}
+
+/* ---- checks */
+
+/* a call that is refused, and the hive stays */
+static void expect_refused(const char *what, uint32_t code, uint32_t wanted, regtx_hive *hive, const struct text *before)
+{
+    struct text after = text_of(hive);
+    if (code != wanted)
+        printf("%u for %u: ", code, wanted);
+    expect(what, code == wanted && is_same(before, &after));
+    drop(&after);
+}
+
+#define REFUSED(wanted, call) expect_refused(#call, call, wanted, &hive, &before)
+
+static void check_closed(void)
+{
+    regtx_hive hive = {0};
+    regtx_info info = {1, 2, 3};
+    uint16_t unit[1];
+    uint8_t byte[1];
+    uint32_t type;
+    size_t len = 5;
+    regtx_hive_close(&hive);
+    regtx_hive_close(&hive);
+    EXPECT(regtx_hive_info(&hive, PATH(""), &info) == REGTX_NOT_OPEN && info.values == 2);
+    EXPECT(regtx_hive_key_at(&hive, PATH(""), 0, unit, 1, &len) == REGTX_NOT_OPEN && len == 5);
+    EXPECT(regtx_hive_value_name_at(&hive, PATH(""), 0, unit, 1, &len) == REGTX_NOT_OPEN && len == 5);
+    EXPECT(regtx_hive_value_at(&hive, PATH(""), 0, &type, byte, 1, &len) == REGTX_NOT_OPEN && len == 5);
+    EXPECT(regtx_hive_value(&hive, PATH(""), NAME(""), &type, byte, 1, &len) == REGTX_NOT_OPEN && len == 5);
+    EXPECT(regtx_hive_create_key(&hive, PATH("A"), 1, &len) == REGTX_NOT_OPEN && len == 5);
+    EXPECT(regtx_hive_delete_key(&hive, PATH("A"), 1) == REGTX_NOT_OPEN);
+    EXPECT(regtx_hive_set_value(&hive, PATH("A"), NAME("v"), 1, byte, 0, 1) == REGTX_NOT_OPEN);
+    EXPECT(regtx_hive_delete_value(&hive, PATH("A"), NAME("v"), 1) == REGTX_NOT_OPEN);
+    EXPECT(regtx_hive_write(&hive, byte, 0, &len) == REGTX_NOT_OPEN && len == 5);
+}
+
+static void check_keys(void)
+{
+    regtx_hive hive = {0};
+    regtx_info info;
+    size_t made = 9;
+    EXPECT(regtx_hive_new(&hive) == REGTX_OK);
+    EXPECT(regtx_hive_info(&hive, PATH(""), &info) == REGTX_OK && info.subkeys + info.values + info.time == 0);
+    EXPECT(regtx_hive_create_key(&hive, PATH("Software\\Vendor"), 7, &made) == REGTX_OK && made == 2);
+    EXPECT(regtx_hive_create_key(&hive, PATH("SOFTWARE\\vendor"), 8, &made) == REGTX_OK && made == 0);
+    EXPECT(regtx_hive_info(&hive, PATH("software"), &info) == REGTX_OK && info.subkeys == 1 && info.time == 7);
+    struct text before = text_of(&hive);
+    EXPECT(strcmp(before.at, "hive 0\nkey 0: 7\nkey 0:Software 7\nkey 0:Software\\Vendor 7\n") == 0);
+    REFUSED(REGTX_NOT_FOUND, regtx_hive_info(&hive, PATH("None"), &info));
+    REFUSED(REGTX_NOT_FOUND, regtx_hive_key_at(&hive, PATH(""), 1, name_units.at, 9, &made));
+    REFUSED(REGTX_BAD_NAME, regtx_hive_info(&hive, PATH("A\\\\B"), &info));
+    REFUSED(REGTX_BAD_NAME, regtx_hive_create_key(&hive, PATH("\\A"), 9, &made));
+    REFUSED(REGTX_BAD_NAME, regtx_hive_create_key(&hive, PATH("A\x7f"), 9, &made));
+    REFUSED(REGTX_FIXED, regtx_hive_delete_key(&hive, PATH(""), 9));
+    REFUSED(REGTX_HAS_SUBKEYS, regtx_hive_delete_key(&hive, PATH("Software"), 9));
+    REFUSED(REGTX_NOT_FOUND, regtx_hive_delete_key(&hive, PATH("Software\\A"), 9));
+    drop(&before);
+    expect_written("keys", &hive);
+    EXPECT(regtx_hive_delete_key(&hive, PATH("SOFTWARE\\VENDOR"), 10) == REGTX_OK);
+    EXPECT(regtx_hive_info(&hive, PATH("Software"), &info) == REGTX_OK && info.subkeys == 0 && info.time == 10);
+    regtx_hive_close(&hive);
+}
+
+/* a path of so many keys, each named by a letter */
+static const uint16_t *deep_path(size_t names, size_t *len)
+{
+    *len = 2 * names - 1;
+    for (size_t i = 0; i < *len; i++)
+        path_units.at[i] = i % 2 ? '\\' : 'K';
+    return path_units.at;
+}
+
+static void check_depth(void)
+{
+    regtx_hive hive = {0};
+    size_t made = 0, len;
+    const uint16_t *path;
+    EXPECT(regtx_hive_new(&hive) == REGTX_OK);
+    struct text before = text_of(&hive);
+    path = deep_path(33, &len);
+    REFUSED(REGTX_TOO_DEEP, regtx_hive_create_key(&hive, path, len, 1, &made));
+    path = deep_path(513, &len);
+    REFUSED(REGTX_TOO_DEEP, regtx_hive_create_key(&hive, path, len, 1, &made));
+    for (size_t names = 32; names <= 512; names += 32) {
+        path = deep_path(names, &len);
+        EXPECT(regtx_hive_create_key(&hive, path, len, 1, &made) == REGTX_OK && made == 32);
+    }
+    drop(&before);
+    expect_written("512 levels", &hive);
+    regtx_hive_close(&hive);
+}
+
+static void check_values(void)
+{
+    regtx_hive hive = {0};
+    uint8_t data[8];
+    uint32_t type = 9;
+    size_t len = 0;
+    memset(data, 7, 8);
+    EXPECT(regtx_hive_new(&hive) == REGTX_OK);
+    EXPECT(regtx_hive_set_value(&hive, PATH(""), NAME("Version"), 1, (const uint8_t *)"1.0", 3, 5) == REGTX_OK);
+    EXPECT(regtx_hive_set_value(&hive, PATH(""), NAME("VERSION"), 3, (const uint8_t *)"2.00", 4, 6) == REGTX_OK);
+    EXPECT(regtx_hive_set_value(&hive, PATH(""), NAME(""), 4, data, 0, 6) == REGTX_OK);
+    EXPECT(regtx_hive_value(&hive, PATH(""), NAME("version"), &type, data, 3, &len) == REGTX_NO_ROOM);
+    EXPECT(type == 3 && len == 4 && data[0] == 7);
+    EXPECT(regtx_hive_value(&hive, PATH(""), NAME("version"), &type, data, 8, &len) == REGTX_OK);
+    EXPECT(len == 4 && memcmp(data, "2.00\7\7\7\7", 8) == 0);
+    struct text before = text_of(&hive);
+    EXPECT(strcmp(before.at, "hive 0\nkey 0: 6\nval @ 4 -\nval Version 3 322e3030\n") == 0);
+    REFUSED(REGTX_NOT_FOUND, regtx_hive_value(&hive, PATH(""), NAME("None"), &type, data, 8, &len));
+    REFUSED(REGTX_NOT_FOUND, regtx_hive_value(&hive, PATH("K"), NAME("Version"), &type, data, 8, &len));
+    REFUSED(REGTX_NOT_FOUND, regtx_hive_value_at(&hive, PATH(""), 2, &type, data, 8, &len));
+    REFUSED(REGTX_NOT_FOUND, regtx_hive_value_name_at(&hive, PATH(""), (size_t)-1, name_units.at, 9, &len));
+    REFUSED(REGTX_BAD_NAME, regtx_hive_value(&hive, PATH(""), NAME("\x1f"), &type, data, 8, &len));
+    REFUSED(REGTX_BAD_NAME, regtx_hive_set_value(&hive, PATH(""), NAME("\n"), 1, data, 8, 9));
+    REFUSED(REGTX_NOT_FOUND, regtx_hive_set_value(&hive, PATH("K"), NAME("v"), 1, data, 8, 9));
+    REFUSED(REGTX_NOT_FOUND, regtx_hive_delete_value(&hive, PATH(""), NAME("None"), 9));
+    EXPECT(type == 3 && len == 4);
+    drop(&before);
+    expect_written("values", &hive);
+    EXPECT(regtx_hive_delete_value(&hive, PATH(""), NAME("vERSION"), 9) == REGTX_OK);
+    EXPECT(regtx_hive_value_at(&hive, PATH(""), 1, &type, data, 8, &len) == REGTX_NOT_FOUND);
+    regtx_hive_close(&hive);
+}
+
+static void check_sizes(void)
+{
+    regtx_hive hive = {0};
+    uint8_t *data = taken(calloc(1048577, 1));
+    char name[8] = "0";
+    EXPECT(regtx_hive_new(&hive) == REGTX_OK);
+    struct text before = text_of(&hive);
+    REFUSED(REGTX_TOO_LARGE, regtx_hive_set_value(&hive, PATH(""), NAME("v"), 3, data, 1048577, 9));
+    drop(&before);
+    for (; name[0] < '?'; name[0]++)
+        EXPECT(regtx_hive_set_value(&hive, PATH(""), NAME(name), 3, data, 1048576, 9) == REGTX_OK);
+    before = text_of(&hive);
+    REFUSED(REGTX_TOO_LARGE, regtx_hive_set_value(&hive, PATH(""), NAME(name), 3, data, 1048576, 9));
+    drop(&before);
+    expect_written("15 MiB", &hive);
+    free(data);
+    regtx_hive_close(&hive);
+}
+
+static void check_files(void)
+{
+    regtx_hive hive = {0}, other = {0};
+    size_t len, again_len, told;
+    EXPECT(regtx_hive_new(&hive) == REGTX_OK && regtx_hive_new(&other) == REGTX_OK);
+    EXPECT(regtx_hive_create_key(&hive, PATH("A b"), 1, &len) == REGTX_OK);
+    uint8_t *bytes = written(&hive, &len), *again = written(&hive, &again_len);
+    EXPECT(len == again_len && memcmp(bytes, again, len) == 0 && memcmp(bytes, "regf", 4) == 0);
+    memset(again, 7, len);
+    EXPECT(regtx_hive_write(&hive, again, len - 1, &told) == REGTX_NO_ROOM && told == len);
+    EXPECT(again[0] == 7 && memcmp(again, again + 1, len - 1) == 0);
+    struct text before = text_of(&hive), fresh = text_of(&other);
+    EXPECT(!is_same(&before, &fresh));
+    REFUSED(REGTX_TRUNCATED, regtx_hive_open(bytes, 4, &hive));
+    REFUSED(REGTX_TRUNCATED, regtx_hive_open(bytes, len - 1, &hive));
+    REFUSED(REGTX_BAD_BASE, regtx_hive_open(again, len, &hive));
+    bytes[4]++;
+    REFUSED(REGTX_NOT_CLEAN, regtx_hive_open(bytes, len, &hive));
+    bytes[4]--;
+    EXPECT(regtx_hive_open(bytes, len, &other) == REGTX_OK);
+    regtx_hive_close(&hive);
+    struct text opened = text_of(&other);
+    EXPECT(is_same(&opened, &before));
+    drop(&opened);
+    drop(&before);
+    drop(&fresh);
+    free(bytes);
+    free(again);
+    regtx_hive_close(&other);
+}
+
+static void check_texts(void)
+{
+    static const struct {
+        uint32_t code;
+        const char *text;
+    } texts[] = {
+        {0, "ok"}, {1, "E1 NoMemory"}, {2, "E2 NotFound"}, {3, "E3 HasSubkeys"}, {4, "E4 BadName"}, {5, "E5 TooDeep"},
+        {6, "E6 TooLarge"}, {15, "no such code"}, {17, "E17 Unsupported"}, {18, "E18 Fixed"}, {19, "no such code"},
+        {100, "no hive is open"}, {101, "the buffer is too small"}, {1501, "E15 HiveDamaged 0 Truncated"},
+        {1508, "E15 HiveDamaged 0 BadName"}, {1511, "E15 HiveDamaged 0 NotClean"}, {1514, "no such code"},
+    };
+    uint8_t some[4] = {7};
+    size_t len;
+    for (size_t i = 0; i < sizeof texts / sizeof *texts; i++) {
+        struct text text = text_of_code(texts[i].code);
+        expect(texts[i].text, strcmp(text.at, texts[i].text) == 0);
+        drop(&text);
+    }
+    EXPECT(regtx_text(REGTX_NOT_FOUND, some, 4, &len) == REGTX_NO_ROOM && len == 11 && some[0] == 7);
+}
+
+/* ---- allocations refused in turn */
+
+static uint8_t *given;
+static size_t given_len;
+
+static uint32_t call_of(int kind, regtx_hive *hive)
+{
+    static uint8_t data[40000], file[1 << 20];
+    size_t len;
+    switch (kind) {
+    case 0:
+        return regtx_hive_open(given, given_len, hive);
+    case 1:
+        return regtx_hive_create_key(hive, PATH("A long name of a key\\Another\\B"), 3, &len);
+    case 2:
+        return regtx_hive_set_value(hive, PATH("A long name of a key"), NAME("A long name of a value"), 3, data, sizeof data, 4);
+    case 3:
+        return regtx_hive_value(hive, PATH("A long name of a key"), NAME("A long name of a value"),
+                                &(uint32_t){0}, data, sizeof data, &len);
+    case 4:
+        return regtx_hive_write(hive, file, sizeof file, &len);
+    case 5:
+        return regtx_hive_delete_value(hive, PATH("A long name of a key"), NAME("A long name of a value"), 5);
+    case 6:
+        return regtx_hive_delete_key(hive, PATH("A long name of a key\\Another\\B"), 6);
+    default:
+        return regtx_hive_new(hive);
+    }
+}
+
+/* each call with each of its allocations refused in turn: it is refused and changes nothing, until it has all it asks for */
+static void check_failing(const char *name)
+{
+    regtx_hive hive = {0};
+    long refused = 0;
+    given = file_bytes(name, &given_len);
+    EXPECT(regtx_hive_new(&hive) == REGTX_OK);
+    for (int kind = 0; kind < 8; kind++)
+        for (long at = 0;; at++) {
+            struct text before = text_of(&hive);
+            left_until_refusal = at;
+            uint32_t code = call_of(kind, &hive);
+            bool all_given = left_until_refusal >= 0;
+            left_until_refusal = -1;
+            struct text after = text_of(&hive);
+            expect("a refused allocation", all_given ? code == REGTX_OK : code == REGTX_NO_MEMORY && is_same(&before, &after));
+            drop(&before);
+            drop(&after);
+            if (all_given)
+                break;
+            refused++;
+        }
+    regtx_hive_close(&hive);
+    free(given);
+    printf("%ld allocations refused\n", refused);
+}
+
+/* ---- spoiled hives */
+
+static uint64_t seed;
+
+static uint64_t drawn(uint64_t below)
+{
+    seed ^= seed << 13;
+    seed ^= seed >> 7;
+    seed ^= seed << 17;
+    return seed % below;
+}
+
+/* the sum of a first sector is made right */
+static void mend(uint8_t *file)
+{
+    uint32_t sum = 0, word;
+    for (int i = 0; i < 127; i++) {
+        memcpy(&word, file + 4 * i, 4);
+        sum ^= word;
+    }
+    sum = sum == 0xffffffff ? 0xfffffffe : sum == 0 ? 1 : sum;
+    memcpy(file + 508, &sum, 4);
+}
+
+/* another byte at a place that is drawn, or four bytes of another place; seldom within long runs of zeros */
+static void spoil_once(uint8_t *file, size_t len)
+{
+    size_t at, from = 4 * drawn(len / 4);
+    for (int tries = 0; tries < 20; tries++) {
+        at = drawn(8) ? 4096 + drawn(len - 4096) : drawn(512);
+        if (file[at] || file[at & ~(size_t)7])
+            break;
+    }
+    switch (drawn(4)) {
+    case 0:
+        file[at] = drawn(256);
+        break;
+    case 1:
+        file[at] = drawn(2) ? 0 : 255;
+        break;
+    case 2:
+        file[at] ^= 1 << drawn(8);
+        break;
+    default:
+        memmove(file + at / 4 * 4, file + from, 4);
+    }
+}
+
+static size_t spoil(uint8_t *file, size_t len)
+{
+    for (size_t times = 1 + drawn(3); times > 0; times--)
+        spoil_once(file, len);
+    if (drawn(8))
+        mend(file);
+    return drawn(32) ? len : drawn(len + 1);
+}
+
+/* edits a hive that opened, each edit undone by the next ones */
+static void edit(regtx_hive *hive)
+{
+    size_t made;
+    uint32_t code = regtx_hive_create_key(hive, PATH("Zz\\Yy"), 1, &made);
+    EXPECT(code == REGTX_OK || code == REGTX_TOO_LARGE);
+    if (code != REGTX_OK || made != 2)
+        return;
+    EXPECT(regtx_hive_set_value(hive, PATH("ZZ"), NAME("v"), 1, (const uint8_t *)"data", 4, 2) == REGTX_OK);
+    EXPECT(regtx_hive_delete_key(hive, PATH("Zz\\yy"), 3) == REGTX_OK);
+    expect_written("an edited hive", hive);
+    EXPECT(regtx_hive_delete_value(hive, PATH("zz"), NAME("V"), 4) == REGTX_OK);
+    EXPECT(regtx_hive_delete_key(hive, PATH("zz"), 5) == REGTX_OK);
+}
+
+/* opens a file by a handle by which a hive is open already, and does all with what opens; its text */
+static struct text tried(const uint8_t *bytes, size_t len, uint32_t *code)
+{
+    regtx_hive hive = {0};
+    size_t made;
+    EXPECT(regtx_hive_new(&hive) == REGTX_OK && regtx_hive_create_key(&hive, PATH("Before"), 1, &made) == REGTX_OK);
+    struct text before = text_of(&hive);
+    *code = regtx_hive_open(bytes, len, &hive);
+    struct text told = text_of(&hive);
+    if (*code == REGTX_OK) {
+        expect_written("an opened hive", &hive);
+        edit(&hive);
+    } else {
+        expect("a refused opening", is_same(&before, &told));
+        drop(&told);
+        told = text_of_code(*code);
+        add(&told, "\n");
+    }
+    drop(&before);
+    regtx_hive_close(&hive);
+    return told;
+}
+
+static void mutate(const char *name, long count, const char *folder)
+{
+    size_t len, opened = 0;
+    uint8_t *file = file_bytes(name, &len);
+    for (long i = 0; i < count; i++) {
+        uint8_t *copy = taken(__real_malloc(len));
+        uint32_t code;
+        char saved[32];
+        memcpy(copy, file, len);
+        size_t now = spoil(copy, len);
+        copy = taken(__real_realloc(copy, now ? now : 1));
+        struct text told = tried(copy, now, &code);
+        opened += code == REGTX_OK;
+        if (i % 40 == 0) {
+            snprintf(saved, sizeof saved, "%05ld.hive", i);
+            put_file(folder, saved, copy, now);
+            snprintf(saved, sizeof saved, "%05ld.text", i);
+            put_file(folder, saved, told.at, told.len);
+        }
+        drop(&told);
+        free(copy);
+    }
+    free(file);
+    printf("%ld spoiled, %zu opened\n", count, opened);
+}
+
+/* ---- one hive */
+
+static int with_file(const char *name, const char *copy)
+{
+    regtx_hive hive = {0};
+    size_t len;
+    uint8_t *bytes = file_bytes(name, &len);
+    uint32_t code = regtx_hive_open(bytes, len, &hive);
+    free(bytes);
+    struct text text = code == REGTX_OK ? text_of(&hive) : text_of_code(code);
+    if (copy == NULL)
+        printf("%s%s", text.at, code == REGTX_OK ? "" : "\n");
+    else if (code == REGTX_OK) {
+        bytes = written(&hive, &len);
+        put_file("", copy, bytes, len);
+        free(bytes);
+    }
+    drop(&text);
+    regtx_hive_close(&hive);
+    return code != REGTX_OK || wrong;
+}
+
+int main(int count, char **words)
+{
+    if (count == 3 && strcmp(words[1], "dump") == 0)
+        return with_file(words[2], NULL);
+    if (count == 4 && strcmp(words[1], "rewrite") == 0)
+        return with_file(words[2], words[3]);
+    if (count == 3 && strcmp(words[1], "failing") == 0)
+        check_failing(words[2]);
+    else if (count == 6 && strcmp(words[1], "mutate") == 0) {
+        seed = strtoull(words[3], NULL, 10);
+        mutate(words[2], strtol(words[4], NULL, 10), words[5]);
+    } else if (count == 2 && strcmp(words[1], "checks") == 0) {
+        check_closed();
+        check_keys();
+        check_depth();
+        check_values();
+        check_sizes();
+        check_files();
+        check_texts();
+    } else
+        return 2;
+    return wrong != 0;
+}
