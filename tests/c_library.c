@@ -10,6 +10,7 @@
  */
 #include "regtx.h"
 
+#include <pthread.h>
 #include <stdio.h>
 #include <stdlib.h>
 #include <string.h>
@@ -477,6 +478,42 @@ static void check_texts(void)
     EXPECT(regtx_text(REGTX_NOT_FOUND, some, 4, &len) == REGTX_NO_ROOM && len == 11 && some[0] == 7);
 }
 
+/* ---- threads */
+
+/* edits a hive that the thread is given, without the buffers that the other checks share */
+static void *on_thread(void *given)
+{
+    static const uint16_t keys[] = {'K', '\\', 'L'};
+    regtx_hive *hive = given;
+    size_t made, failed = 0;
+    for (uint8_t round = 0; round < 200; round++) {
+        failed += regtx_hive_create_key(hive, keys, 3, round, &made) != REGTX_OK;
+        failed += regtx_hive_set_value(hive, keys, 3, keys, 1, round, &round, 1, round) != REGTX_OK;
+        failed += round % 3 == 0 && regtx_hive_delete_key(hive, keys, 3, round) != REGTX_OK;
+    }
+    return failed ? NULL : given;
+}
+
+/* hives that were opened here are edited by threads, all at once, and are used here again */
+static void check_threads(void)
+{
+    regtx_hive hives[4] = {0};
+    pthread_t threads[4];
+    void *ended;
+    for (int i = 0; i < 4; i++) {
+        EXPECT(regtx_hive_new(&hives[i]) == REGTX_OK);
+        EXPECT(pthread_create(&threads[i], NULL, on_thread, &hives[i]) == 0);
+    }
+    for (int i = 0; i < 4; i++) {
+        EXPECT(pthread_join(threads[i], &ended) == 0 && ended == &hives[i]);
+        struct text text = text_of(&hives[i]);
+        EXPECT(strcmp(text.at, "hive 0\nkey 0: 0\nkey 0:K 199\nkey 0:K\\L 199\nval K 199 c7\n") == 0);
+        drop(&text);
+        expect_written("a hive of a thread", &hives[i]);
+        regtx_hive_close(&hives[i]);
+    }
+}
+
 /* ---- allocations refused in turn */
 
 static uint8_t *given;
@@ -696,6 +733,7 @@ int main(int count, char **words)
         check_sizes();
         check_files();
         check_texts();
+        check_threads();
     } else
         return 2;
     return wrong != 0;

@@ -18,8 +18,11 @@
  * REGTX_NO_MEMORY may come of each call.
  *
  * What the caller owes. No pointer is null, also not one to 0 units or bytes. What one call is given doesn't overlap. A
- * handle is used by one call at a time, on the thread that opened its hive; it may be moved, but of two copies only one
- * may be used from then on. Its fields are never touched. `malloc`, `realloc` and `free` are of one allocator.
+ * handle may be moved, but of two copies only one may be used from then on. Its fields are never touched. `malloc`,
+ * `realloc` and `free` are of one allocator. No call is made in a signal handler.
+ *
+ * Threads. A handle is given to one call at a time. It may be given to another thread, if a lock, or the start or the end
+ * of a thread, lies between the two calls. Several threads may use hives of their own at once.
  *
  * The library owns each open hive, until its handle is closed or another hive is opened by it. It keeps no pointer of
  * the caller beyond a call, and hands out none of its own.

@@ -3,3 +3,4 @@ pub mod Values
 pub mod Openings
 pub mod WholeFiles
 pub mod Numbered
+pub mod Crossing

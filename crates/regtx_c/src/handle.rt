@@ -54,6 +54,8 @@ impl Held {
     }
 }
 
+unsafe impl Send for Held {}
+
 /// A hive that is open, or none. With all bytes zero it is none.
 ///
 /// Whether there is a block is told by `full` alone: no pointer is tested.

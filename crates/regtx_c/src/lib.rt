@@ -12,6 +12,7 @@ mod codes;
 mod edits;
 mod files;
 mod handle;
+pub mod laws;
 mod loose;
 mod opening;
 mod reads;
