@@ -2,7 +2,9 @@
 import os
 import random
 import re
+import signal
 import subprocess
+import threading
 
 from scratch import SECONDS, expect, noting, noting_library, shown
 
@@ -29,13 +31,18 @@ def shown_runs(page):
     return [(words, printed) for words, printed in found if printed]
 
 
+def bounded(seconds, *words):
+    """The words of a command that is ended after so long, with the programs that it started."""
+    return ["timeout", "--signal=KILL", str(seconds), *words]
+
+
 def page_results(program, example, page):
     """What is wrong with the runs that a page shows."""
     runs = shown_runs(page)
     yield expect("runs on the page", len(runs), 2)
     for words, printed in runs:
-        ran = subprocess.run([example, program.path, *words], cwd=program.home, stdin=subprocess.DEVNULL, capture_output=True,
-                             timeout=SECONDS)
+        ran = subprocess.run(bounded(SECONDS, example, program.path, *words), cwd=program.home, stdin=subprocess.DEVNULL,
+                             capture_output=True)
         yield expect(" ".join(words), (ran.stdout.decode(), ran.stderr, ran.returncode), (printed, b"", 0))
 
 
@@ -50,14 +57,18 @@ def life(program, example, count, end_at=None, most_lines=None):
     if end_at:
         program.put("end_at", str(end_at).encode())
     child = subprocess.Popen([example, program.at("noting"), "product", str(count)], cwd=program.home, text=True,
-                             stdin=subprocess.DEVNULL, stdout=subprocess.PIPE, stderr=subprocess.STDOUT)
+                             stdin=subprocess.DEVNULL, stdout=subprocess.PIPE, stderr=subprocess.STDOUT, start_new_session=True)
+    bound = threading.Timer(SECONDS, os.killpg, (child.pid, signal.SIGKILL))
+    bound.start()
     lines = []
     while line := child.stdout.readline():
         lines.append(line.rstrip("\n"))
         if len(lines) == most_lines:
             child.kill()
     child.stdout.close()
-    return lines, child.wait(timeout=SECONDS)
+    status = child.wait()
+    bound.cancel()
+    return lines, status
 
 
 def wrong_store(program, count, told):
