@@ -136,13 +136,9 @@ static void replies_are_read_whole(void)
         "value 4\n",  "value x -\n",          "value 4 0\n",  "value 4 0g\n", "value 4 00 \n",
         "value 4 \n", "value 4294967296 -\n", "value -1 -\n", "E2\n",         "ok\n",
         "\n"};
-    static const char *const lists[] = {"keys 2 a\n",
-                                        "keys 1 %00\n",
-                                        "keys 1 %00zz\n",
-                                        "keys\n",
-                                        "values 0\n",
-                                        "keys 0 \n",
-                                        "keys 99999999999999999999 a\n"};
+    static const char *const lists[] = {
+        "keys 2 a\n", "keys 0 a\n", "keys 1 %00\n", "keys 1 %00zz\n",
+        "keys\n",     "values 0\n", "keys 0 \n",    "keys 99999999999999999999 a\n"};
     size_t size = 0;
     regtx_store *store;
     for (size_t at = 0; at < sizeof values / sizeof values[0]; at++) {

@@ -135,9 +135,8 @@ impl Run {
         self.untold.take().map_or(Ok(()), Err)
     }
 
-    /// After a fold session 0 alone is open, and labels name nothing.
+    /// After a fold, which session 0 asked, that one alone is open, and labels name nothing.
     pub(crate) fn forget_handles(&mut self) {
-        self.current_session = Some(FIRST_SESSION);
         self.sessions = BTreeSet::from([FIRST_SESSION]);
         self.labels.clear();
     }

@@ -190,7 +190,14 @@ fn replies_are_read_whole() {
             "{answer:?}"
         );
     }
-    for reply in ["keys 2 a", "keys 1 %00", "keys 1 %00zz", "keys", "values 0"] {
+    for reply in [
+        "keys 2 a",
+        "keys 0 a",
+        "keys 1 %00",
+        "keys 1 %00zz",
+        "keys",
+        "values 0",
+    ] {
         let store = Scratch::new().fake(&[reply], "exit 0");
         assert!(
             matches!(store.subkeys(SOFTWARE), Err(Error::Reply(_))),

@@ -139,7 +139,13 @@ fn places_are_freed() {
     session.transaction(&unit(1)).unwrap().rollback().unwrap();
     session.set(SOFTWARE, "v", &Value::dword(1)).unwrap();
     session.end().unwrap();
+    // a fold also ends those that were leaked
+    std::mem::forget(store.transaction(&unit(1)).unwrap());
+    std::mem::forget(store.session().unwrap());
     assert_eq!(store.fold().unwrap(), 2);
+    let sessions: Vec<_> = (1..32).map(|_| store.session().unwrap()).collect();
+    store.set(SOFTWARE, "v", &Value::dword(2)).unwrap();
+    drop(sessions);
     store.close().unwrap();
 }
 
