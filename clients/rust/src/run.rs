@@ -135,12 +135,6 @@ impl Run {
         self.untold.take().map_or(Ok(()), Err)
     }
 
-    /// After a fold, which session 0 asked, that one alone is open, and labels name nothing.
-    pub(crate) fn forget_handles(&mut self) {
-        self.sessions = BTreeSet::from([FIRST_SESSION]);
-        self.labels.clear();
-    }
-
     /// Ends the script, and waits until the run has done its work at the end.
     pub(crate) fn end(&mut self) -> Result<(), Error> {
         drop(self.script.take());

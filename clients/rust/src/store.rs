@@ -112,11 +112,10 @@ impl Store {
 
     /// Makes all changes durable, moves them into the hives, and empties the history, of which a
     /// run holds 1,048,576 changes. Answers the last change's number.
+    // by `&mut`, since no session or transaction outlives a fold
     pub fn fold(&mut self) -> Result<u64, Error> {
         let reply = self.ask("fold")?;
-        let folded = understood(number(&reply, "folded"), reply)?;
-        self.run.get_mut().forget_handles();
-        Ok(folded)
+        understood(number(&reply, "folded"), reply)
     }
 
     /// The moment of the writes that follow, in units of 100 ns since 1601, UTC; 0 at first. A
