@@ -306,10 +306,12 @@ impl<'a, E: StoreEngine, O: Origin, R: Wait> Calls<'a, E, O, R> {
 impl<'a, E: StoreEngine, O: Origin, R: Wait> Calls<'a, E, O, R> {
     /// Begins a transaction.
     pub fn begin(&self, session: &mut Session<O>) -> Result<Tx, Refusal> {
-        match self
-            .registry
-            .create_transaction(self.rt, session, Uuid::nil())
-        {
+        self.begin_for(session, Uuid::nil())
+    }
+
+    /// Begins a transaction for a unit of work.
+    pub fn begin_for(&self, session: &mut Session<O>, unit: Uuid) -> Result<Tx, Refusal> {
+        match self.registry.create_transaction(self.rt, session, unit) {
             Ok((tx, _told)) => Ok(tx),
             Err(denied) => Err(refusal_of(denied)),
         }

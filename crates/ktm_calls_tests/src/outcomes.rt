@@ -1,12 +1,11 @@
 //! More commits than a store keeps, each of a unit of work of its own, and what a session is told of them.
-ghost use Rattle.std.specs.Prelude.{◌≡◌, [], IfOk};
+ghost use Rattle.std.specs.Prelude.{◌≡◌, []};
 ghost use Rattle.ktm_calls.specs.Moments.{IsOf};
 
-use crate::calls::{Answer, Calls, refusal_of};
-use crate::device::{Device, NO_FAILURE, TestDisk};
-use crate::playing::{make, open};
+use crate::calls::{Answer, Calls};
+use crate::device::{Device, NO_FAILURE};
+use crate::playing::new_engine;
 use crate::sharing::key_of;
-use engine::Engine;
 use ktm_calls::{Ended, Key, Registry, Session, StoreEngine};
 use published_trees::{ChangeCount, Origin, SeenChanges};
 use refusals::Refusal;
@@ -24,23 +23,6 @@ fn unit_of(number: u64) -> Uuid {
     Uuid::from_u128(u128::from(number))
 }
 
-// an engine over a new store
-fn new_engine(alloc: Global) -> Result<Engine<TestDisk>, Refusal>
-    ensures { IfOk result (λ e. (e.machine.accepted ≡ []) × (e.machine.sessions ≡ [])) }
-{
-    let device = Device::new(alloc, NO_FAILURE)?;
-    let mut disk = device.disk(alloc)?;
-    make(alloc, &mut disk)?;
-    let store = open(alloc, disk)?;
-    if !store.is_whole() {
-        return Err(Refusal::Faulted);
-    }
-    match Engine::new(alloc, store) {
-        Ok(engine) => Ok(engine),
-        Err((why, _store)) => Err(why),
-    }
-}
-
 // commits a value of one byte for the unit of work of a number; whether the commit's number is one above it
 fn commit_one<E: StoreEngine, O: Origin, R: Wait>(
     calls: &Calls<'_, E, O, R>,
@@ -48,13 +30,7 @@ fn commit_one<E: StoreEngine, O: Origin, R: Wait>(
     key: &Key,
     number: u64,
 ) -> Result<bool, Refusal> {
-    let begun = calls
-        .registry
-        .create_transaction(calls.rt, session, unit_of(number));
-    let tx = match begun {
-        Ok((tx, _told)) => tx,
-        Err(denied) => return Err(refusal_of(denied)),
-    };
+    let tx = calls.begin_for(session, unit_of(number))?;
     calls.set_in(session, tx, key, "v", 1)?;
     let receipt = calls.commit(session, tx, number)?;
     calls.close(session, tx)?;
@@ -133,7 +109,8 @@ fn play_over<O: Origin, E: StoreEngine + Drop, R: Wait>(
 }
 
 fn play<R: Wait>(rt: &R, alloc: Global) -> Result<bool, Refusal> {
-    let engine = new_engine(alloc)?;
+    let device = Device::new(alloc, NO_FAILURE)?;
+    let engine = new_engine(alloc, &device)?;
     let (count, seen) = ChangeCount::open();
     play_over::<Brand, _, _>(rt, alloc, engine, count, seen)
 }

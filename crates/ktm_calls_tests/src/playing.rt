@@ -84,8 +84,8 @@ pub fn play<R: Threads + Wait + Sync>(
     play_over::<Brand, _, _>(rt, alloc, device, engine, count, seen, scene)
 }
 
-// an engine over a new store of two hives
-fn new_engine(alloc: Global, device: &Device) -> Result<Engine<TestDisk>, Refusal>
+/// An engine over a new store of two hives.
+pub fn new_engine(alloc: Global, device: &Device) -> Result<Engine<TestDisk>, Refusal>
     ensures { IfOk result (λ e. (e.machine.accepted ≡ []) × (e.machine.sessions ≡ [])) }
 {
     let mut disk = device.disk(alloc)?;
