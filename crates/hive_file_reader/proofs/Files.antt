@@ -147,7 +147,7 @@ told_cut file front block is has short = cut_short file block has (omega (arith,
 pub same_block : (file : List ℕ) (block other : BaseBlock) → block ≡ block_of file → other ≡ block_of file → block ≡ other
 same_block file block other e o = e ∙ sym o
 
-same_bins : (file bins others : List ℕ) (block other : BaseBlock) → PrimaryDecodesTo file block bins → PrimaryDecodesTo file other others → bins ≡ others
+pub same_bins : (file bins others : List ℕ) (block other : BaseBlock) → PrimaryDecodesTo file block bins → PrimaryDecodesTo file other others → bins ≡ others
 same_bins file bins others block other own also = own.part ∙ ap (λ (b : BaseBlock). take b.bins_size (drop 4096 file)) (own.read ∙ sym also.read) ∙ sym also.part
 
 pub same_tree : ((bytes : List ℕ) (root minor : ℕ) (t u : TreeMap) → BinsEncodeTree bytes root minor t → BinsEncodeTree bytes root minor u → t ≡ u) → (file : List ℕ) (tree other : TreeMap) → FileHoldsHive file tree → FileHoldsHive file other → tree ≡ other

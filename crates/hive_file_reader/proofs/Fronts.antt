@@ -15,7 +15,6 @@ use Rattle.base_block.specs.Layout.{is_clean_block}
 use Rattle.dirt_log.specs.WholeLog.{block_of}
 use Rattle.dirt_log.specs.FileContents.{is_clean_file, PrimaryDecodesTo}
 use Rattle.reg_tree.specs.Maps.{TreeMap}
-use Rattle.hive_load.specs.Limits.{BinsRefused}
 use Rattle.hive_file_reader.specs.Hives.{FileHasBlock, FileHasBins, FileHoldsHive, FileLacksBins, FileHoldsNoHive, IsFilePrefix, IsEnoughOf, lacks_bins, no_sector, no_signature, not_clean, not_usable, not_tiled, no_bins, not_loaded}
 use Rattle.hive_file_reader.specs.Readings.{FileRefused, FileRefusedAs}
 use Rattle.hive_file_reader.proofs.Files.{some_as, read_first, read_front, read_whole, told_no_sector, told_no_signature, told_not_clean, told_not_usable, told_block, clean_here, same_block, lacks_none}
@@ -134,7 +133,3 @@ moved_bins file bins block has long is = (has, record { read = has.read; long = 
 
 pub whole_file : (file : List ℕ) → IsFilePrefix file file
 whole_file file = ([], sym (append-nil file), λ short. refl)
-
-pub data_refused : (file bins : List ℕ) (block : BaseBlock) (why : Refusal) → FileHasBins file block bins → BinsRefused bins block.root block.minor why → FileRefused file why
-data_refused file bins block why has (inl untiled) = inr (no_bins why (not_tiled why block bins has untiled))
-data_refused file bins block why has (inr unloaded) = inr (not_loaded why block bins has unloaded)

@@ -11,7 +11,7 @@ use Rattle.dirt_log.specs.WholeLog.{block_of}
 use Rattle.dirt_log.specs.FileContents.{is_clean_file, PrimaryDecodesTo, PrimaryFileRefused}
 use Rattle.reg_tree.specs.Maps.{TreeMap}
 use Rattle.hive_cells.specs.Tiles.{DataRefused}
-use Rattle.hive_load.specs.Limits.{BinsEncodeTreeInLimits, LoadRefused}
+use Rattle.hive_load.specs.Limits.{BinsEncodeTreeInLimits, BinsEncodeShallowTree, LoadRefused, ShallowLoadRefused}
 
 -- the file is clean, and its base block, which is this, is a block of a primary file of the profile
 pub record FileHasBlock (file : List ℕ) (block : BaseBlock) : Type 0 where
@@ -27,6 +27,14 @@ pub record FileHoldsHive (file : List ℕ) (tree : TreeMap) : Type 0 where
   pub has : FileHasBlock file block
   pub own : PrimaryDecodesTo file block bins
   pub tree_is : BinsEncodeTreeInLimits bins block.root block.minor tree
+
+-- the same of a tree of any weight: no path in it is too long
+pub record FileHoldsShallowTree (file : List ℕ) (tree : TreeMap) : Type 0 where
+  pub block : BaseBlock
+  pub bins : List ℕ
+  pub has : FileHasBlock file block
+  pub own : PrimaryDecodesTo file block bins
+  pub tree_is : BinsEncodeShallowTree bins block.root block.minor tree
 
 -- the file has this block, and these are its bins data, whatever follows them
 abbrev pub FileHasBins : List ℕ → BaseBlock → List ℕ → Type 0
@@ -56,6 +64,13 @@ pub data FileHoldsNoHive (file : List ℕ) : Refusal → Type 0 where
   no_bins : (why : Refusal) → FileHasNoBins file why → FileHoldsNoHive file why
   -- the bins data encode no tree within the limits, or memory for them was not given
   not_loaded : (why : Refusal) (block : BaseBlock) (bins : List ℕ) → FileHasBins file block bins → LoadRefused bins block.root block.minor why → FileHoldsNoHive file why
+
+-- why a file holds no tree of any weight
+pub data FileHoldsNoShallowTree (file : List ℕ) : Refusal → Type 0 where
+  -- it has no bins data that tile
+  lacks_tiled : (why : Refusal) → FileHasNoBins file why → FileHoldsNoShallowTree file why
+  -- the bins data encode no tree that isn't too deep, or memory for them was not given
+  unloaded : (why : Refusal) (block : BaseBlock) (bins : List ℕ) → FileHasBins file block bins → ShallowLoadRefused bins block.root block.minor why → FileHoldsNoShallowTree file why
 
 -- bytes are the first of a file, and all of it if they are fewer than 4,096
 abbrev pub IsFilePrefix : List ℕ → List ℕ → Type 0

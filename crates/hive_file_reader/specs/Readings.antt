@@ -4,7 +4,7 @@ use Rattle.std.specs.Global.{Vec}
 use Rattle.refusals.specs.declared.refusal.Refusal.{Refusal}
 use Rattle.refusals.specs.declared.refusal.Refusal.TheVariants as refusal
 use Rattle.base_block.specs.declared.block.BaseBlock.{BaseBlock}
-use Rattle.hive_file_reader.specs.Hives.{FileHasBins, FileHasNoBins, FileLacksBins, FileHoldsNoHive}
+use Rattle.hive_file_reader.specs.Hives.{FileHasBins, FileHasNoBins, FileLacksBins, FileHoldsNoHive, FileHoldsNoShallowTree}
 use Rattle.hive_file_reader.specs.declared.hive.ReadError.{ReadError}
 use Rattle.hive_file_reader.specs.declared.hive.ReadError.TheVariants as unread
 
@@ -20,6 +20,13 @@ FileRefused file why = (why ≡ refusal.NoMemory) ⊎ FileHoldsNoHive file why
 -- why a file is refused, reported of the hive of this number
 abbrev pub FileRefusedAs : ℕ → List ℕ → Refusal → Type 0
 FileRefusedAs hive file why = (plain : Refusal) × FileRefused file plain × (why ≡ of_hive hive plain)
+
+-- the same of a file that may hold a tree of any weight
+abbrev pub ShallowFileRefused : List ℕ → Refusal → Type 0
+ShallowFileRefused file why = (why ≡ refusal.NoMemory) ⊎ FileHoldsNoShallowTree file why
+
+abbrev pub ShallowFileRefusedAs : ℕ → List ℕ → Refusal → Type 0
+ShallowFileRefusedAs hive file why = (plain : Refusal) × ShallowFileRefused file plain × (why ≡ of_hive hive plain)
 
 -- a refusal is one of the file's, if its bytes are known
 abbrev pub RefusalFitsFile : Option (List ℕ) → ReadError → Type 0

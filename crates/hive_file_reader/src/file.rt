@@ -2,14 +2,14 @@
 ghost use Rattle.std.specs.Prelude.{IfOk, IfErr, IfSome, MatchResult};
 ghost use Rattle.std.specs.Io.KnownBytes.{Consumes};
 ghost use Rattle.hive_file_reader.specs.Hives.{FileHasBins, FileLacksBins, IsEnoughOf, EndsWithinHive};
-ghost use Rattle.hive_file_reader.specs.Readings.{FileRefused, FileRefusedAs, IsReadError};
-ghost use Rattle.hive_load.specs.Limits.{BinsEncodeTreeInLimits};
+ghost use Rattle.hive_file_reader.specs.Readings.{FileRefusedAs, ShallowFileRefused, ShallowFileRefusedAs, IsReadError};
+ghost use Rattle.hive_load.specs.Limits.{BinsEncodeTreeInLimits, BinsEncodeShallowTree};
 
 use crate::bytes::append_part;
 use crate::head::{HEAD_BYTES, judged};
 use crate::hive::{ReadError, with_number};
 use base_block::BaseBlock;
-use hive_load::load_bins;
+use hive_load::{judge_weight, load_bins_any_weight};
 use refusals::{Cause, Refusal};
 use reg_tree::Tree;
 use std::alloc::Global;
@@ -26,8 +26,24 @@ pub struct FileHive {
     pub tree: Tree,
 }
 
-/// The hive that a file with these bytes holds. The bins data stay in the vector's memory: the base block's bytes are
-/// taken off its front, and what follows the bins data off its end.
+/// The hive that a file with these bytes holds, whatever its tree weighs. The bins data stay in the vector's memory: the
+/// base block's bytes are taken off its front, and what follows the bins data off its end.
+///
+/// Refused as [`read_hive`](crate::read_hive) is, but not for a tree's weight.
+pub fn load_file_any_weight(alloc: Global, file: Vec<u8>, hive: u8) -> Result<FileHive, Refusal>
+    ensures has { IfOk result (λ held. FileHasBins file.items held.block held.bins.items) }
+    ensures tree { IfOk result (λ held.
+        BinsEncodeShallowTree held.bins.items held.block.root held.block.minor held.tree) }
+    ensures refused { IfErr result (ShallowFileRefusedAs hive file.items) }
+{
+    match loaded(alloc, file) {
+        Ok(held) => Ok(held),
+        Err(why) => Err(with_number(why, hive)),
+    }
+}
+
+/// The hive that a file with these bytes holds, as [`load_file_any_weight`] loads it, if its tree weighs at most
+/// 16,777,216.
 ///
 /// Refused as [`read_hive`](crate::read_hive) is.
 pub fn load_file(alloc: Global, file: Vec<u8>, hive: u8) -> Result<FileHive, Refusal>
@@ -36,24 +52,28 @@ pub fn load_file(alloc: Global, file: Vec<u8>, hive: u8) -> Result<FileHive, Ref
         BinsEncodeTreeInLimits held.bins.items held.block.root held.block.minor held.tree) }
     ensures refused { IfErr result (FileRefusedAs hive file.items) }
 {
-    match loaded(alloc, file) {
-        Ok(held) => Ok(held),
-        Err(why) => Err(with_number(why, hive)),
+    let held = match load_file_any_weight(alloc, file, hive) {
+        Ok(held) => held,
+        Err(why) => return Err(why),
+    };
+    match judge_weight(&held.tree) {
+        Ok(()) => Ok(held),
+        Err(why) => Err(why),
     }
 }
 
-// the hive that a file with these bytes holds, refused as hive 0
+// the hive that a file with these bytes holds, whatever its tree weighs, refused as hive 0
 fn loaded(alloc: Global, file: Vec<u8>) -> Result<FileHive, Refusal>
     ensures has { IfOk result (λ held. FileHasBins file.items held.block held.bins.items) }
     ensures tree { IfOk result (λ held.
-        BinsEncodeTreeInLimits held.bins.items held.block.root held.block.minor held.tree) }
-    ensures refused { IfErr result (FileRefused file.items) }
+        BinsEncodeShallowTree held.bins.items held.block.root held.block.minor held.tree) }
+    ensures refused { IfErr result (ShallowFileRefused file.items) }
 {
     let (block, bins) = match bins_of(file) {
         Ok(parts) => parts,
         Err(why) => return Err(why),
     };
-    match load_bins(alloc, bins, block.root, block.minor) {
+    match load_bins_any_weight(alloc, bins, block.root, block.minor) {
         Ok((tree, image)) => Ok(FileHive {
             block,
             bins: image.into_bytes(),

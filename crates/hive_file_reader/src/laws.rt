@@ -4,8 +4,8 @@ ghost use Rattle.refusals.specs.declared.refusal.Refusal.{Refusal};
 ghost use Rattle.refusals.specs.declared.refusal.Refusal.TheVariants.{NoMemory};
 ghost use Rattle.reg_tree.specs.Maps.{TreeMap};
 ghost use Rattle.base_block.specs.declared.block.BaseBlock.{BaseBlock};
-ghost use Rattle.hive_file_reader.specs.Hives.{FileHasBins, FileHoldsHive, FileHoldsNoHive, IsEnoughOf};
-ghost use Rattle.hive_file_reader.specs.Readings.{FileRefusedAs, FileBinsRefusedAs};
+ghost use Rattle.hive_file_reader.specs.Hives.{FileHasBins, FileHoldsHive, FileHoldsShallowTree, FileHoldsNoHive, IsEnoughOf};
+ghost use Rattle.hive_file_reader.specs.Readings.{FileRefusedAs, ShallowFileRefusedAs, FileBinsRefusedAs};
 
 /// A file holds at most one tree. A file of which a refusal is true, but for want of memory, holds none. The same goes
 /// for a file that is refused as a hive of any number, and for one whose bins data are.
@@ -20,6 +20,18 @@ pub fn one_or_none()
         why ≢ NoMemory → (tree : TreeMap) → FileHoldsHive file tree → ⊥ }
 {
     hive_load::laws::refused_bins_exclude_trees();
+    hive_records::laws::one_tree();
+}
+
+/// The same of trees of any weight. A file that holds a tree within the limits holds the same one so.
+pub fn one_or_none_of_any_weight()
+    ensures one { (file : List ℕ) (tree other : TreeMap) → FileHoldsShallowTree file tree →
+        FileHoldsShallowTree file other → tree ≡ other }
+    ensures refused { (hive : ℕ) (file : List ℕ) (why : Refusal) → ShallowFileRefusedAs hive file why →
+        why ≢ NoMemory → (tree : TreeMap) → FileHoldsShallowTree file tree → ⊥ }
+    ensures within { (file : List ℕ) (tree : TreeMap) → FileHoldsHive file tree → FileHoldsShallowTree file tree }
+{
+    hive_load::laws::refusals_exclude_trees_of_any_weight();
     hive_records::laws::one_tree();
 }
 

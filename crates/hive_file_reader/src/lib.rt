@@ -3,7 +3,7 @@
 //! [`read_image`] reads the base block and the bins data of a primary file, and no more. It judges them as those of a
 //! clean hive, without a log. [`read_hive`] also loads the tree that they encode, and drops them before it gives the
 //! tree. [`read_parts`] gives the first sector, and bins data that may not tile. [`load_file`] loads a file's bytes that
-//! are in memory, and keeps the bins data. [`read_file`] reads as many bytes of a file as it needs. The bins data are
+//! are in memory, and keeps the bins data; [`load_file_any_weight`] does so of a tree of any weight. [`read_file`] reads as many bytes of a file as it needs. The bins data are
 //! read in chunks. Room for them grows by a chunk, or by a quarter of the bytes that are there: nothing is allocated by a
 //! number of the file before that many bytes are there.
 //!
@@ -19,6 +19,6 @@ mod hive;
 pub mod laws;
 mod parts;
 
-pub use file::{FileHive, load_file, read_file};
+pub use file::{FileHive, load_file, load_file_any_weight, read_file};
 pub use hive::{ReadError, read_hive, read_image};
 pub use parts::{FileParts, read_parts};

@@ -9,7 +9,7 @@ use Rattle.refusals.specs.declared.limits.TheConstants.{MOST_PATH_NAMES, MOST_WE
 use Rattle.reg_names.specs.Names.{folded}
 use Rattle.reg_tree_parts.specs.Orders.{path_order}
 use Rattle.reg_tree_parts.specs.Rows.{Row}
-use Rattle.reg_tree_parts.specs.Nodes.{Entries, entries_weight, IsNode}
+use Rattle.reg_tree_parts.specs.Nodes.{Entries, IsNode}
 use Rattle.reg_tree.specs.Maps.{TreeMap, row, weight}
 use Rattle.reg_tree.specs.Encodable.{IsEncodable, IsEncodableAt, IsEncodableRow}
 use Rattle.hive_cells.specs.Tiles.{Tiles}
@@ -33,7 +33,7 @@ use Rattle.hive_records.proofs.Images.{same_cells, one_image, image_fault}
 use Rattle.hive_load_parts.specs.Descriptors.{descriptor_in}
 use Rattle.hive_load.specs.Answers.{IsShallow, LoadsKey, RefusesKey}
 use Rattle.hive_load.specs.Roots.{LoadsRoot, RefusesRoot}
-use Rattle.hive_load.specs.Limits.{TreeIsInLimits, LoadRefused}
+use Rattle.hive_load.specs.Limits.{IsShallowTree, TreeIsInLimits, LoadRefused, ShallowLoadRefused}
 
 -- ---- rows at the end of paths
 
@@ -104,9 +104,9 @@ module _ (split : Bool) (cells : Cells) (old new : CellMarks) (root : ℕ) (unse
 -- ---- the tree
 
 module _ (bytes : List ℕ) (root minor : ℕ) (split : Bool) (is_split : split ≡ splits minor) (cells : Cells) (shows : Shows bytes cells) where
-  pub refused_for : (why : Refusal) → RefusesRoot split cells root why → LoadRefused bytes root minor why
+  pub refused_for : (why : Refusal) → RefusesRoot split cells root why → ShallowLoadRefused bytes root minor why
   refused_for why (inl e) = inl e
-  refused_for why (inr (inl (e, d))) = inr (inl (e, inr (cells, shows, subst (λ (b : Bool). HasDeeperKey (keys_in b cells) root MOST_PATH_NAMES) is_split d)))
+  refused_for why (inr (inl (e, d))) = inr (inl (e, (cells, shows, subst (λ (b : Bool). HasDeeperKey (keys_in b cells) root MOST_PATH_NAMES) is_split d)))
   refused_for why (inr (inr f)) = inr (inr (cells, shows, subst (λ (b : Bool). FaultIn b cells root why) is_split f))
 
   module _ (node : Entries) (l : LoadsRoot split cells root node) (is : IsNode node) where
@@ -142,23 +142,24 @@ module _ (bytes : List ℕ) (root minor : ℕ) (split : Bool) (is_split : split 
     pub is_encodable : AreBytes bytes → IsEncodable (finite.from_sorted node)
     is_encodable bytes_are = record { rows = λ path r e. spelled_at (cells_bytes bytes cells bytes_are shows) path r (sym (row_there path) ∙ e) }
 
-    weight_is : weight (finite.from_sorted node) ≡ entries_weight node
-    weight_is = ap entries_weight (entries-from_sorted path_order node is.rises)
-
     path_short : (path : List (List ℕ)) (r : Row) → row_from l.parts.row l.below path ≡ Some r → length path ≤ MOST_PATH_NAMES
     path_short [] r e = omega arith
     path_short (n ∷ path) r e = shallow_row MOST_PATH_NAMES l.below l.shallow (n ∷ path) r e
 
-    pub is_within : entries_weight node ≤ MOST_WEIGHT → TreeIsInLimits (finite.from_sorted node)
-    is_within light = record {
-      light = subst (λ (n : ℕ). n ≤ MOST_WEIGHT) (sym weight_is) light;
-      shallow = λ path r e. path_short path r (sym (row_there path) ∙ e);
-    }
-
-    pub too_heavy : Tiles bytes → MOST_WEIGHT < entries_weight node → (why : Refusal) → why ≡ refusal.TooLarge → LoadRefused bytes root minor why
-    too_heavy tiles heavy why e = inr (inl (e, inl (finite.from_sorted node, stands_for tiles, subst (λ (n : ℕ). MOST_WEIGHT < n) (sym weight_is) heavy)))
+    pub is_shallow : IsShallowTree (finite.from_sorted node)
+    is_shallow = λ path r e. path_short path r (sym (row_there path) ∙ e)
 
 -- ---- a refusal excludes trees
+
+-- data that are refused whatever a tree weighs encode none that isn't too deep
+pub excluded_shallow : (bytes : List ℕ) (root minor : ℕ) (why : Refusal) → ShallowLoadRefused bytes root minor why → why ≢ refusal.NoMemory → (tree : TreeMap) → BinsEncodeTree bytes root minor tree → IsShallowTree tree → ⊥
+excluded_shallow bytes root minor why (inl e) some tree s w = some e
+excluded_shallow bytes root minor why (inr (inl (e, d))) some tree s w =
+    let here : CellsEncodeTree (keys_in (splits minor) d.0) root tree = subst (λ (z : Cells). CellsEncodeTree (keys_in (splits minor) z) root tree) (same_cells bytes s.1 d.0 s.2 d.1) s.3 in
+    let found : (path : List (List ℕ)) × (r : Row) × (row tree path ≡ Some r) × (MOST_PATH_NAMES < length path) = deep (keys_in (splits minor) d.0) root tree here MOST_PATH_NAMES d.2 in
+    let short = w found.0 found.1 found.2 in
+    let long = found.3 in absurd (omega (arith, short, long))
+excluded_shallow bytes root minor why (inr (inr f)) some tree s w = image_fault bytes root minor tree why f s
 
 pub excluded : (bytes : List ℕ) (root minor : ℕ) (why : Refusal) → LoadRefused bytes root minor why → why ≢ refusal.NoMemory → (tree : TreeMap) → BinsEncodeTree bytes root minor tree → TreeIsInLimits tree → ⊥
 excluded bytes root minor why (inl e) some tree s w = some e
@@ -166,9 +167,17 @@ excluded bytes root minor why (inr (inl (e, inl h))) some tree s w =
     let same : tree ≡ h.0 = one_image bytes root minor tree h.0 s h.1 in
     let heavy : MOST_WEIGHT < weight tree = subst (λ (t : TreeMap). MOST_WEIGHT < weight t) (sym same) h.2 in
     let light = w.light in absurd (omega (arith, heavy, light))
-excluded bytes root minor why (inr (inl (e, inr d))) some tree s w =
-    let here : CellsEncodeTree (keys_in (splits minor) d.0) root tree = subst (λ (z : Cells). CellsEncodeTree (keys_in (splits minor) z) root tree) (same_cells bytes s.1 d.0 s.2 d.1) s.3 in
-    let found : (path : List (List ℕ)) × (r : Row) × (row tree path ≡ Some r) × (MOST_PATH_NAMES < length path) = deep (keys_in (splits minor) d.0) root tree here MOST_PATH_NAMES d.2 in
-    let short = w.shallow found.0 found.1 found.2 in
-    let long = found.3 in absurd (omega (arith, short, long))
-excluded bytes root minor why (inr (inr f)) some tree s w = image_fault bytes root minor tree why f s
+excluded bytes root minor why (inr (inl (e, inr d))) some tree s w = excluded_shallow bytes root minor why (inr (inl (e, d))) some tree s w.shallow
+excluded bytes root minor why (inr (inr f)) some tree s w = excluded_shallow bytes root minor why (inr (inr f)) some tree s w.shallow
+
+-- ---- a tree of any weight, and the limit of weight
+
+-- what refuses data whatever a tree weighs refuses them within the limits
+pub refused_too : (bytes : List ℕ) (root minor : ℕ) (why : Refusal) → ShallowLoadRefused bytes root minor why → LoadRefused bytes root minor why
+refused_too bytes root minor why (inl e) = inl e
+refused_too bytes root minor why (inr (inl (e, d))) = inr (inl (e, inr d))
+refused_too bytes root minor why (inr (inr f)) = inr (inr f)
+
+-- a tree that is too heavy
+pub too_heavy : (bytes : List ℕ) (root minor : ℕ) (tree : TreeMap) (why : Refusal) → BinsEncodeTree bytes root minor tree → (why ≡ refusal.TooLarge) × (MOST_WEIGHT < weight tree) → LoadRefused bytes root minor why
+too_heavy bytes root minor tree why stands heavy = inr (inl (heavy.0, inl (tree, stands, heavy.1)))

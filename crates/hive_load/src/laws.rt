@@ -6,7 +6,7 @@ ghost use Rattle.reg_tree.specs.Maps.{TreeMap};
 ghost use Rattle.hive_cells.specs.Bins.{Cells, Shows};
 ghost use Rattle.hive_cells.specs.Tiles.{Tiles};
 ghost use Rattle.hive_records.specs.Images.{BinsEncodeTree};
-ghost use Rattle.hive_load.specs.Limits.{BinsRefused, BinsEncodeTreeInLimits, TreeIsInLimits, LoadRefused};
+ghost use Rattle.hive_load.specs.Limits.{BinsRefused, ShallowBinsRefused, BinsEncodeTreeInLimits, BinsEncodeShallowTree, TreeIsInLimits, LoadRefused};
 
 /// An image that is refused, but for want of memory, encodes no tree within the limits.
 pub fn refusals_exclude_trees()
@@ -18,6 +18,12 @@ pub fn refusals_exclude_trees()
 pub fn refused_bins_exclude_trees()
     ensures { (bytes : List ℕ) (root minor : ℕ) (why : Refusal) → BinsRefused bytes root minor why →
         why ≢ NoMemory → (tree : TreeMap) → BinsEncodeTreeInLimits bytes root minor tree → ⊥ }
+{}
+
+/// Bins data that are refused whatever their tree weighs, but for want of memory, encode no tree within the limit of depth.
+pub fn refusals_exclude_trees_of_any_weight()
+    ensures { (bytes : List ℕ) (root minor : ℕ) (why : Refusal) → ShallowBinsRefused bytes root minor why →
+        why ≢ NoMemory → (tree : TreeMap) → BinsEncodeShallowTree bytes root minor tree → ⊥ }
 {}
 
 /// Bins data encode a tree in one way at most. So a type may keep that they do so as a fact without its details, and
