@@ -14,6 +14,11 @@
  * there is. With REGTX_NO_ROOM the room is too small, and the buffer is as it was; call again with `*len` of room. With
  * any other number but REGTX_OK neither buffer nor `*len` is written. What lies in a buffer behind `*len` stays.
  *
+ * Weight. A key weighs 192 and the bytes of its name, its class and its security descriptor, a value 128 and the bytes of
+ * its name and its data; a name has two bytes a unit. A hive of any weight is opened and read. One that weighs more than
+ * 16,777,216 isn't written, and no call adds to it: that is REGTX_TOO_LARGE. Keys and values can be deleted until it
+ * weighs less.
+ *
  * Numbers. Each call answers REGTX_OK or why it is refused. A refused call changes nothing: the hive stays as it was.
  * REGTX_NO_MEMORY may come of each call.
  *
@@ -38,6 +43,9 @@
 extern "C" {
 #endif
 
+#ifndef REGTX_REFUSALS
+#define REGTX_REFUSALS
+/* Refusals by their numbers, E1 and so on. regtx_client.h has the same ones. No call here answers 7 to 16. */
 enum {
     REGTX_OK = 0,
     REGTX_NO_MEMORY = 1,   /* memory was asked for and not given */
@@ -45,9 +53,23 @@ enum {
     REGTX_HAS_SUBKEYS = 3, /* the key to be deleted has subkeys */
     REGTX_BAD_NAME = 4,    /* a path or a name breaks the rules of names above */
     REGTX_TOO_DEEP = 5,    /* a path has more than 512 names, or one call would create more than 32 keys */
-    REGTX_TOO_LARGE = 6,   /* data over 1,048,576 bytes, or a hive that weighs more than 16,777,216 */
+    REGTX_TOO_LARGE = 6,   /* data over 1,048,576 bytes; or a hive over a limit of the call, or over the weight above */
+    REGTX_CONFLICT = 7,
+    REGTX_NOT_ACTIVE = 8,
+    REGTX_NO_SUCH_HANDLE = 9,
+    REGTX_NO_SEAT = 10,
+    REGTX_JOURNAL_FULL = 11,
+    REGTX_HISTORY_FULL = 12,
+    REGTX_DISK_FAULT = 13,
+    REGTX_FAULTED = 14,
+    REGTX_HIVE_DAMAGED = 15,
+    REGTX_JOURNAL_DAMAGED = 16,
     REGTX_UNSUPPORTED = 17, /* a version, a type, a format or a flag that isn't read */
-    REGTX_FIXED = 18,      /* the root, or a key that is marked as not deletable, is to be deleted */
+    REGTX_FIXED = 18       /* the root, or a key that is marked as not deletable, is to be deleted */
+};
+#endif
+
+enum {
     REGTX_NOT_OPEN = 100,  /* no hive is open by this handle */
     REGTX_NO_ROOM = 101,   /* the buffer is too small */
     /* The bytes are no whole hive. If they have several faults, any one is told. */
@@ -80,8 +102,8 @@ typedef struct {
 
 /* Opens the hive that the `len` bytes of a hive file hold. They are copied and may go. They are read as they are, without
  * a log. What was open by the handle before is closed; if the call is refused, it stays open.
- * Refused: any number from 1501 on, REGTX_UNSUPPORTED, REGTX_TOO_LARGE (also of bins data over 64 MiB, and of a path of
- * more than 512 names). */
+ * Refused: any number from 1501 on, REGTX_UNSUPPORTED, REGTX_TOO_LARGE (of bins data over 64 MiB, and of a path of more
+ * than 512 names). */
 uint32_t regtx_hive_open(const uint8_t *file, size_t len, regtx_hive *hive);
 
 /* Opens a new hive: a root without name, time, subkeys and values, that is not to be deleted. What was open by the handle
@@ -140,7 +162,7 @@ uint32_t regtx_hive_delete_value(regtx_hive *hive, const uint16_t *path, size_t 
 
 /* Writes the hive as the bytes of a whole hive file of version 1.5: a clean one, that needs no log. `*len` is a multiple
  * of 4,096. With a room of 0 the call tells how many bytes it needs.
- * Refused: REGTX_NOT_OPEN, REGTX_NO_ROOM. */
+ * Refused: REGTX_NOT_OPEN, REGTX_TOO_LARGE, REGTX_NO_ROOM. */
 uint32_t regtx_hive_write(regtx_hive *hive, uint8_t *file, size_t room, size_t *len);
 
 /* Tells the text of a number, in ASCII, without a zero at its end: "E2 NotFound". It has at most 64 bytes. */

@@ -3,18 +3,18 @@ use Rattle.std.specs.Prelude.{◌≡◌, ◌⊎◌, ℕ, List, Option, Some}
 use Rattle.refusals.specs.declared.refusal.Refusal.{Refusal}
 use Rattle.reg_tree.specs.Maps.{TreeMap}
 use Rattle.reg_tree.specs.Fresh.{fresh_tree}
-use Rattle.hive_file_reader.specs.Hives.{FileHoldsHive}
-use Rattle.hive_file_reader.specs.Readings.{FileRefusedAs}
+use Rattle.hive_file_reader.specs.Hives.{FileHoldsShallowTree}
+use Rattle.hive_file_reader.specs.Readings.{ShallowFileRefusedAs}
 use Rattle.regtx_c.specs.declared.codes.TheConstants.{OK, NO_MEMORY}
 use Rattle.regtx_c.specs.Codes.{refusal_code}
 
--- the tree that a file holds is open
+-- the tree that a file holds is open, whatever it weighs
 abbrev pub HoldsFile : List ℕ → Option TreeMap → Type 0
-HoldsFile file open_now = (tree : TreeMap) × (open_now ≡ Some tree) × FileHoldsHive file tree
+HoldsFile file open_now = (tree : TreeMap) × (open_now ≡ Some tree) × FileHoldsShallowTree file tree
 
 -- why a file is refused as hive 0 has this number
 abbrev pub IsRefusedBy : List ℕ → ℕ → Type 0
-IsRefusedBy file code = (why : Refusal) × FileRefusedAs 0 file why × (code ≡ refusal_code why)
+IsRefusedBy file code = (why : Refusal) × ShallowFileRefusedAs 0 file why × (code ≡ refusal_code why)
 
 -- a file is opened: at OK the tree that it holds is open, at any other number the file is refused for what that says,
 -- and what was open stays

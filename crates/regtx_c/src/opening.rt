@@ -1,14 +1,14 @@
 //! Opening and closing a hive.
 ghost use Rattle.std.specs.Prelude.{◌≡◌, IfOk, IfErr};
-ghost use Rattle.hive_file_reader.specs.Hives.{FileHoldsHive};
-ghost use Rattle.hive_file_reader.specs.Readings.{FileRefusedAs};
+ghost use Rattle.hive_file_reader.specs.Hives.{FileHoldsShallowTree};
+ghost use Rattle.hive_file_reader.specs.Readings.{ShallowFileRefusedAs};
 ghost use Rattle.reg_tree.specs.Fresh.{fresh_tree};
 ghost use Rattle.regtx_c.specs.Handles.{tree_in};
 ghost use Rattle.regtx_c.specs.Openings.{IsOpened, IsMade};
 
 use crate::codes::{NO_MEMORY, OK, code_of};
 use crate::handle::{Handle, put};
-use hive_file_reader::load_file;
+use hive_file_reader::load_file_any_weight;
 use refusals::Refusal;
 use reg_tree::Tree;
 use std::alloc::{AllocError, Global};
@@ -27,13 +27,13 @@ fn copied(alloc: Global, bytes: &[u8]) -> Result<Vec<u8>, AllocError>
 
 // the tree of a hive's file in memory, in a block of its own
 fn loaded(alloc: Global, file: &[u8]) -> Result<Box<Tree, Global>, Refusal>
-    ensures holds { IfOk result (λ tree. FileHoldsHive file.now tree.value) }
-    ensures refused { IfErr result (FileRefusedAs 0 file.now) }
+    ensures holds { IfOk result (λ tree. FileHoldsShallowTree file.now tree.value) }
+    ensures refused { IfErr result (ShallowFileRefusedAs 0 file.now) }
 {
     let Ok(copy) = copied(alloc, file) else {
         return Err(Refusal::NoMemory);
     };
-    let held = match load_file(alloc, copy, HIVE) {
+    let held = match load_file_any_weight(alloc, copy, HIVE) {
         Ok(held) => held,
         Err(why) => return Err(why),
     };
@@ -44,9 +44,9 @@ fn loaded(alloc: Global, file: &[u8]) -> Result<Box<Tree, Global>, Refusal>
 }
 
 /// Opens the hive that the bytes of a file hold. The bytes are read as a primary file without a log, and not kept. What
-/// was open by the handle before is closed.
+/// was open by the handle before is closed. The hive may have any weight.
 ///
-/// Refused as `load_file` is: the bytes hold no hive, or there is no memory. Then the handle stays as it was.
+/// Refused as `load_file_any_weight` is: the bytes hold no hive, or there is no memory. Then the handle stays as it was.
 #[unsafe(no_mangle)]
 pub extern "C" fn regtx_hive_open(alloc: Global, file: &[u8], hive: &mut Handle) -> u32
     ensures { IsOpened file.now (tree_in hive.old) (tree_in hive.new) result }

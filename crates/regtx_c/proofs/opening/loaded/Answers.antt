@@ -1,6 +1,6 @@
 -- What the bytes hold is the file's tree, and want of memory may always be told.
 use Rattle.std.proofs.Common.{ℕ, List, subst}
-use Rattle.hive_file_reader.specs.Hives.{FileHoldsHive}
+use Rattle.hive_file_reader.specs.Hives.{FileHoldsShallowTree}
 use Rattle.regtx_c.proofs.Openings.{holds_parts, refused_memory}
 use Rattle.regtx_c.proofs.opening.loaded.Goals as goal
 
@@ -12,6 +12,6 @@ returns-in_default-clause-refused c = refused_memory c.args.file.now
 
 pub returns-in-Ok-new-clause-holds : goal.returns-in-Ok-new-clause-holds
 returns-in-Ok-new-clause-holds c =
-    let held = c.in-Ok-load_file.held in
-    rw c.in-Ok-new.ensures.ok (subst (λ (bytes : List ℕ). FileHoldsHive bytes held.tree) c.in-Ok.ensures
-    (holds_parts c.in-Ok.copy.items held.bins.items held.block held.tree c.in-Ok-load_file.ensures.has c.in-Ok-load_file.ensures.tree))
+    let held = c.in-Ok-load_file_any_weight.held in
+    rw c.in-Ok-new.ensures.ok (subst (λ (bytes : List ℕ). FileHoldsShallowTree bytes held.tree) c.in-Ok.ensures
+    (holds_parts c.in-Ok.copy.items held.bins.items held.block held.tree c.in-Ok-load_file_any_weight.ensures.has c.in-Ok-load_file_any_weight.ensures.tree))
