@@ -20,9 +20,11 @@
 extern "C" {
 #endif
 
+#ifndef REGTX_REFUSALS
+#define REGTX_REFUSALS
+/* Refusals by their numbers, E1 and so on. regtx.h, of hives in memory, has the same ones. */
 enum {
     REGTX_OK = 0,
-    /* refusals, by their numbers: E1 and so on */
     REGTX_NO_MEMORY = 1,
     REGTX_NOT_FOUND,
     REGTX_HAS_SUBKEYS,
@@ -40,7 +42,11 @@ enum {
     REGTX_HIVE_DAMAGED,
     REGTX_JOURNAL_DAMAGED,
     REGTX_UNSUPPORTED,
-    REGTX_FIXED,
+    REGTX_FIXED
+};
+#endif
+
+enum {
     /* the run ended early: close the store, and open it again */
     REGTX_ENDED = 100,
     /* the commit may be done or not: ask regtx_kept in a new run */
@@ -204,11 +210,11 @@ int regtx_list_values(regtx_store *store, regtx_tx tx, uint8_t hive, const char 
 typedef struct {
     uint32_t subkeys, values;
     uint64_t written;
-} regtx_info;
+} regtx_key_info;
 
 /* REGTX_NOT_FOUND. */
 int regtx_query_info(regtx_store *store, regtx_tx tx, uint8_t hive, const char *path,
-                     regtx_info *info);
+                     regtx_key_info *info);
 
 /* Types of values. Any other number is a type as well. */
 enum {

@@ -283,7 +283,7 @@ int regtx_list_values(regtx_store *store, regtx_tx tx, uint8_t hive, const char 
 }
 
 int regtx_query_info(regtx_store *store, regtx_tx tx, uint8_t hive, const char *path,
-                     regtx_info *info)
+                     regtx_key_info *info)
 {
     int code =
         ask_request(store, &(struct request){.tx = tx, .verb = "info", .hive = hive, .path = path});
@@ -295,6 +295,6 @@ int regtx_query_info(regtx_store *store, regtx_tx tx, uint8_t hive, const char *
         || !regtx_take_number(&at, &values) || *at++ != ' ' || !regtx_take_number(&at, &written)
         || *at)
         return REGTX_REPLY;
-    *info = (regtx_info){(uint32_t)subkeys, (uint32_t)values, written};
+    *info = (regtx_key_info){(uint32_t)subkeys, (uint32_t)values, written};
     return REGTX_OK;
 }

@@ -43,7 +43,7 @@ static void wrong_names_send_nothing(void)
     static const char *const paths[] = {"\\Software", "Software\\", "Software\\\\X", "\\"};
     regtx_store *store = new_store();
     size_t size = 0;
-    regtx_info info;
+    regtx_key_info info;
     for (size_t at = 0; at < sizeof wrong / sizeof wrong[0]; at++) {
         const char *name = wrong[at];
         CHECK(set_number(store, REGTX_ALONE, name, 1) == REGTX_WRONG_NAME);

@@ -32,7 +32,7 @@ static void writes_answer_their_numbers(void)
 static void reads_tell_what_is_there(void)
 {
     regtx_store *store = new_store();
-    regtx_info info;
+    regtx_key_info info;
     char names[16];
     size_t size = sizeof names, count = 99;
     /* 2024-02-29 00:00:00 UTC */
@@ -54,7 +54,7 @@ static void refusals_change_nothing(void)
 {
     char deep[2 * 33 + 1] = "d";
     regtx_store *store = new_store();
-    regtx_info info;
+    regtx_key_info info;
     size_t size = 0;
     uint64_t number = 99;
     for (int level = 1; level < 33; level++)

@@ -24,7 +24,7 @@ static void a_commit_changes_all_hives_at_once(void)
 {
     regtx_store *store = new_store();
     regtx_tx tx = begun(store, REGTX_FIRST_SESSION, 1);
-    regtx_info info;
+    regtx_key_info info;
     uint32_t levels = 99;
     uint64_t number = 99;
     size_t size = 0;
