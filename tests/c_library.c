@@ -4,6 +4,7 @@
  *     c_library failing FILE                    the same edits and reads with each allocation refused in turn
  *     c_library dump FILE                       prints a hive as `regtx dump` does, as far as paths lead
  *     c_library rewrite FILE NEW                opens a hive, and writes it to another file
+ *     c_library heavy FILE NEW                  opens a hive over the weight; writes it without its value 0:Big v00
  *     c_library mutate FILE SEED COUNT FOLDER   opens spoiled copies; some and their texts go to the folder
  *
  * The status is 0 if nothing is wrong.
@@ -692,6 +693,32 @@ static void mutate(const char *name, long count, const char *folder)
     printf("%ld spoiled, %zu opened\n", count, opened);
 }
 
+/* ---- a hive over the weight */
+
+/* it is read, and nothing is added or written; once a value is deleted, it is as any other */
+static void check_heavy(const char *name, const char *copy)
+{
+    regtx_hive hive = {0};
+    size_t len, made = 7, told = 7;
+    uint8_t *bytes = file_bytes(name, &len);
+    EXPECT(regtx_hive_open(bytes, len, &hive) == REGTX_OK);
+    struct text before = text_of(&hive);
+    REFUSED(REGTX_TOO_LARGE, regtx_hive_create_key(&hive, PATH("New"), 9, &made));
+    REFUSED(REGTX_TOO_LARGE, regtx_hive_set_value(&hive, PATH("Big"), NAME("new"), 3, bytes, 0, 9));
+    REFUSED(REGTX_TOO_LARGE, regtx_hive_set_value(&hive, PATH("Big"), NAME("v00"), 3, bytes, 1000000, 9));
+    REFUSED(REGTX_TOO_LARGE, regtx_hive_write(&hive, bytes, len, &told));
+    EXPECT(made == 7 && told == 7);
+    EXPECT(regtx_hive_create_key(&hive, PATH("big"), 9, &made) == REGTX_OK && made == 0);
+    drop(&before);
+    free(bytes);
+    EXPECT(regtx_hive_delete_value(&hive, PATH("Big"), NAME("v00"), 9) == REGTX_OK);
+    expect_written("a hive that was too heavy", &hive);
+    bytes = written(&hive, &len);
+    put_file("", copy, bytes, len);
+    free(bytes);
+    regtx_hive_close(&hive);
+}
+
 /* ---- one hive */
 
 static int with_file(const char *name, const char *copy)
@@ -720,7 +747,9 @@ int main(int count, char **words)
         return with_file(words[2], NULL);
     if (count == 4 && strcmp(words[1], "rewrite") == 0)
         return with_file(words[2], words[3]);
-    if (count == 3 && strcmp(words[1], "failing") == 0)
+    if (count == 4 && strcmp(words[1], "heavy") == 0)
+        check_heavy(words[2], words[3]);
+    else if (count == 3 && strcmp(words[1], "failing") == 0)
         check_failing(words[2]);
     else if (count == 6 && strcmp(words[1], "mutate") == 0) {
         seed = strtoull(words[3], NULL, 10);
