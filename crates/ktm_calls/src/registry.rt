@@ -242,34 +242,39 @@ impl<E: StoreEngine, O: Origin> Registry<E, O> {
         }
     }
 
-    // the lock, for an event. Before one that may accept a change, room is made if half of the journal's is used: else
-    // those that write without a pause would never let a trim come, and be refused at last
+    // the lock, for an event. One that may accept a change gets it while less than half of the journal's room is used, and
+    // room is made until then: else those that write without a pause would never let a trim come, and be refused at last.
+    // If no room can be made, the event tells why
     fn lock_for<'a, R: Wait>(&'a self, rt: &R, event: &Event) -> MutexGuard<'a, Locked<E, O>> {
-        let guard = self.lock.lock(rt);
-        if !may_accept(event) || (&*guard).engine().room() < BUSY_ROOM {
-            return guard;
+        let mut may_wait = may_accept(event);
+        for _ in rt.forever() {
+            let guard = self.lock.lock(rt);
+            if !may_wait || (&*guard).engine().room() < BUSY_ROOM {
+                return guard;
+            }
+            let _ = MutexGuard::unlock(guard);
+            // others may have filled the room again when the lock is taken
+            may_wait = self.make_room(rt);
         }
-        let _ = MutexGuard::unlock(guard);
-        self.make_room(rt);
-        self.lock.lock(rt)
+        unreachable!()
     }
 
-    // makes the flusher's steps, one a hold, until less than half of the journal's room is used; or until there is
-    // nothing to do, or one is refused, which the event that comes tells
-    fn make_room<R: Wait>(&self, rt: &R) {
+    // makes the flusher's steps, one a hold, until less than half of the journal's room is used. False if there was nothing
+    // to do before, or a step was refused
+    fn make_room<R: Wait>(&self, rt: &R) -> bool {
         for _ in rt.forever() {
             let mut guard = self.lock.lock(rt);
             if (&*guard).engine().room() < BUSY_ROOM {
                 let _ = MutexGuard::unlock(guard);
-                return;
+                return true;
             }
             let answer = (&mut *guard).turn(rt);
             let _ = MutexGuard::unlock(guard);
             let TurnResult::Step(told) = answer else {
-                return;
+                return false;
             };
             if self.stepped(told).is_err() {
-                return;
+                return false;
             }
         }
         unreachable!()
