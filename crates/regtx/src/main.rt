@@ -1,5 +1,5 @@
-//! The program `regtx`: reads the words of its command line, and leaves the work to `script_runner`, `crash_lab`,
-//! `crash_sweep`, `hive_dump` and `store_create`.
+//! The program `regtx`: reads the words of its command line, and leaves the work to the crates below: scripts to
+//! `script_runner`, `registry_runner`, `crash_lab` and `crash_sweep`, stores and hives to those that the page names.
 //!
 //! Everything is printed to standard output, each reply at once if a script comes from a pipe or a keyboard. If
 //! standard error is a terminal, it shows why something can't be done. If standard output is no terminal, standard

@@ -1,9 +1,9 @@
 //! What the words `play`, `lab`, `sweep` and `run` do with files: the script, and the folder of the store that `run`
 //! works on.
 //!
-//! `script_runner`, `crash_lab` and `crash_sweep` run the script and write the replies. Of a store's files it is
-//! trusted that they are what they answer, and that the system keeps what it has synced. Then what is proved of runs
-//! over any disk holds of them.
+//! `script_runner` plays the script, `registry_runner` runs it on a store, `crash_lab` and `crash_sweep` try it; each
+//! writes the replies. Of a store's files it is trusted that they are what they answer, and that the system keeps what it
+//! has synced. Then what is proved of runs over any disk holds of them.
 use crate::command_error::CommandError;
 use crate::files::{Source, Trouble};
 use crate::hint::Hint;
