@@ -1,0 +1,95 @@
+# Installs the program, its manual page, its clients and the library for C. docs/INSTALLING.md says more.
+#
+#   make                              builds what is missing: the program, the library and the manual page
+#   make install PREFIX=/usr/local    installs it; with DESTDIR=FOLDER into a folder that stands for the root
+#   make uninstall PREFIX=/usr/local  removes it, with the same DESTDIR
+#
+# PROGRAM=FILE is a program, and LIBRARY=FOLDER has a library as tools/c_library makes it, that are built already.
+PREFIX = /usr/local
+DESTDIR =
+PROGRAM =
+LIBRARY = out/c
+export PREFIX DESTDIR PROGRAM LIBRARY
+
+MANUAL = out/regtx.1
+LIBRARY_FILES = regtx.h libregtx.a libregtx.so
+PAGES = README.md docs/USING.md docs/SCRIPTS.md docs/REGFILES.md docs/LAB.md docs/SWEEP.md
+# sources, pages and examples; no tests, and nothing that was built
+CLIENTS = $(wildcard clients/*/README.md clients/python/*.py clients/c/*.[ch] \
+    clients/rust/Cargo.toml clients/rust/Cargo.lock clients/rust/src/*.rs clients/rust/examples/*.rs)
+# all that is installed, below PREFIX
+INSTALLED = bin/regtx include/regtx.h lib/libregtx.a lib/libregtx.so lib/pkgconfig/regtx.pc share/man/man1/regtx.1 \
+    share/bash-completion/completions/regtx share/zsh/site-functions/_regtx \
+    $(PAGES:%=share/doc/regtx/%) $(CLIENTS:%=share/regtx/%)
+FOLDERS = $(sort $(patsubst %/,%,$(dir $(INSTALLED))))
+
+SHELL = /bin/sh
+.SHELLFLAGS = -euc
+.ONESHELL:
+.PHONY: all install uninstall program library
+.DELETE_ON_ERROR:
+
+all: program library $(MANUAL)
+	@echo "regtx is built; make install PREFIX=FOLDER installs it"
+
+program:
+	@test -n "$$PROGRAM" || tools/build_quick --which regtx >/dev/null
+
+# the folder that tools/c_library writes is made if a file is missing; another one has to have them
+library:
+	@for file in $(LIBRARY_FILES); do
+	    test -e "$$LIBRARY/$$file" || test "$$LIBRARY" != out/c || { tools/c_library out/c; break; }
+	done
+	for file in $(LIBRARY_FILES); do
+	    test -e "$$LIBRARY/$$file" || { echo "regtx: $$LIBRARY has no $$file" >&2; exit 1; }
+	done
+
+$(MANUAL): tools/manual tools/markdown.py tools/product.py README.md docs/USING.md docs/SCRIPTS.md crates/regtx/src/usages.rt \
+    crates/regtx/src/about.rt
+	@mkdir -p out
+	tools/manual >$@
+
+# the pkg-config file comes first, since it refuses a PREFIX; the program's file isn't stripped: its last bytes say what it is
+install: program library $(MANUAL)
+	@config=$$(tools/pkgconfig "$$PREFIX")
+	program=$$(realpath -e "$${PROGRAM:-$$(tools/build_quick --which regtx)}")
+	about=$$("$$program" about)
+	root=$$DESTDIR$$PREFIX
+	for folder in $(FOLDERS); do
+	    test -d "$$root/$$folder" || install -d "$$root/$$folder"
+	done
+	install -m 755 "$$program" "$$root/bin/regtx"
+	install -m 644 "$$LIBRARY/regtx.h" "$$root/include/regtx.h"
+	install -m 644 "$$LIBRARY/libregtx.a" "$$LIBRARY/libregtx.so" "$$root/lib"
+	printf '%s\n' "$$config" | install -m 644 /dev/stdin "$$root/lib/pkgconfig/regtx.pc"
+	install -m 644 $(MANUAL) "$$root/share/man/man1/regtx.1"
+	install -m 644 completions/regtx.bash "$$root/share/bash-completion/completions/regtx"
+	install -m 644 completions/_regtx "$$root/share/zsh/site-functions/_regtx"
+	for page in $(PAGES); do
+	    install -m 644 "$$page" "$$root/share/doc/regtx/$$page"
+	done
+	for file in $(CLIENTS); do
+	    install -m 644 "$$file" "$$root/share/regtx/$$file"
+	done
+	printf '%s\n' "$$about" | grep -q '^proved by ' ||
+	    echo "regtx: the program that is installed isn't proved: regtx about says what it is" >&2
+
+# the files that install writes, and then regtx's own folders if they are empty. A DESTDIR holds nobody else's tree, so there all
+# folders go that are empty then; elsewhere bin, lib and their like stay
+uninstall:
+	@root=$$DESTDIR$$PREFIX
+	test -d "$$root" || exit 0
+	cd "$$root"
+	rm -f $(INSTALLED)
+	if test -z "$${DESTDIR%/}"; then
+	    for folder in share/regtx share/doc/regtx; do
+	        test ! -d $$folder || find $$folder -depth -type d -empty -delete
+	    done
+	    exit 0
+	fi
+	for folder in $(FOLDERS); do
+	    test ! -d $$folder || rmdir -p --ignore-fail-on-non-empty $$folder
+	done
+	cd "$$OLDPWD"
+	cd "$$DESTDIR"
+	test "$$PREFIX" = / || rmdir -p --ignore-fail-on-non-empty "$${PREFIX#/}"
