@@ -9,6 +9,8 @@ PREFIX = /usr/local
 DESTDIR =
 PROGRAM =
 LIBRARY = out/c
+# where zsh looks for functions; Debian's packages have theirs in share/zsh/vendor-completions
+ZSH_FUNCTIONS = share/zsh/site-functions
 export PREFIX DESTDIR PROGRAM LIBRARY
 
 MANUAL = out/regtx.1
@@ -19,7 +21,7 @@ CLIENTS = $(wildcard clients/*/README.md clients/python/*.py clients/c/*.[ch] \
     clients/rust/Cargo.toml clients/rust/Cargo.lock clients/rust/src/*.rs clients/rust/examples/*.rs)
 # all that is installed, below PREFIX
 INSTALLED = bin/regtx include/regtx.h lib/libregtx.a lib/libregtx.so lib/pkgconfig/regtx.pc share/man/man1/regtx.1 \
-    share/bash-completion/completions/regtx share/zsh/site-functions/_regtx \
+    share/bash-completion/completions/regtx $(ZSH_FUNCTIONS)/_regtx \
     $(PAGES:%=share/doc/regtx/%) $(CLIENTS:%=share/regtx/%)
 FOLDERS = $(sort $(patsubst %/,%,$(dir $(INSTALLED))))
 
@@ -64,7 +66,7 @@ install: program library $(MANUAL)
 	printf '%s\n' "$$config" | install -m 644 /dev/stdin "$$root/lib/pkgconfig/regtx.pc"
 	install -m 644 $(MANUAL) "$$root/share/man/man1/regtx.1"
 	install -m 644 completions/regtx.bash "$$root/share/bash-completion/completions/regtx"
-	install -m 644 completions/_regtx "$$root/share/zsh/site-functions/_regtx"
+	install -m 644 completions/_regtx "$$root/$(ZSH_FUNCTIONS)/_regtx"
 	for page in $(PAGES); do
 	    install -m 644 "$$page" "$$root/share/doc/regtx/$$page"
 	done
