@@ -9,6 +9,7 @@ RULE = re.compile(r"\|(?:---\|)+")
 # what would be another kind of block: a quote, a picture, a tag, code that is indented, a list below a list
 OTHER = re.compile(r"[><*+]|!\[|\s|-{3}|={3}|#{4}|~{3}")
 SPAN = re.compile(r"`(?P<code>[^`]+)`|\*\*(?P<bold>.+?)\*\*|\[(?P<link>[^\]]+)\]\([^)\s]+\)")
+MARK = re.compile(r"`|\*\*|\]\(")
 
 
 @dataclass
@@ -107,12 +108,19 @@ def blocks(text):
     return found
 
 
+def plain(text):
+    """A text without marks; one that is left has no other half."""
+    if MARK.search(text):
+        raise ValueError(f"a mark has no end: {text}")
+    return "plain", text
+
+
 def spans(text):
     """The parts of a text: each with its kind, which is plain, code or bold. A link is its words."""
     at = 0
     for match in SPAN.finditer(text):
         if match.start() > at:
-            yield "plain", text[at:match.start()]
+            yield plain(text[at:match.start()])
         if match["code"]:
             yield "code", match["code"]
         elif match["bold"]:
@@ -121,4 +129,4 @@ def spans(text):
             yield from spans(match["link"])
         at = match.end()
     if at < len(text):
-        yield "plain", text[at:]
+        yield plain(text[at:])
