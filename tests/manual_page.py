@@ -74,7 +74,7 @@ def cells(line):
 
 def passages(page):
     """What a page says, in parts that have to be found as they are: paragraphs, items, cells and lines of code."""
-    text = content(os.path.join(TOP, page)).decode().replace("./regtx help", "./regtx usage").replace("./regtx", "regtx")
+    text = content(os.path.join(TOP, page)).decode().replace("./regtx", "regtx")
     code = re.compile(r"^```.*\n((?:.*\n)*?)```$", re.M)
     for inner in code.findall(text):
         yield from inner.splitlines()
@@ -131,7 +131,7 @@ def matter(page, commands):
     refused = terms([*found["USING A STORE"], *found["SCRIPTS"]])
     for refusal in REFUSALS:
         yield expect(refusal, any(term.startswith(refusal) for term in refused), True)
-    for wrong in ("./regtx", "](", "**", "```", "regtx help"):
+    for wrong in ("./regtx", "](", "**", "```"):
         yield expect(f"the manual has {wrong}", solid(wrong) in text, False)
     for name in PAGES:
         yield expect(f"what is lost of {name}", lost(name, text), [])
