@@ -34,7 +34,7 @@ def head(bench, commit=None):
 
 def compiled(source, path, *flags):
     """The path of what is built of a source of bench/."""
-    subprocess.run(["cc", "-O2", *flags, "-o", path, f"{TOP}/bench/{source}"], check=True)
+    subprocess.run(["cc", "-O2", "-o", path, f"{TOP}/bench/{source}", *flags], check=True)
     return path
 
 

@@ -1,0 +1,88 @@
+/* Opens a hive by libregtx.a and reads all of it, for bench/library: walk_regtx FILE. */
+#include "regtx.h"
+#include "walk.h"
+
+#include <fcntl.h>
+#include <stdlib.h>
+#include <sys/mman.h>
+#include <sys/stat.h>
+#include <unistd.h>
+
+enum { MOST_UNITS = 512 * 256, FIRST_ROOM = 1 << 20 };
+
+static regtx_hive hive;
+static uint16_t path[MOST_UNITS], name[MOST_UNITS];
+static uint8_t *data;
+static size_t room = FIRST_ROOM;
+static struct sums sums;
+
+/* Ends this unless a call or a block of memory was given. */
+static void need(int is_given)
+{
+    if (!is_given)
+        exit(1);
+}
+
+static uint64_t with_name(uint64_t sum, const uint16_t *units, size_t len)
+{
+    for (size_t i = 0; i < len; i++)
+        sum = mixed(sum, units[i]);
+    return mixed(sum, 0);
+}
+
+static void read_value(size_t path_len, uint64_t sum, size_t index)
+{
+    size_t len;
+    uint32_t type, code;
+    need(regtx_hive_value_name_at(&hive, path, path_len, index, name, MOST_UNITS, &len) == REGTX_OK);
+    sum = with_name(sum, name, len);
+    while ((code = regtx_hive_value_at(&hive, path, path_len, index, &type, data, room, &len)) == REGTX_NO_ROOM) {
+        room = len;
+        need((data = realloc(data, room)) != NULL);
+    }
+    need(code == REGTX_OK);
+    add_value(&sums, sum, type, data, len);
+}
+
+static void read_key(size_t path_len, uint64_t sum)
+{
+    regtx_info info;
+    need(regtx_hive_info(&hive, path, path_len, &info) == REGTX_OK);
+    add_key(&sums, sum, info.subkeys, info.values);
+    for (size_t i = 0; i < info.values; i++)
+        read_value(path_len, sum, i);
+    size_t begin = path_len ? path_len + 1 : 0;
+    for (size_t i = 0, len; i < info.subkeys; i++) {
+        need(regtx_hive_key_at(&hive, path, path_len, i, path + begin, MOST_UNITS - begin, &len) == REGTX_OK);
+        if (path_len)
+            path[path_len] = '\\';
+        read_key(begin + len, with_name(sum, path + begin, len));
+    }
+}
+
+/* The file is mapped, as libhivex maps it; the library copies it. */
+static void open_file(const char *file)
+{
+    struct stat is;
+    int from = open(file, O_RDONLY);
+    need(from >= 0 && fstat(from, &is) == 0);
+    size_t len = (size_t)is.st_size;
+    void *bytes = mmap(NULL, len, PROT_READ, MAP_PRIVATE, from, 0);
+    need(bytes != MAP_FAILED && regtx_hive_open(bytes, len, &hive) == REGTX_OK);
+    munmap(bytes, len);
+    close(from);
+}
+
+int main(int count, char **words)
+{
+    need(count == 2);
+    int64_t begun = spent();
+    open_file(words[1]);
+    need((data = malloc(room)) != NULL);
+    int64_t opened = spent();
+    read_key(0, 0);
+    tell(begun, opened, spent(), &sums);
+    regtx_hive_close(&hive);
+    free(data);
+    return 0;
+}
