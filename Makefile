@@ -14,13 +14,14 @@ ZSH_FUNCTIONS = share/zsh/site-functions
 export PREFIX DESTDIR PROGRAM LIBRARY
 
 MANUAL = out/regtx.1
-LIBRARY_FILES = regtx.h libregtx.a libregtx.so
+SHARED = libregtx.so.0
+LIBRARY_FILES = regtx.h libregtx.a $(SHARED)
 PAGES = README.md docs/USING.md docs/SCRIPTS.md docs/REGFILES.md docs/LAB.md docs/SWEEP.md
 # sources, pages and examples; no tests, and nothing that was built
 CLIENTS = $(wildcard clients/*/README.md clients/python/*.py clients/c/*.[ch] \
     clients/rust/Cargo.toml clients/rust/Cargo.lock clients/rust/src/*.rs clients/rust/examples/*.rs)
 # all that is installed, below PREFIX
-INSTALLED = bin/regtx include/regtx.h lib/libregtx.a lib/libregtx.so lib/pkgconfig/regtx.pc share/man/man1/regtx.1 \
+INSTALLED = bin/regtx include/regtx.h lib/libregtx.a lib/$(SHARED) lib/libregtx.so lib/pkgconfig/regtx.pc share/man/man1/regtx.1 \
     share/bash-completion/completions/regtx $(ZSH_FUNCTIONS)/_regtx \
     $(PAGES:%=share/doc/regtx/%) $(CLIENTS:%=share/regtx/%)
 FOLDERS = $(sort $(patsubst %/,%,$(dir $(INSTALLED))))
@@ -62,7 +63,8 @@ install: program library $(MANUAL)
 	done
 	install -m 755 "$$program" "$$root/bin/regtx"
 	install -m 644 "$$LIBRARY/regtx.h" "$$root/include/regtx.h"
-	install -m 644 "$$LIBRARY/libregtx.a" "$$LIBRARY/libregtx.so" "$$root/lib"
+	install -m 644 "$$LIBRARY/libregtx.a" "$$LIBRARY/$(SHARED)" "$$root/lib"
+	ln -sf $(SHARED) "$$root/lib/libregtx.so"
 	printf '%s\n' "$$config" | install -m 644 /dev/stdin "$$root/lib/pkgconfig/regtx.pc"
 	install -m 644 $(MANUAL) "$$root/share/man/man1/regtx.1"
 	install -m 644 completions/regtx.bash "$$root/share/bash-completion/completions/regtx"

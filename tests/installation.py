@@ -12,8 +12,8 @@ SECONDS = 120
 PAGES = ["README.md", *[f"docs/{name}.md" for name in ("LAB", "REGFILES", "SCRIPTS", "SWEEP", "USING")]]
 MANUAL, ZSH, VENDOR_ZSH = "share/man/man1/regtx.1", "share/zsh/site-functions/_regtx", "share/zsh/vendor-completions/_regtx"
 # what has no client among it, with the modes
-FILES = {"bin/regtx": 0o755, **dict.fromkeys([
-    "include/regtx.h", "lib/libregtx.a", "lib/libregtx.so", "lib/pkgconfig/regtx.pc", MANUAL, ZSH,
+FILES = {"bin/regtx": 0o755, "lib/libregtx.so": None, **dict.fromkeys([
+    "include/regtx.h", "lib/libregtx.a", "lib/libregtx.so.0", "lib/pkgconfig/regtx.pc", MANUAL, ZSH,
     "share/bash-completion/completions/regtx", *[f"share/doc/regtx/{page}" for page in PAGES],
 ], 0o644)}
 # what the manual page is made of
@@ -75,7 +75,7 @@ def client_files():
 
 
 def expected_files():
-    """Each file that is installed below PREFIX, with its mode."""
+    """Each file that is installed below PREFIX, with its mode; a link has the mode None."""
     return {**FILES, **{f"share/regtx/{name}": 0o644 for name in client_files()}}
 
 
