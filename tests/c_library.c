@@ -2,7 +2,7 @@
  *
  *     c_library checks                          tries each call; a line for each thing that is wrong
  *     c_library failing FILE                    the same edits and reads with each allocation refused in turn
- *     c_library dump FILE                       prints a hive as `regtx dump` does, as far as paths lead
+ *     c_library dump FILE                       prints a hive as `regtx dump` does
  *     c_library rewrite FILE NEW                opens a hive, and writes it to another file
  *     c_library heavy FILE NEW                  opens a hive over the weight; writes it without its value 0:Big v00
  *     c_library mutate FILE SEED COUNT FOLDER   opens spoiled copies; some and their texts go to the folder
@@ -181,14 +181,13 @@ static void add_value(struct text *text, regtx_hive *hive, const struct units *p
     free(data);
 }
 
-/* adds the key at a path and all below it to which a path leads */
+/* adds the key at a path and all below it */
 static void add_key(struct text *text, regtx_hive *hive, struct units *path)
 {
     char some[32];
     regtx_info info;
     size_t before = path->len;
-    if (regtx_hive_info(hive, path->at, path->len, &info) != REGTX_OK)
-        return;
+    expect("a key that is listed", regtx_hive_info(hive, path->at, path->len, &info) == REGTX_OK);
     add(text, "key 0:");
     if (before)
         for (size_t from = 0, i = 0; i <= before; i++)
@@ -204,15 +203,15 @@ static void add_key(struct text *text, regtx_hive *hive, struct units *path)
     for (size_t i = 0; i < info.subkeys; i++) {
         size_t len;
         uint16_t *name = name_at(hive, path, i, false, &len);
-        if (before + 1 + len <= MOST_UNITS) {
-            path->len = before + (before ? 1 : 0);
-            if (before)
-                path->at[before] = '\\';
-            memcpy(path->at + path->len, name, 2 * len);
-            path->len += len;
-            add_key(text, hive, path);
-            path->len = before;
-        }
+        if (before + 1 + len > MOST_UNITS)
+            exit(2);
+        path->len = before + (before ? 1 : 0);
+        if (before)
+            path->at[before] = '\\';
+        memcpy(path->at + path->len, name, 2 * len);
+        path->len += len;
+        add_key(text, hive, path);
+        path->len = before;
         free(name);
     }
 }
@@ -334,6 +333,8 @@ static void check_keys(void)
     REFUSED(REGTX_NOT_FOUND, regtx_hive_info(&hive, PATH("None"), &info));
     REFUSED(REGTX_NOT_FOUND, regtx_hive_key_at(&hive, PATH(""), 1, name_units.at, 9, &made));
     REFUSED(REGTX_BAD_NAME, regtx_hive_info(&hive, PATH("A\\\\B"), &info));
+    REFUSED(REGTX_BAD_NAME, regtx_hive_info(&hive, PATH("Software\\"), &info));
+    REFUSED(REGTX_NOT_FOUND, regtx_hive_info(&hive, PATH("A\x7f"), &info));
     REFUSED(REGTX_BAD_NAME, regtx_hive_create_key(&hive, PATH("\\A"), 9, &made));
     REFUSED(REGTX_BAD_NAME, regtx_hive_create_key(&hive, PATH("A\x7f"), 9, &made));
     REFUSED(REGTX_FIXED, regtx_hive_delete_key(&hive, PATH(""), 9));
@@ -358,6 +359,7 @@ static const uint16_t *deep_path(size_t names, size_t *len)
 static void check_depth(void)
 {
     regtx_hive hive = {0};
+    regtx_info info;
     size_t made = 0, len;
     const uint16_t *path;
     EXPECT(regtx_hive_new(&hive) == REGTX_OK);
@@ -366,6 +368,9 @@ static void check_depth(void)
     REFUSED(REGTX_TOO_DEEP, regtx_hive_create_key(&hive, path, len, 1, &made));
     path = deep_path(513, &len);
     REFUSED(REGTX_TOO_DEEP, regtx_hive_create_key(&hive, path, len, 1, &made));
+    REFUSED(REGTX_TOO_DEEP, regtx_hive_info(&hive, path, len, &info));
+    path = deep_path(512, &len);
+    REFUSED(REGTX_NOT_FOUND, regtx_hive_info(&hive, path, len, &info));
     for (size_t names = 32; names <= 512; names += 32) {
         path = deep_path(names, &len);
         EXPECT(regtx_hive_create_key(&hive, path, len, 1, &made) == REGTX_OK && made == 32);
@@ -396,7 +401,7 @@ static void check_values(void)
     REFUSED(REGTX_NOT_FOUND, regtx_hive_value(&hive, PATH("K"), NAME("Version"), &type, data, 8, &len));
     REFUSED(REGTX_NOT_FOUND, regtx_hive_value_at(&hive, PATH(""), 2, &type, data, 8, &len));
     REFUSED(REGTX_NOT_FOUND, regtx_hive_value_name_at(&hive, PATH(""), (size_t)-1, name_units.at, 9, &len));
-    REFUSED(REGTX_BAD_NAME, regtx_hive_value(&hive, PATH(""), NAME("\x1f"), &type, data, 8, &len));
+    REFUSED(REGTX_NOT_FOUND, regtx_hive_value(&hive, PATH(""), NAME("\x1f"), &type, data, 8, &len));
     REFUSED(REGTX_BAD_NAME, regtx_hive_set_value(&hive, PATH(""), NAME("\n"), 1, data, 8, 9));
     REFUSED(REGTX_NOT_FOUND, regtx_hive_set_value(&hive, PATH("K"), NAME("v"), 1, data, 8, 9));
     REFUSED(REGTX_NOT_FOUND, regtx_hive_delete_value(&hive, PATH(""), NAME("None"), 9));

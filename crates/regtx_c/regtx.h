@@ -4,11 +4,10 @@
  * bytes of a whole hive file again. No call reads or writes a file.
  *
  * Text. Paths and names are UTF-16 units with a length, in the machine's byte order, and no zero ends them. A path is
- * key names joined by one backslash each; the empty path is the root. Letters `a` to `z` count as `A` to `Z`, so names
- * that differ in these alone are one name. A call may name units from 0x20 to 0x7e: key names of 1 to 255 units without
- * a backslash, at most 512 of them in a path, and value names of 0 to 16,383 units. The empty value name is the default
- * value's. Keys and values of a file may have other names. Such a key is listed, but no path leads to it; such a value
- * is read by its index.
+ * at most 512 key names joined by one backslash each, none of them empty; the empty path is the root. Letters `a` to `z`
+ * count as `A` to `Z`, so names that differ in these alone are one name. The empty value name is the default value's. A
+ * call that reads may name any units. A call that edits may name units from 0x20 to 0x7e: key names of at most 255 units,
+ * and value names of at most 16,383. Keys and values of a file that have other names are read, and stay as they are.
  *
  * Buffers. A call that hands out text or data takes a buffer, its room and `*len`. It sets `*len` to the length of what
  * there is. With REGTX_NO_ROOM the room is too small, and the buffer is as it was; call again with `*len` of room. With

@@ -1,8 +1,10 @@
 -- What a caller asks of a tree, by the text of a path and the units of a name.
-use Rattle.std.specs.Prelude.{◌≡◌, ◌⊎◌, ℕ, List, Result, Ok, Err, ok_or, option_map}
+use Rattle.std.specs.Prelude.{◌≡◌, ◌⊎◌, ℕ, nat_le, Bool, List, length, Result, Ok, Err, ok_or, option_map}
+use Rattle.std.specs.List.{list_all}
 use Rattle.refusals.specs.declared.refusal.Refusal.{Refusal}
 use Rattle.refusals.specs.declared.refusal.Refusal.TheVariants.{NotFound}
-use Rattle.reg_names.specs.Names.{folded_path, path_of, is_value_name, name_if}
+use Rattle.refusals.specs.declared.limits.TheConstants.{MOST_PATH_NAMES}
+use Rattle.reg_names.specs.Names.{folded_path, path_names, path_if}
 use Rattle.reg_tree_parts.specs.declared.value.Value.{Value}
 use Rattle.reg_tree.specs.Maps.{TreeMap}
 use Rattle.reg_tree.specs.Reads.{value_at, value_index, subkey_index, info_of}
@@ -15,26 +17,34 @@ abbrev pub with_names : {X : Type 0} → {N : Type 0} → Result N Refusal → (
 with_names (Ok names) ask = ask names
 with_names (Err why) ask = Err why
 
+-- a name that a key of a file may have: some units, whatever they are
+abbrev pub has_units : List ℕ → Bool
+has_units name = nat_le 1 (length name)
+
+-- the names by which a read looks for a key: those of the path's text, if none is empty and they are at most 512
+abbrev pub names_of : List ℕ → Result (List (List ℕ)) Refusal
+names_of text = path_if (list_all has_units (path_names text)) (nat_le (length (path_names text)) MOST_PATH_NAMES) (path_names text)
+
 -- the counts of a key
 abbrev pub key_info : List ℕ → TreeMap → Result Info Refusal
-key_info text tree = with_names (path_of text) (λ path. ok_or (info_of tree (folded_path path)) NotFound)
+key_info text tree = with_names (names_of text) (λ path. ok_or (info_of tree (folded_path path)) NotFound)
 
 -- the name of a subkey, by its index
 abbrev pub key_name : List ℕ → ℕ → TreeMap → Result (List ℕ) Refusal
-key_name text index tree = with_names (path_of text) (λ path. ok_or (subkey_index tree (folded_path path) index) NotFound)
+key_name text index tree = with_names (names_of text) (λ path. ok_or (subkey_index tree (folded_path path) index) NotFound)
 
 -- the name of a value, by its index
 abbrev pub value_name : List ℕ → ℕ → TreeMap → Result (List ℕ) Refusal
-value_name text index tree = with_names (path_of text) (λ path. ok_or (option_map (λ value. value.name) (value_index tree (folded_path path) index)) NotFound)
+value_name text index tree = with_names (names_of text) (λ path. ok_or (option_map (λ value. value.name) (value_index tree (folded_path path) index)) NotFound)
 
 -- a value, by its index
 abbrev pub indexed_value : List ℕ → ℕ → TreeMap → Result Value Refusal
-indexed_value text index tree = with_names (path_of text) (λ path. ok_or (value_index tree (folded_path path) index) NotFound)
+indexed_value text index tree = with_names (names_of text) (λ path. ok_or (value_index tree (folded_path path) index) NotFound)
 
 -- a value, by its name
 abbrev pub named_value : List ℕ → List ℕ → TreeMap → Result Value Refusal
 named_value text name tree =
-    with_names (path_of text) (λ path. with_names (name_if (is_value_name name) name) (λ spelled. ok_or (value_at tree (folded_path path) spelled) NotFound))
+    with_names (names_of text) (λ path. ok_or (value_at tree (folded_path path) name) NotFound)
 
 -- counts are told, or the number says why there are none, and nothing is written
 abbrev pub TellsInfo : Result Info ℕ → KeyInfo → KeyInfo → ℕ → Type 0

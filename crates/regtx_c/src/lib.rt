@@ -14,6 +14,7 @@ mod files;
 mod handle;
 pub mod laws;
 mod loose;
+mod names;
 mod opening;
 mod reads;
 mod room;

@@ -1,14 +1,20 @@
-//! Reading keys and values. A read takes the hive out of its handle, and puts it back.
-ghost use Rattle.std.specs.Prelude.{◌≡◌};
+//! Reading keys and values, whatever units their names have. A read takes the hive out of its handle, and puts it back.
+ghost use Rattle.std.specs.Prelude.{◌≡◌, [], IfSome, IfNone};
+ghost use Rattle.reg_names.specs.Names.{folded_path};
+ghost use Rattle.reg_tree_parts.specs.Nodes.{names_below, row_at};
+ghost use Rattle.reg_tree.specs.Maps.{row, subkeys};
 ghost use Rattle.regtx_c.specs.Handles.{asked, coded, tree_in};
 ghost use Rattle.regtx_c.specs.Buffers.{CopiesOrNoMemory, CopiesValueOrNoMemory};
 ghost use Rattle.regtx_c.specs.Questions.{key_info, key_name, value_name, indexed_value, named_value, TellsInfoOrNoMemory};
 
 use crate::codes::{NOT_OPEN, OK, code_of};
 use crate::handle::{Handle, put, take};
+use crate::names::names_of;
 use crate::room::copy;
-use reg_names::{Name, Path};
+use refusals::Refusal;
+use reg_names::Name;
 use reg_tree::Tree;
+use reg_tree_parts::Node;
 use std::alloc::Global;
 
 /// What a key has.
@@ -23,25 +29,35 @@ pub struct KeyInfo {
     pub time: u64,
 }
 
+// the node of the key to which the names lead
+fn node<'a>(tree: &'a Tree, names: &[Name]) -> Option<&'a Node>
+    ensures key { IfSome result (λ node. row tree.now (folded_path names.now) ≡ row_at node.now []) }
+    ensures names { IfSome result (λ node. subkeys tree.now (folded_path names.now) ≡ names_below [] node.now) }
+    ensures missing { IfNone result (row tree.now (folded_path names.now) ≡ None) }
+{
+    match tree.root().find(names) {
+        Some(node) => Some(node),
+        None => None,
+    }
+}
+
 // tells what the key at a path has
 fn tell_info(alloc: Global, tree: &Tree, path: &[u16], info: &mut KeyInfo) -> u32
     ensures { TellsInfoOrNoMemory (coded (key_info path.now tree.now)) info.old info.new result }
 {
-    let path = match Path::parse(alloc, path) {
-        Ok(path) => path,
+    let names = match names_of(alloc, path) {
+        Ok(names) => names,
         Err(why) => return code_of(why),
     };
-    match tree.query_info(&path) {
-        Ok(found) => {
-            *info = KeyInfo {
-                subkeys: found.subkeys as u64,
-                values: found.values as u64,
-                time: found.time,
-            };
-            OK
-        }
-        Err(why) => code_of(why),
-    }
+    let Some(node) = node(tree, &names) else {
+        return code_of(Refusal::NotFound);
+    };
+    *info = KeyInfo {
+        subkeys: node.subkey_count() as u64,
+        values: node.key().values().len() as u64,
+        time: node.key().time(),
+    };
+    OK
 }
 
 /// Tells how many subkeys and values the key at a path has, and when it was last written.
@@ -76,13 +92,17 @@ fn tell_key(
     ensures { CopiesOrNoMemory (coded (key_name path.now index tree.now))
         name.old name.new len.old len.new result }
 {
-    let path = match Path::parse(alloc, path) {
-        Ok(path) => path,
+    let names = match names_of(alloc, path) {
+        Ok(names) => names,
         Err(why) => return code_of(why),
     };
-    match tree.enum_key(&path, index) {
-        Ok(found) => copy(found.units(), name, len),
-        Err(why) => code_of(why),
+    let Some(node) = node(tree, &names) else {
+        return code_of(Refusal::NotFound);
+    };
+    let _ = node.key(); // for the prover
+    match node.subkey(index) {
+        Some(found) => copy(found.units(), name, len),
+        None => code_of(Refusal::NotFound),
     }
 }
 
@@ -120,13 +140,16 @@ fn tell_value_name(
     ensures { CopiesOrNoMemory (coded (value_name path.now index tree.now))
         name.old name.new len.old len.new result }
 {
-    let path = match Path::parse(alloc, path) {
-        Ok(path) => path,
+    let names = match names_of(alloc, path) {
+        Ok(names) => names,
         Err(why) => return code_of(why),
     };
-    match tree.enum_value(&path, index) {
-        Ok(found) => copy(found.name.units(), name, len),
-        Err(why) => code_of(why),
+    let Some(node) = node(tree, &names) else {
+        return code_of(Refusal::NotFound);
+    };
+    match node.key().values().at(index) {
+        Some(found) => copy(found.name.units(), name, len),
+        None => code_of(Refusal::NotFound),
     }
 }
 
@@ -165,16 +188,19 @@ fn tell_value_at(
     ensures { CopiesValueOrNoMemory (coded (indexed_value path.now index tree.now))
         kind.old kind.new data.old data.new len.old len.new result }
 {
-    let path = match Path::parse(alloc, path) {
-        Ok(path) => path,
+    let names = match names_of(alloc, path) {
+        Ok(names) => names,
         Err(why) => return code_of(why),
     };
-    match tree.enum_value(&path, index) {
-        Ok(value) => {
+    let Some(node) = node(tree, &names) else {
+        return code_of(Refusal::NotFound);
+    };
+    match node.key().values().at(index) {
+        Some(value) => {
             *kind = value.kind;
             copy(value.data.bytes(), data, len)
         }
-        Err(why) => code_of(why),
+        None => code_of(Refusal::NotFound),
     }
 }
 
@@ -214,20 +240,22 @@ fn tell_value(
     ensures { CopiesValueOrNoMemory (coded (named_value path.now name.now tree.now))
         kind.old kind.new data.old data.new len.old len.new result }
 {
-    let path = match Path::parse(alloc, path) {
-        Ok(path) => path,
+    let names = match names_of(alloc, path) {
+        Ok(names) => names,
         Err(why) => return code_of(why),
     };
-    let name = match Name::value(alloc, name) {
-        Ok(name) => name,
-        Err(why) => return code_of(why),
+    let Some(node) = node(tree, &names) else {
+        return code_of(Refusal::NotFound);
     };
-    match tree.get_value(&path, name.name()) {
-        Ok(value) => {
+    let Ok(name) = Name::stored(alloc, name) else {
+        return code_of(Refusal::NoMemory);
+    };
+    match node.key().values().get(&name) {
+        Some(value) => {
             *kind = value.kind;
             copy(value.data.bytes(), data, len)
         }
-        Err(why) => code_of(why),
+        None => code_of(Refusal::NotFound),
     }
 }
 
