@@ -5,12 +5,11 @@
  *
  * It prints a line [KEY] for each key, and below it a line NAME TYPE DATA for each of its values.
  * The data are hexadecimal digits, or - for none. The default value's name is @. Names are UTF-8. A
- * unit that would not be seen, a percent sign and half a surrogate pair are a % and four digits. A
- * key to which no path leads has a refusal after it, and stays as it is.
+ * unit that would not be seen, a percent sign and half a surrogate pair are a % and four digits.
  *
- * The value is a REG_DWORD, and its key must be there. OUT may be IN. The new hive is written as
- * OUT.new, which must not be there, and gets its name once it is on the disk. So OUT is the old
- * file or the new one.
+ * The value is a REG_DWORD, and its key must be there. KEY and NAME are ASCII. OUT may be IN. The
+ * new hive is written as OUT.new, which must not be there, and gets its name once it is on the
+ * disk. So OUT is the old file or the new one.
  *
  * Status 0: done. 1: something was refused, and OUT is as it was. 2: the words are wrong.
  *
@@ -252,14 +251,10 @@ static uint32_t print_key(struct walk *walk)
     size_t len = walk->path.len;
     regtx_info info;
     uint32_t code = regtx_hive_info(walk->hive, walk->path.at, len, &info);
-    if (code != REGTX_OK && code != REGTX_BAD_NAME)
+    if (code)
         return code;
     putchar('[');
     print_units(walk->path.at, len);
-    if (code == REGTX_BAD_NAME) { /* no call may name it */
-        fputs("] E4 BadName\n", stdout);
-        return REGTX_OK;
-    }
     fputs("]\n", stdout);
     for (size_t i = 0; i < info.values; i++)
         if ((code = print_value(walk, i)))

@@ -16,7 +16,7 @@ from ctypes import POINTER, byref, c_char_p, c_size_t, c_uint8, c_uint16, c_uint
 from typing import BinaryIO, Callable, Iterator, List, Optional, Tuple
 
 REG_DWORD, MOST_NUMBER = 4, 0xffff_ffff
-OK, BAD_NAME, NO_ROOM = 0, 4, 101
+OK, NO_ROOM = 0, 101
 FIRST_ROOM = 256
 UTF_16 = "utf-16-le" if sys.byteorder == "little" else "utf-16-be"
 
@@ -180,13 +180,7 @@ def spelled_value(name: str) -> str:
 
 def print_key(hive: Hive, path: str, to: BinaryIO) -> None:
     """Prints the key at a path, and all below it: 512 levels at most."""
-    try:
-        info = hive.info(path)
-    except HiveError as refusal:
-        if refusal.code != BAD_NAME:
-            raise
-        to.write(f"[{spelled(path)}] {refusal}\n".encode())     # no call may name it
-        return
+    info = hive.info(path)
     to.write(f"[{spelled(path)}]\n".encode())
     for index in range(info.values):
         kind, data = hive.value_at(path, index)

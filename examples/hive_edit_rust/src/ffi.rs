@@ -3,7 +3,6 @@
 use std::ffi::c_void;
 
 pub const OK: u32 = 0;
-pub const BAD_NAME: u32 = 4;
 pub const NO_ROOM: u32 = 101;
 
 #[repr(C)]

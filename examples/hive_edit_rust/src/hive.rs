@@ -11,9 +11,6 @@ use std::{error, fmt, ptr};
 pub struct Error(u32);
 
 impl Error {
-    /// A path or a name that no call may hand in.
-    pub const BAD_NAME: Error = Error(ffi::BAD_NAME);
-
     fn of(code: u32) -> Result<(), Error> {
         if code == ffi::OK {
             Ok(())

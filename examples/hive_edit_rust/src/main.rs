@@ -109,14 +109,7 @@ impl From<io::Error> for Unprinted {
 
 /// Prints the key at a path, and all below it: 512 levels at most.
 fn print_key(hive: &mut Hive, path: &mut Vec<u16>, to: &mut impl Write) -> Result<(), Unprinted> {
-    let info = match hive.info(path) {
-        Err(why @ Error::BAD_NAME) => {
-            // no call may name it
-            writeln!(to, "[{}] {why}", spelled(path))?;
-            return Ok(());
-        }
-        other => other?,
-    };
+    let info = hive.info(path)?;
     writeln!(to, "[{}]", spelled(path))?;
     for index in 0..info.values as usize {
         let name = hive.value_name_at(path, index)?;
