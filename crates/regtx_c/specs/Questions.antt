@@ -1,12 +1,12 @@
 -- What a caller asks of a tree, by the text of a path and the units of a name.
-use Rattle.std.specs.Prelude.{◌≡◌, ◌⊎◌, ℕ, nat_le, Bool, List, length, Result, Ok, Err, ok_or, option_map}
+use Rattle.std.specs.Prelude.{◌≡◌, ◌⊎◌, ℕ, nat_le, Bool, List, length, Option, None, Result, Ok, Err, ok_or, option_map}
 use Rattle.std.specs.List.{list_all}
 use Rattle.refusals.specs.declared.refusal.Refusal.{Refusal}
 use Rattle.refusals.specs.declared.refusal.Refusal.TheVariants.{NotFound}
 use Rattle.refusals.specs.declared.limits.TheConstants.{MOST_PATH_NAMES}
 use Rattle.reg_names.specs.Names.{folded_path, path_names, path_if}
 use Rattle.reg_tree_parts.specs.declared.value.Value.{Value}
-use Rattle.reg_tree.specs.Maps.{TreeMap}
+use Rattle.reg_tree.specs.Maps.{TreeMap, row}
 use Rattle.reg_tree.specs.Reads.{value_at, value_index, subkey_index, info_of}
 use Rattle.reg_tree.specs.declared.tree.Info.{Info}
 use Rattle.regtx_c.specs.declared.codes.TheConstants.{OK, NO_MEMORY}
@@ -24,6 +24,12 @@ has_units name = nat_le 1 (length name)
 -- the names by which a read looks for a key: those of the path's text, if none is empty and they are at most 512
 abbrev pub names_of : List ℕ → Result (List (List ℕ)) Refusal
 names_of text = path_if (list_all has_units (path_names text)) (nat_le (length (path_names text)) MOST_PATH_NAMES) (path_names text)
+
+-- a path's text leads to no key for this reason: its names are refused, or no key is there
+abbrev pub LeadsNowhere : List ℕ → TreeMap → Refusal → Type 0
+LeadsNowhere text tree why =
+    (names_of text ≡ Err why)
+    ⊎ ((names_of text ≡ Ok (path_names text)) × (row tree (folded_path (path_names text)) ≡ None) × (why ≡ NotFound))
 
 -- the counts of a key
 abbrev pub key_info : List ℕ → TreeMap → Result Info Refusal

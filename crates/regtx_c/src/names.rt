@@ -20,7 +20,8 @@ const _: () = prove!(SEPARATOR == 0x5c);
 ///
 /// Refused with `BadName` exactly if a name is empty. Else refused with `TooDeep` exactly if they are more than 512.
 pub(crate) fn names_of(alloc: Global, text: &[u16]) -> Result<Vec<Name>, Refusal>
-    ensures { MatchResult result (λ names. names_of text.now ≡ Ok names.items)
+    ensures { MatchResult result
+        (λ names. (names.items ≡ path_names text.now) × (names_of text.now ≡ Ok names.items))
         (λ why. (why ≡ NoMemory) ⊎ (names_of text.now ≡ Err why)) }
 {
     let names = match parts(alloc, text) {

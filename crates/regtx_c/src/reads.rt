@@ -1,11 +1,12 @@
 //! Reading keys and values, whatever units their names have. A read takes the hive out of its handle, and puts it back.
-ghost use Rattle.std.specs.Prelude.{◌≡◌, [], IfSome, IfNone};
-ghost use Rattle.reg_names.specs.Names.{folded_path};
+ghost use Rattle.std.specs.Prelude.{◌≡◌, ◌⊎◌, [], Ok, Err, IfSome, IfNone, IfOk, IfErr, MatchResult};
+ghost use Rattle.refusals.specs.declared.refusal.Refusal.TheVariants.{NoMemory};
+ghost use Rattle.reg_names.specs.Names.{folded_path, path_names};
 ghost use Rattle.reg_tree_parts.specs.Nodes.{names_below, row_at};
 ghost use Rattle.reg_tree.specs.Maps.{row, subkeys};
 ghost use Rattle.regtx_c.specs.Handles.{asked, coded, tree_in};
 ghost use Rattle.regtx_c.specs.Buffers.{CopiesOrNoMemory, CopiesValueOrNoMemory};
-ghost use Rattle.regtx_c.specs.Questions.{key_info, key_name, value_name, indexed_value, named_value, TellsInfoOrNoMemory};
+ghost use Rattle.regtx_c.specs.Questions.{key_info, key_name, value_name, indexed_value, named_value, names_of, LeadsNowhere, TellsInfoOrNoMemory};
 
 use crate::codes::{NOT_OPEN, OK, code_of};
 use crate::handle::{Handle, put, take};
@@ -14,7 +15,7 @@ use crate::room::copy;
 use refusals::Refusal;
 use reg_names::Name;
 use reg_tree::Tree;
-use reg_tree_parts::Node;
+use reg_tree_parts::{Node, Value};
 use std::alloc::Global;
 
 /// What a key has.
@@ -41,16 +42,72 @@ fn node<'a>(tree: &'a Tree, names: &[Name]) -> Option<&'a Node>
     }
 }
 
+// the node of the key at a path
+fn key_node<'a>(alloc: Global, tree: &'a Tree, path: &[u16]) -> Result<&'a Node, Refusal>
+    ensures named { IfOk result (λ _. names_of path.now ≡ Ok (path_names path.now)) }
+    ensures key { IfOk result (λ node. row tree.now (folded_path (path_names path.now)) ≡ row_at node.now []) }
+    ensures names { IfOk result (λ node.
+        subkeys tree.now (folded_path (path_names path.now)) ≡ names_below [] node.now) }
+    ensures refused { IfErr result (λ why. (why ≡ NoMemory) ⊎ LeadsNowhere path.now tree.now why) }
+{
+    let names = match names_of(alloc, path) {
+        Ok(names) => names,
+        Err(why) => return Err(why),
+    };
+    match node(tree, &names) {
+        Some(node) => Ok(node),
+        None => Err(Refusal::NotFound),
+    }
+}
+
+// the value at an index of the key at a path
+fn value_of_index<'a>(
+    alloc: Global,
+    tree: &'a Tree,
+    path: &[u16],
+    index: usize,
+) -> Result<&'a Value, Refusal>
+    ensures { MatchResult result (λ value. indexed_value path.now index tree.now ≡ Ok value.now)
+        (λ why. (why ≡ NoMemory) ⊎ (indexed_value path.now index tree.now ≡ Err why)) }
+{
+    let node = match key_node(alloc, tree, path) {
+        Ok(node) => node,
+        Err(why) => return Err(why),
+    };
+    match node.key().values().at(index) {
+        Some(value) => Ok(value),
+        None => Err(Refusal::NotFound),
+    }
+}
+
+// the value of a name of the key at a path
+fn value_of_name<'a>(
+    alloc: Global,
+    tree: &'a Tree,
+    path: &[u16],
+    name: &[u16],
+) -> Result<&'a Value, Refusal>
+    ensures { MatchResult result (λ value. named_value path.now name.now tree.now ≡ Ok value.now)
+        (λ why. (why ≡ NoMemory) ⊎ (named_value path.now name.now tree.now ≡ Err why)) }
+{
+    let node = match key_node(alloc, tree, path) {
+        Ok(node) => node,
+        Err(why) => return Err(why),
+    };
+    let name = Name::stored(alloc, name)?;
+    match node.key().values().get(&name) {
+        Some(value) => Ok(value),
+        None => Err(Refusal::NotFound),
+    }
+}
+
 // tells what the key at a path has
 fn tell_info(alloc: Global, tree: &Tree, path: &[u16], info: &mut KeyInfo) -> u32
     ensures { TellsInfoOrNoMemory (coded (key_info path.now tree.now)) info.old info.new result }
 {
-    let names = match names_of(alloc, path) {
-        Ok(names) => names,
+    let node = match key_node(alloc, tree, path) {
+        Ok(node) => node,
         Err(why) => return code_of(why),
-    };
-    let Some(node) = node(tree, &names) else {
-        return code_of(Refusal::NotFound);
     };
     *info = KeyInfo {
         subkeys: node.subkey_count() as u64,
@@ -92,12 +149,9 @@ fn tell_key(
     ensures { CopiesOrNoMemory (coded (key_name path.now index tree.now))
         name.old name.new len.old len.new result }
 {
-    let names = match names_of(alloc, path) {
-        Ok(names) => names,
+    let node = match key_node(alloc, tree, path) {
+        Ok(node) => node,
         Err(why) => return code_of(why),
-    };
-    let Some(node) = node(tree, &names) else {
-        return code_of(Refusal::NotFound);
     };
     let _ = node.key(); // for the prover
     match node.subkey(index) {
@@ -140,16 +194,9 @@ fn tell_value_name(
     ensures { CopiesOrNoMemory (coded (value_name path.now index tree.now))
         name.old name.new len.old len.new result }
 {
-    let names = match names_of(alloc, path) {
-        Ok(names) => names,
-        Err(why) => return code_of(why),
-    };
-    let Some(node) = node(tree, &names) else {
-        return code_of(Refusal::NotFound);
-    };
-    match node.key().values().at(index) {
-        Some(found) => copy(found.name.units(), name, len),
-        None => code_of(Refusal::NotFound),
+    match value_of_index(alloc, tree, path, index) {
+        Ok(value) => copy(value.name.units(), name, len),
+        Err(why) => code_of(why),
     }
 }
 
@@ -188,19 +235,12 @@ fn tell_value_at(
     ensures { CopiesValueOrNoMemory (coded (indexed_value path.now index tree.now))
         kind.old kind.new data.old data.new len.old len.new result }
 {
-    let names = match names_of(alloc, path) {
-        Ok(names) => names,
-        Err(why) => return code_of(why),
-    };
-    let Some(node) = node(tree, &names) else {
-        return code_of(Refusal::NotFound);
-    };
-    match node.key().values().at(index) {
-        Some(value) => {
+    match value_of_index(alloc, tree, path, index) {
+        Ok(value) => {
             *kind = value.kind;
             copy(value.data.bytes(), data, len)
         }
-        None => code_of(Refusal::NotFound),
+        Err(why) => code_of(why),
     }
 }
 
@@ -240,22 +280,12 @@ fn tell_value(
     ensures { CopiesValueOrNoMemory (coded (named_value path.now name.now tree.now))
         kind.old kind.new data.old data.new len.old len.new result }
 {
-    let names = match names_of(alloc, path) {
-        Ok(names) => names,
-        Err(why) => return code_of(why),
-    };
-    let Some(node) = node(tree, &names) else {
-        return code_of(Refusal::NotFound);
-    };
-    let Ok(name) = Name::stored(alloc, name) else {
-        return code_of(Refusal::NoMemory);
-    };
-    match node.key().values().get(&name) {
-        Some(value) => {
+    match value_of_name(alloc, tree, path, name) {
+        Ok(value) => {
             *kind = value.kind;
             copy(value.data.bytes(), data, len)
         }
-        None => code_of(Refusal::NotFound),
+        Err(why) => code_of(why),
     }
 }
 
