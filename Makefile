@@ -1,6 +1,6 @@
 # Installs the program, its manual page, its clients and the library for C. docs/INSTALLING.md says more.
 #
-#   make                              builds what is missing: the program, the library and the manual page
+#   make                              builds the program, the library and the manual page, if they are missing or stale
 #   make install PREFIX=/usr/local    installs it; with DESTDIR=FOLDER into a folder that stands for the root
 #   make uninstall PREFIX=/usr/local  removes it, with the same DESTDIR
 #
@@ -38,11 +38,9 @@ all: program library $(MANUAL)
 program:
 	@test -n "$$PROGRAM" || tools/build_quick --which regtx >/dev/null
 
-# the folder that tools/c_library writes is made if a file is missing; another one has to have them
+# the folder that tools/c_library writes is made anew if it is older than its sources; another one has to have all files
 library:
-	@for file in $(LIBRARY_FILES); do
-	    test -e "$$LIBRARY/$$file" || test "$$LIBRARY" != out/c || { tools/c_library out/c; break; }
-	done
+	@test "$$LIBRARY" != out/c || tools/c_library --if-stale out/c
 	for file in $(LIBRARY_FILES); do
 	    test -e "$$LIBRARY/$$file" || { echo "regtx: $$LIBRARY has no $$file" >&2; exit 1; }
 	done
