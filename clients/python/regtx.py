@@ -26,7 +26,6 @@ from enum import IntEnum
 from typing import Callable, Dict, List, Optional, Sequence, Set, Tuple, Type, Union
 
 __version__ = "0.9.0"
-
 Folder = Union[str, "os.PathLike[str]"]
 
 # the greatest numbers that lines and the program's words can carry
