@@ -1,5 +1,5 @@
 -- What a caller asks of a tree, by the text of a path and the units of a name.
-use Rattle.std.specs.Prelude.{◌≡◌, ◌⊎◌, ℕ, nat_le, Bool, List, length, Option, None, Result, Ok, Err, ok_or, option_map}
+use Rattle.std.specs.Prelude.{◌≡◌, ◌⊎◌, ℕ, nat_le, Bool, List, length, None, Result, Ok, Err, ok_or, option_map}
 use Rattle.std.specs.List.{list_all}
 use Rattle.refusals.specs.declared.refusal.Refusal.{Refusal}
 use Rattle.refusals.specs.declared.refusal.Refusal.TheVariants.{NotFound}
