@@ -1,15 +1,33 @@
-"""The crates of crates.txt, what each stands on, and whether what was built of them is as new as its files."""
+"""The crates of crates.txt and the programs of tests/programs.txt, what each stands on, and whether what was built is as new as its
+files."""
 import os
 
 TOP = os.path.dirname(os.path.dirname(os.path.abspath(__file__)))
+CRATES, PROGRAMS = f"{TOP}/crates.txt", f"{TOP}/tests/programs.txt"
 
 
-def crates():
-    """The crates of the repository, each with the crates and the libraries of the toolchain that its line names."""
-    with open(f"{TOP}/crates.txt", encoding="utf-8") as file:
+def lines_of(path):
+    """The names of a list, each with the crates and the libraries of the toolchain that its line names."""
+    with open(path, encoding="utf-8") as file:
         lines = [line.split("#")[0].strip() for line in file]
     named = [line.split(":", 1) for line in lines if line]
     return {head.split()[0]: tail.split() for head, tail in named}
+
+
+def crates():
+    """The crates of the repository, each of which is proved."""
+    return lines_of(CRATES)
+
+
+def programs():
+    """The programs that only try or measure the crates, and are built without proofs."""
+    return lines_of(PROGRAMS)
+
+
+def folder_of(name):
+    """The folder of a crate, or of a program of tests/programs.txt."""
+    places = [f"{TOP}/{place}/{name}" for place in ("crates", "tests", "bench")]
+    return next(place for place in places if os.path.isdir(place))
 
 
 def static_libraries():
@@ -38,11 +56,11 @@ def is_program(crate):
     return os.path.exists(f"{TOP}/crates/{crate}/src/main.rt")
 
 
-def newest(crate, parts):
-    """When a file in these folders of the crate was last changed, put there or taken away."""
-    moments = [0.0]
-    for part in parts:
-        for folder, _, files in os.walk(f"{TOP}/crates/{crate}/{part}"):
+def newest(name, parts):
+    """When a file in these folders of a crate, or in the folder of a program, was last changed, put there or taken away."""
+    moments, home = [0.0], folder_of(name)
+    for top in [f"{home}/{part}" for part in parts] if home.startswith(f"{TOP}/crates/") else [home]:
+        for folder, _, files in os.walk(top):
             moments += [os.stat(folder).st_mtime, *(os.stat(os.path.join(folder, file)).st_mtime for file in files)]
     return max(moments)
 
@@ -52,4 +70,5 @@ def is_fresh(made, program, graph, parts):
     if not os.access(made, os.X_OK):
         return False
     sources = max(newest(crate, parts) for crate in [program, *below(program, graph)])
-    return os.stat(made).st_mtime >= max(sources, os.stat(f"{TOP}/crates.txt").st_mtime)
+    lists = [CRATES] if program in crates() else [CRATES, PROGRAMS]
+    return os.stat(made).st_mtime >= max(sources, *(os.stat(path).st_mtime for path in lists))

@@ -1,0 +1,7 @@
+//! Tests of a store over the disk in memory, by calls that no script makes: what no clause says.
+
+mod calls;
+mod creations;
+mod openings;
+mod prepared;
+mod stores;
