@@ -5,7 +5,7 @@ import shlex
 
 import shells
 from installation import ZSH, content
-from scratch import expect
+from scratch import expect, skip
 
 BASH = "share/bash-completion/completions/regtx"
 # what a folder has: files and folders, as names of them complete
@@ -88,7 +88,7 @@ def results(prefix, commands, home):
             pass
     for make in (shells.bash(os.path.join(prefix, BASH), place), shells.zsh(functions, place)):
         if make is None:
-            print("completion: skipped: zsh isn't there")
+            skip("completion", "zsh isn't there")
             continue
         with make as shell:
             for line, words in asked(shell, commands):

@@ -10,7 +10,7 @@ import time
 
 from installation import (MANUAL, TOP, VENDOR_ZSH, ZSH, content, differences, environment, expected_files, folders, modes, printed,
                           ran, readme)
-from scratch import as_other, expect
+from scratch import are_there, as_other, expect, skip
 
 SYMBOL = re.compile(r"@GLIBC_([\d.]+)")
 LINKED = ["usr/bin/regtx", "usr/lib/libregtx.so.0"]
@@ -47,7 +47,7 @@ def builds(make, made, again):
     """The package is made by this user and by another one."""
     other = builder()
     if not other:
-        print("package: skipped: it isn't made by another user than this one, who can't use the repository or isn't there")
+        skip("package", "it isn't made by another user than this one, who can't use the repository or isn't there")
     for package, given in [(made, {}), (again, other)]:
         os.mkdir(os.path.dirname(package))
         os.chmod(os.path.dirname(package), 0o777)
@@ -83,7 +83,7 @@ def fields(package, root, version, architecture, home):
         yield expect(name, field(name), wanted)
     depends = shlibdeps(root, home)
     if depends is None:
-        print("package: skipped: dpkg-shlibdeps isn't there")
+        skip("package", "dpkg-shlibdeps isn't there")
     else:
         yield expect("Depends, by dpkg-shlibdeps", field("Depends"), depends)
     names = sorted(line.split(":")[0] for line in printed("dpkg-deb", "-f", package).splitlines() if not line.startswith(" "))
@@ -170,9 +170,10 @@ def used(version, reader, read, home):
     for name, flags in [("plain", "-lregtx"), ("configured", "$(pkg-config --cflags --libs regtx)")]:
         command = f"cc -std=c11 -Wall -Werror -o {name} packaged.c {flags} && ./{name} {hive}"
         yield expect(flags, ran("sh", "-c", command, cwd=home, env=path), (read, "", 0))
-    if shutil.which("man"):
+    tools = are_there("package", "man", "zsh")
+    if "man" in tools:
         yield expect("man", ran("man", "-w", "regtx", env=path), (f"/usr/{MANUAL}.gz\n", "", 0))
-    if shutil.which("zsh"):
+    if "zsh" in tools:
         yield expect("zsh", ran("zsh", "-fc", "autoload -Uz compinit && compinit -u -D && print $_comps[regtx]"), ("_regtx\n", "", 0))
 
 
@@ -207,8 +208,7 @@ def reason():
 
 
 def results(make, version, reader, read, home):
-    if not shutil.which("dpkg-deb"):
-        print("package: skipped: dpkg-deb isn't there")
+    if not are_there("package", "dpkg-deb"):
         return
     architecture = printed("dpkg", "--print-architecture").strip()
     made = [os.path.join(home, folder, f"regtx_{version}_{architecture}.deb") for folder in ("packages", "again")]
@@ -219,6 +219,6 @@ def results(make, version, reader, read, home):
     yield from contents(made[0], root)
     why = reason()
     if why:
-        print(f"package: skipped: it isn't installed by dpkg, since {why}")
+        skip("package", f"it isn't installed by dpkg, since {why}")
     else:
         yield from installed(made[0], version, reader, read, home)

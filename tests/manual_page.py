@@ -1,10 +1,9 @@
 """What is wrong with the manual page: its form by groff and mandoc, and what it has of the pages and of the program's usages."""
 import os
 import re
-import shutil
 
 from installation import MANUAL, SOURCES, TOP, content, copied, environment, ran, readme
-from scratch import expect
+from scratch import are_there, expect
 
 SECTIONS = ["NAME", "SYNOPSIS", "DESCRIPTION", "USING A STORE", "SCRIPTS", "EXIT STATUS", "FILES", "EXAMPLES", "SEE ALSO"]
 PAGES, ENDS = ["docs/USING.md", "docs/SCRIPTS.md"], "How a run ends"
@@ -102,14 +101,13 @@ def form(page, version):
     yield expect("groff's line of the page", lines[-1].split()[:2], ["regtx", version])
     yield expect("the sections", list(sections(lines)), SECTIONS)
     yield expect("the parts", [line.strip() for line in lines if re.match(r" {3}\S", line)], parts())
-    if shutil.which("mandoc"):
+    tools = are_there("manual", "mandoc", "man", "lexgrog")
+    if "mandoc" in tools:
         yield expect("mandoc", ran("mandoc", "-Tlint", page), ("", "", 0))
-    else:
-        print("manual: skipped: mandoc isn't there")
-    if shutil.which("man"):
+    if "man" in tools:
         told, why, status = ran("man", "--warnings=w", "-l", page, env=environment(MANPAGER="cat", MANWIDTH="80"))
         yield expect("man", ("EXIT STATUS" in re.sub(".\b", "", told), why, status), (True, "", 0))
-    if shutil.which("lexgrog"):
+    if "lexgrog" in tools:
         yield expect("lexgrog", ran("lexgrog", page), (f'{page}: "regtx - {readme()[0]}"\n', "", 0))
 
 

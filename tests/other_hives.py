@@ -83,9 +83,10 @@ def run(words, status=0, text=""):
 
 SHORT = {**KEYS, "System": [("Select", 4, b"\1\0\0\0"), ("x", 3, bytes(300))]}
 # the program, what it writes, and what it makes a hive have
-WRITERS = {name: (writes, keys) for name, (writes, keys, is_there) in {
-    "hivexregedit": (by_hivexregedit, WITH_LARGE, shutil.which("hivexregedit")), "reged": (by_reged, KEYS, shutil.which("reged")),
-    "hivexsh": (by_hivexsh, SHORT, shutil.which("hivexsh")), "samba": (by_samba, KEYS, SAMBA)}.items() if is_there}
+ALL_WRITERS = {"hivexregedit": (by_hivexregedit, WITH_LARGE), "reged": (by_reged, KEYS), "hivexsh": (by_hivexsh, SHORT),
+               "samba": (by_samba, KEYS)}
+WRITERS = {name: how for name, how in ALL_WRITERS.items() if (SAMBA if name == "samba" else shutil.which(name))}
+LACKING = [name for name in ALL_WRITERS if name not in WRITERS]
 
 
 # files of runs/hives, written so

@@ -124,6 +124,20 @@ def program_at(path, prefix, where=None):
         yield program
 
 
+def skip(part, why):
+    """Says that something can't be tried here; tests/all counts these lines."""
+    print(f"{part}: skipped: {why}")
+
+
+def are_there(part, *names):
+    """Those of these programs of others that are installed; the others are skipped by name."""
+    found = [name for name in names if shutil.which(name)]
+    for name in names:
+        if name not in found:
+            skip(part, f"{name} isn't there")
+    return found
+
+
 def tell(part, results):
     """Prints how a part went; answers how many passed and how many failed."""
     wrong = [why for why in results if why]
