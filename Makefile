@@ -3,15 +3,20 @@
 #   make                              builds the program, the library and the manual page, if they are missing or stale
 #   make install PREFIX=/usr/local    installs it; with DESTDIR=FOLDER into a folder that stands for the root
 #   make uninstall PREFIX=/usr/local  removes it, with the same DESTDIR
+#   make check                        runs the tests, after it has built without proofs what they run; TESTS="runs words" runs some
 #
-# PROGRAM=FILE is a program, and LIBRARY=FOLDER has a library as tools/c_library makes it, that are built already.
+# PROGRAM=FILE is a program, and LIBRARY=FOLDER has a library as tools/c_library makes it, that are built already. PROGRAMS=FOLDER has
+# programs for the tests, such as crates/regtx/out, which has the one that `rt ci` proved; tests/all says more.
 PREFIX = /usr/local
 DESTDIR =
 PROGRAM =
 LIBRARY = out/c
 # where zsh looks for functions; Debian's packages have theirs in share/zsh/vendor-completions
 ZSH_FUNCTIONS = share/zsh/site-functions
-export PREFIX DESTDIR PROGRAM LIBRARY
+# for make check
+PROGRAMS =
+TESTS =
+export PREFIX DESTDIR PROGRAM LIBRARY PROGRAMS TESTS
 
 MANUAL = out/regtx.1
 SHARED = libregtx.so.0
@@ -29,7 +34,7 @@ FOLDERS = $(sort $(patsubst %/,%,$(dir $(INSTALLED))))
 SHELL = /bin/sh
 .SHELLFLAGS = -euc
 .ONESHELL:
-.PHONY: all install uninstall program library
+.PHONY: all install uninstall check program library
 .DELETE_ON_ERROR:
 
 all: program library $(MANUAL)
@@ -75,6 +80,9 @@ install: program library $(MANUAL)
 	done
 	printf '%s\n' "$$about" | grep -q '^proved by ' ||
 	    echo "regtx: the program that is installed isn't proved: regtx about says what it is" >&2
+
+check:
+	@tests/all $${PROGRAMS:+--programs "$$PROGRAMS"} --library "$$LIBRARY" $$TESTS
 
 # the files that install writes, and then regtx's own folders if they are empty. A DESTDIR holds nobody else's tree, so there all
 # folders go that are empty then; elsewhere bin, lib and their like stay
