@@ -45,11 +45,16 @@ def own_crates():
 
 def below(crate, graph):
     """The crates of the repository on which one stands, each after those on which it stands."""
-    found = []
-    for name in graph[crate]:
-        if name in graph:
-            found += [each for each in [*below(name, graph), name] if each not in found]
-    return found
+    found = {}
+
+    def add_below(above):
+        for name in graph[above]:
+            if name in graph and name not in found:
+                add_below(name)
+                found[name] = None
+
+    add_below(crate)
+    return list(found)
 
 
 def is_program(crate):
