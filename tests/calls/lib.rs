@@ -25,4 +25,6 @@ mod registries;
 #[cfg(test)]
 mod script_streams;
 #[cfg(test)]
+mod stopped_logs;
+#[cfg(test)]
 mod trees;

@@ -1,18 +1,13 @@
 //! The gated log over the disk in memory: what each stop of an `append` and each tear leave.
-ghost use Rattle.std.specs.Prelude.{IfOk};
-ghost use Rattle.disk_model_tests.specs.GatedLog.{IsSettled};
 
-use crate::{append, create};
 use disk_model::{Disk, MemDisk, Plan, Tear};
+use gated_log::{append, create};
 use std::alloc::Global;
 use std::sync::Arc;
 use std::test::Fail;
 
 /// A log of the byte 5, beside a second file.
-fn prepared(alloc: Global, plan: Arc<Plan>) -> Result<MemDisk, Fail>
-    ensures { IfOk result (λ disk. IsSettled (⟦<MemDisk as Disk>⟧.state_at disk
-        (⟦<MemDisk as Disk>⟧.clock disk)) 1) }
-{
+fn prepared(alloc: Global, plan: Arc<Plan>) -> Result<MemDisk, Fail> {
     let mut disk = MemDisk::new(alloc, plan);
     disk.write_at(1, 0, b"other")?;
     create(&mut disk)?;

@@ -5,7 +5,7 @@
 //! after the last entry, on the disk before anything is written after it.
 ghost use Rattle.std.specs.Prelude.{◌≡◌, ℕ, ◌+◌, ◌*◌, ◌^◌, ◌<◌, ◌≤◌, List, [], ◌∷◌, ◌++◌, OnOk, OnErr};
 ghost use Rattle.disk_model.specs.Crash.{LeavesOnly};
-ghost use Rattle.disk_model_tests.specs.GatedLog.{entries_of, IsSettled, HasOneMore, IsBeforeOrAfter};
+ghost use Rattle.gated_log.specs.GatedLog.{entries_of, IsSettled, HasOneMore, IsBeforeOrAfter};
 
 use disk_model::{Disk, Failed};
 

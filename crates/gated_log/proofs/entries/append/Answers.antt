@@ -4,10 +4,10 @@ use Rattle.std.proofs.Common.{refl, ◌∙◌, arith}
 use Rattle.disk_model.specs.Crash.{LeavesAll}
 use Rattle.disk_model.proofs.Crashes.{begins, goes_on}
 use Rattle.disk_model.proofs.Leaves.{any_write, left_of_sync}
-use Rattle.disk_model_tests.specs.GatedLog.{IsBeforeOrAfter}
-use Rattle.disk_model_tests.proofs.LogSteps.{at_start, behind, is_staged, opened, is_added, has_one_more, is_other}
+use Rattle.gated_log.specs.GatedLog.{IsBeforeOrAfter}
+use Rattle.gated_log.proofs.LogSteps.{at_start, behind, is_staged, opened, is_added, has_one_more, is_other}
 use Rattle.std.proofs.lemmas.Result.{on_ok_weaker}
-use Rattle.disk_model_tests.proofs.gated_log.append.Goals as goal
+use Rattle.gated_log.proofs.entries.append.Goals as goal
 
 pub returns-in_err-write_at-clause-any_moment : goal.returns-in_err-write_at-clause-any_moment
 returns-in_err-write_at-clause-any_moment g c =

@@ -1,6 +1,6 @@
 use Rattle.std.proofs.Common.{arith}
-use Rattle.hive_emit_tests.proofs.WhyRefused.{memory_alone}
-use Rattle.hive_emit_tests.proofs.again.loaded_again.Goals as goal
+use Rattle.hive_round_trip.proofs.WhyRefused.{memory_alone}
+use Rattle.hive_round_trip.proofs.again.loaded_again.Goals as goal
 
 pub returns-in-Ok-load-clause-same : goal.returns-in-Ok-load-clause-same
 returns-in-Ok-load-clause-same c = c.one_tree.ensures.one c.in-Ok.emitted.image.bytes c.in-Ok.emitted.root 5 c.in-Ok-load.again c.args.tree.now c.in-Ok-load.ensures.stands (c.in-Ok.ensures.stands 5 (omega arith))

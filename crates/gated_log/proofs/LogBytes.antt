@@ -4,7 +4,7 @@ use Rattle.std.specs.Prelude.{if◌then◌else◌, ◌==◌}
 use Rattle.std.proofs.lemmas.List.{take_at, drop_at, drop_more, take_all}
 use Rattle.disk_model.specs.FileState.{at_rest, Leaves, after_write, put}
 use Rattle.disk_model.proofs.Leaves.{front_kept, back_kept, same_length, put_end, put_within}
-use Rattle.disk_model_tests.specs.GatedLog.{entries_of, open_entries, log_of}
+use Rattle.gated_log.specs.GatedLog.{entries_of, open_entries, log_of}
 
 pub length-open_entries : (es : List ℕ) → length (open_entries es) ≡ 2 * length es
 length-open_entries [] = refl

@@ -4,8 +4,8 @@ use Rattle.std.proofs.lemmas.List.{length_push}
 use Rattle.disk_model.specs.FileState.{FileState, at_rest, Leaves, Writes, MayWrite, Syncs}
 use Rattle.disk_model.specs.Crash.{LeavesAll}
 use Rattle.disk_model.proofs.Leaves.{left_at_rest, left_of_write}
-use Rattle.disk_model_tests.specs.GatedLog.{entries_of, log_of, IsSettled, HasOneMore, IsBeforeOrAfter}
-use Rattle.disk_model_tests.proofs.LogBytes.{staged, left_behind, left_gate, put_behind, put_gate, entries_of-log_of}
+use Rattle.gated_log.specs.GatedLog.{entries_of, log_of, IsSettled, HasOneMore, IsBeforeOrAfter}
+use Rattle.gated_log.proofs.LogBytes.{staged, left_behind, left_gate, put_behind, put_gate, entries_of-log_of}
 
 module _ (old : ℕ → FileState) (count byte : ℕ) (settled : IsSettled old count) where
   abbrev es : List ℕ
