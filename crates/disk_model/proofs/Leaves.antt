@@ -2,8 +2,8 @@
 use Rattle.std.proofs.Common.{◌≡◌, inl, inr, ⊎_elim, ℕ, ◌+◌, ◌-◌, ◌<◌, ◌≤◌, List, [], ◌∷◌, ◌++◌, length, get_or, take, drop, replicate, refl, sym, ◌∙◌, ap, subst, arith, length-take, length-drop, take-append-drop}
 use Rattle.std.specs.Prelude.{Result, Ok, Err, OnOk, OnErr}
 use Rattle.std.proofs.lemmas.List.{same_lists, get_or-take, get_or-drop, get_or_default, take_all, drop_all, append-nil}
-use Rattle.disk_model.specs.FileState.{FileState, at_rest, Covers, IsWritten, Leaves, IsSound, resized, put, after_write, Writes, MayWrite, after_cut, Cuts, MayCut, Syncs}
-use Rattle.disk_model.proofs.Steps.{length-put, done_may_write, done_may_cut}
+use Rattle.disk_model.specs.FileState.{FileState, at_rest, Covers, Leaves, IsSound, resized, put, after_write, Writes, MayWrite, Syncs}
+use Rattle.disk_model.proofs.Steps.{length-put, done_may_write}
 
 -- a synced file is only its bytes
 pub left_at_rest : (bytes c : List ℕ) → Leaves (at_rest bytes) c → c ≡ bytes
@@ -17,11 +17,6 @@ pub any_write : {T E F : Type 0} (result : Result T E) (offset : ℕ) (bytes : L
 any_write (Ok x) offset bytes old new faithful done failed = done_may_write offset bytes old new (done faithful)
 any_write (Err e) offset bytes old new faithful done failed = failed faithful
 
-pub any_cut : {T E F : Type 0} (result : Result T E) (len : ℕ) (old new : FileState)
-    → F → OnOk result (F → Cuts len old new) → OnErr result (F → MayCut len old new) → MayCut len old new
-any_cut (Ok x) len old new faithful done failed = done_may_cut len old new (done faithful)
-any_cut (Err e) len old new faithful done failed = failed faithful
-
 -- a crash after a write, done or not, leaves no more than one after a write that is done
 pub left_of_write : (offset : ℕ) (bytes : List ℕ) (old new : FileState) (seen c : List ℕ) → MayWrite offset bytes old new → Leaves new c → Leaves (after_write old offset bytes seen) c
 left_of_write offset bytes old new seen c (inl same) left =
@@ -32,17 +27,6 @@ left_of_write offset bytes old new seen c (inl same) left =
     }
 left_of_write offset bytes old new seen c (inr part) left =
     let after : Leaves (after_write old offset bytes part.0) c = subst (λ (s : FileState). Leaves s c) part.2 left in
-    record { no_shorter = after.no_shorter; no_longer = after.no_longer; kept = after.kept }
-
-pub left_of_cut : (len : ℕ) (old new : FileState) (seen c : List ℕ) → MayCut len old new → Leaves new c → Leaves (after_cut old len seen) c
-left_of_cut len old new seen c (inl same) left =
-    let before : Leaves old c = subst (λ (s : FileState). Leaves s c) same left in record {
-      no_shorter = omega (arith, before.no_shorter);
-      no_longer = omega (arith, before.no_longer);
-      kept = λ p below free. before.kept p (omega arith) free;
-    }
-left_of_cut len old new seen c (inr part) left =
-    let after : Leaves (after_cut old len part.0) c = subst (λ (s : FileState). Leaves s c) part.2 left in
     record { no_shorter = after.no_shorter; no_longer = after.no_longer; kept = after.kept }
 
 -- a crash after a sync, done or not, leaves no more than one before it
@@ -97,8 +81,3 @@ module _ (file bytes seen c : List ℕ) (offset : ℕ) (left : Leaves (after_wri
       (λ k d h. let inside : end + k < length c = omega (arith, length-drop end c) in
       get_or-drop end c k d ∙ get_or_default c (end + k) d 0 inside ∙ byte_kept (end + k) (omega (arith, same_length le)) (λ covers. omega (arith, covers.1))
       ∙ get_or_default file (end + k) 0 d (omega (arith, same_length le)) ∙ sym (get_or-drop end file k d))
-
--- after any writes since a sync, all of them within some part of the file, a crash leaves the rest as it was synced
-pub kept_outside : (file : FileState) (c : List ℕ) (part : ℕ → Type 0) → ((p : ℕ) → IsWritten file.ranges p → part p) → Leaves file c
-    → (p : ℕ) → p < file.least → (part p → ⊥) → get_or c p 0 ≡ get_or file.synced p 0
-kept_outside file c part within left p below out = left.kept p below (λ written. out (within p written))

@@ -5,9 +5,7 @@ pub mod Left
 pub mod HonestTears
 pub mod Leaves
 pub mod Moments
-pub mod PlanRuns
 pub mod Put
-pub mod Sectors
 pub mod Sound
 pub mod Steps
 pub mod Tears

@@ -1,17 +1,11 @@
 -- What `resized` and `put` leave, byte by byte.
 use Rattle.std.proofs.Common.{⊎_elim, ◌≡◌, ℕ, ◌+◌, ◌-◌, ◌<◌, ◌≤◌, max, List, [], ◌∷◌, ◌++◌, length, get_or, take, drop, replicate, refl, sym, ◌∙◌, ap, arith, length-append, length-take, length-drop}
-use Rattle.std.proofs.lemmas.List.{places, same_lists, length-replicate, take_all, append-nil, get_or-drop, get_or_append_left, get_or-append_right}
+use Rattle.std.proofs.lemmas.List.{places, same_lists, length-replicate, get_or-drop, get_or_append_left, get_or-append_right}
 use Rattle.std.proofs.lemmas.Bool.{cases_lt}
 use Rattle.disk_model.specs.FileState.{resized, put, Covers}
 
 pub length-resized : (file : List ℕ) (n : ℕ) → length (resized file n) ≡ n
 length-resized file n = omega (arith, length-append (take n file) (replicate (n - length file) 0), length-take n file, length-replicate {A = ℕ} (n - length file) 0)
-
--- cut to its own length a list is as it was
-pub resized_same : (file : List ℕ) (n : ℕ) → n ≡ length file → resized file n ≡ file
-resized_same file n is =
-    let none : n - length file ≡ 0 = omega arith in
-    ap (λ (k : ℕ). take n file ++ replicate k 0) none ∙ append-nil (take n file) ∙ take_all n file (omega arith)
 
 pub get_or-resized : (file : List ℕ) (n p d : ℕ) → p < n → p < length file → get_or (resized file n) p d ≡ get_or file p d
 get_or-resized file n p d in_n in_file = grind (arith, places)

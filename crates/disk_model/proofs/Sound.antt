@@ -1,7 +1,6 @@
 -- Each step keeps it: what a read gives is one of the contents that a crash may leave.
 use Rattle.std.proofs.Common.{inl, inr, ℕ, ◌<◌, List, length, sym, ◌∙◌, subst, arith}
-use Rattle.disk_model.specs.FileState.{FileState, IsSound, put, resized, PutsPart, after_write, after_cut, Writes, MayWrite, Cuts, MayCut, Syncs}
-use Rattle.disk_model.specs.MemSound.{sound-at_rest}
+use Rattle.disk_model.specs.FileState.{FileState, IsSound, put, resized, PutsPart, after_write, after_cut, Writes, Cuts, MayCut}
 use Rattle.disk_model.proofs.Put.{length-resized, get_or-resized, get_or-put_outside}
 use Rattle.disk_model.proofs.Steps.{puts_all}
 
@@ -45,10 +44,6 @@ sound-after_cut_resized old len sound = record {
   was_no_longer = omega (arith, sound.was_no_longer);
 }
 
-pub sound-may_write : (old new : FileState) (offset : ℕ) (bytes : List ℕ) → IsSound old → MayWrite offset bytes old new → IsSound new
-sound-may_write old new offset bytes sound (inl same) = subst IsSound (sym same) sound
-sound-may_write old new offset bytes sound (inr part) = subst IsSound (sym part.2) (sound-after_write old offset bytes part.0 sound part.1)
-
 pub sound-cuts : (old new : FileState) (len : ℕ) → IsSound old → Cuts len old new → IsSound new
 sound-cuts old new len sound done = subst IsSound (sym done) (sound-after_cut_resized old len sound)
 
@@ -56,6 +51,3 @@ pub sound-may_cut : (old new : FileState) (len : ℕ) → IsSound old → MayCut
 sound-may_cut old new len sound (inl same) = subst IsSound (sym same) sound
 sound-may_cut old new len sound (inr (seen, inl stays, is)) = subst IsSound (sym is) (subst (λ (s : List ℕ). IsSound (after_cut old len s)) (sym stays) (sound-after_cut_seen old len sound))
 sound-may_cut old new len sound (inr (seen, inr shorter, is)) = subst IsSound (sym is) (subst (λ (s : List ℕ). IsSound (after_cut old len s)) (sym shorter) (sound-after_cut_resized old len sound))
-
-pub sound-syncs : (old new : FileState) → Syncs old new → IsSound new
-sound-syncs old new done = subst IsSound (sym done) (sound-at_rest old.seen)

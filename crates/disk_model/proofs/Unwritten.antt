@@ -51,18 +51,9 @@ no_change {now = now} reads f = reads.same now f reads.time.later (omega arith)
 pub synced_still : {old new : ℕ → ℕ → FileState} {before now : ℕ} → OnlySyncs old new before now → (f : ℕ) → IsSyncedOrSame (old before f) (new now f)
 synced_still {now = now} syncs f = syncs.each now f syncs.time.later (omega arith)
 
--- no call, a call that changes no file, and some after others
+-- no call, and some after others
 pub reads_none : (states : ℕ → ℕ → FileState) (clock : ℕ) → OnlyReads states states clock clock
 reads_none states clock = record { time = extends_none states clock; same = λ k f from upto. at_first states states clock clock k f (extends_none states clock) from upto }
-
-pub reads_call : (old new : ℕ → ℕ → FileState) (before now : ℕ) → Passes old new before now → ((f : ℕ) → new now f ≡ old before f) → OnlyReads old new before now
-reads_call old new before now time same = record {
-  time = passed old new before now time;
-  same = λ k f from upto. ⊎_elim
-      (λ (lt : k < now). at_first old new before now k f (passed old new before now time) from (omega (arith, lt, time.clock)))
-      (λ (le : now ≤ k). let is : k ≡ now = omega arith in ap (λ (n : ℕ). new n f) is ∙ same f)
-      (cases_lt k now);
-}
 
 pub reads_on : (old mid new : ℕ → ℕ → FileState) (start before now : ℕ) → OnlyReads old mid start before → OnlyReads mid new before now → OnlyReads old new start now
 reads_on old mid new start before now first second = record {

@@ -1,10 +1,10 @@
 -- Each step of a disk in memory is done whole.
-use Rattle.std.proofs.Common.{◌≡◌, ⊎_elim, ℕ, ◌+◌, ◌-◌, ◌<◌, Bool, List, ◌∷◌, length, get_or, refl, sym, ◌∙◌, ap, subst, arith}
+use Rattle.std.proofs.Common.{◌≡◌, ⊎_elim, ℕ, ◌+◌, ◌-◌, ◌<◌, Bool, List, ◌∷◌, length, get_or, sym, ◌∙◌, ap, subst, arith}
 use Rattle.std.specs.Prelude.{if◌then◌else◌}
 use Rattle.std.proofs.lemmas.Bool.{cases_lt}
-use Rattle.disk_model.specs.FileState.{WrittenRange, FileState, Covers, IsSound, put, Writes, Cuts, Syncs}
+use Rattle.disk_model.specs.FileState.{WrittenRange, FileState, Covers, IsSound, put, Writes}
 use Rattle.disk_model.specs.ReadGives.{shown, ReadGivesLastWrites}
-use Rattle.disk_model.proofs.Put.{get_or-resized, get_or-put_outside, get_or-put_inside}
+use Rattle.disk_model.proofs.Put.{get_or-put_outside, get_or-put_inside}
 use Rattle.disk_model.proofs.Left.{uncovered, covered}
 
 pub whole-writes : (old new : FileState) (offset : ℕ) (bytes : List ℕ) → IsSound old → ReadGivesLastWrites old → Writes offset bytes old new → ReadGivesLastWrites new
@@ -24,10 +24,3 @@ whole-writes old new offset bytes sound whole done = subst ReadGivesLastWrites (
 
         outside : (Covers range p → ⊥) → get_or (put old.seen offset bytes) p 0 ≡ shown (range ∷ old.ranges) old.synced p
         outside out = get_or-put_outside old.seen offset bytes p (omega (arith, sound.left.no_shorter)) out ∙ whole p below ∙ ap (λ (b : Bool). if b then get_or bytes (p - offset) 0 else shown old.ranges old.synced p) (sym (uncovered range p out))
-
-pub whole-cuts : (old new : FileState) (len : ℕ) → IsSound old → ReadGivesLastWrites old → Cuts len old new → ReadGivesLastWrites new
-whole-cuts old new len sound whole done =
-    subst ReadGivesLastWrites (sym done) (λ p below. get_or-resized old.seen len p 0 (omega arith) (omega (arith, sound.left.no_shorter)) ∙ whole p (omega arith))
-
-pub whole-syncs : (old new : FileState) → Syncs old new → ReadGivesLastWrites new
-whole-syncs old new done = subst ReadGivesLastWrites (sym done) (λ p below. refl)

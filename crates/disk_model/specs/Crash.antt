@@ -22,11 +22,7 @@ ShowsHonest has_sector state = (f : ℕ) → has_sector f → IsHonest (state f)
 abbrev pub AtSome : ((ℕ → FileState) → (ℕ → List ℕ) → Type 0) → (ℕ → ℕ → FileState) → ℕ → ℕ → (ℕ → List ℕ) → Type 0
 AtSome left states clock since files = (k : ℕ) × (since ≤ k) × (k ≤ clock) × left (states k) files
 
--- a crash at some moment from `since` on might have left these files
-abbrev pub LeftSince : (ℕ → ℕ → FileState) → ℕ → ℕ → (ℕ → List ℕ) → Type 0
-LeftSince = AtSome LeavesAll
-
--- the same with honest first sectors
+-- a crash at some moment from `since` on might have left these files, with honest first sectors
 abbrev pub HonestSince : (ℕ → Type 0) → (ℕ → ℕ → FileState) → ℕ → ℕ → (ℕ → List ℕ) → Type 0
 HonestSince has_sector = AtSome (LeavesHonest has_sector)
 
@@ -37,7 +33,3 @@ AlwaysLeaves left states clock since P = (files : ℕ → List ℕ) → AtSome l
 -- whatever a crash since then might have left has P
 abbrev pub LeavesOnly : (ℕ → ℕ → FileState) → ℕ → ℕ → ((ℕ → List ℕ) → Type 0) → Type 0
 LeavesOnly = AlwaysLeaves LeavesAll
-
--- whatever a crash since then might have left with honest first sectors has P
-abbrev pub LeavesOnlyHonest : (ℕ → Type 0) → (ℕ → ℕ → FileState) → ℕ → ℕ → ((ℕ → List ℕ) → Type 0) → Type 0
-LeavesOnlyHonest has_sector = AlwaysLeaves (LeavesHonest has_sector)
