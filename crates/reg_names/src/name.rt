@@ -182,14 +182,6 @@ impl ValueName {
     {
         &self.name
     }
-
-    /// The name itself, without the wrapper.
-    pub fn into_name(self) -> Name
-        ensures same { result ≡ self }
-        ensures may { is_value_name self ≡ true }
-    {
-        self.name
-    }
 }
 
 impl Clone for ValueName {
