@@ -2,7 +2,7 @@
 use Rattle.std.specs.Prelude.{ℕ, ◌-◌, ◌%◌, ◌==◌, nat_eq, Bool, ◌&&◌, List, [], ◌∷◌, length, take}
 use Rattle.std.specs.List.{list_all, ends_with}
 use Rattle.std.specs.Int.{w16, from_le_bytes}
-use Rattle.reg_names.specs.Names.{is_name_unit}
+use Rattle.reg_names.specs.Printable.{is_printable}
 
 -- the units of bytes: two bytes each, the low one first; an odd last byte is none
 abbrev pub units_of : List ℕ → List ℕ
@@ -24,4 +24,4 @@ front_units bytes = take (length bytes - 2) bytes
 
 -- bytes are a text with its terminator, as quotes can write it: whole units, the last one 0, all others 0x20 to 0x7e
 abbrev pub is_plain_text : List ℕ → Bool
-is_plain_text bytes = are_whole bytes && ends_in_zero bytes && list_all is_name_unit (units_of (front_units bytes))
+is_plain_text bytes = are_whole bytes && ends_in_zero bytes && list_all is_printable (units_of (front_units bytes))

@@ -2,7 +2,7 @@
 use Rattle.std.specs.Prelude.{ℕ, ◌==◌, ◌||◌, if◌then◌else◌, List, [], ◌∷◌, ◌++◌, codes}
 use Rattle.std.specs.Int.{w16, to_be_bytes}
 use Rattle.hex.specs.Hex.{encode_lower}
-use Rattle.reg_names.specs.Names.{is_name_unit}
+use Rattle.reg_names.specs.Printable.{is_printable}
 use Rattle.script_syntax.specs.Replies.{unit_text}
 use Rattle.reg_export.specs.declared.unit_form.UnitForm.{UnitForm}
 use Rattle.reg_export.specs.declared.unit_form.UnitForm.TheVariants.{Plain, Quoted, Json, JsonTexts, Tsv}
@@ -12,7 +12,7 @@ use Rattle.reg_export.specs.RegTexts.{escaped_unit}
 -- a unit of a string of JSON: a quote and a backslash get a backslash before them; one outside 0x20 to 0x7e is `\u` and
 -- four digits
 abbrev pub json_unit : ℕ → List ℕ
-json_unit u = if u == 34 || u == 92 then 92 ∷ u ∷ [] else (if is_name_unit u then u ∷ [] else codes "\\u" ++ encode_lower (to_be_bytes w16 u))
+json_unit u = if u == 34 || u == 92 then 92 ∷ u ∷ [] else (if is_printable u then u ∷ [] else codes "\\u" ++ encode_lower (to_be_bytes w16 u))
 
 -- a unit of a meaning in TSV: as in a name, but a blank is a blank
 abbrev pub meaning_unit : ℕ → List ℕ

@@ -2,7 +2,7 @@
 ghost use Rattle.std.specs.Prelude.{◌≡◌, ◌*◌, OnOk, IfOk, length};
 ghost use Rattle.hex.specs.Hex.{encode_lower};
 ghost use Rattle.std.specs.List.{flat_map, list_all};
-ghost use Rattle.reg_names.specs.Names.{is_name_unit};
+ghost use Rattle.reg_names.specs.Printable.{is_printable};
 ghost use Rattle.reg_export.specs.ByteUnits.{units_of, is_plain_text, front_units};
 ghost use Rattle.reg_export.specs.Encodings.{Prints};
 ghost use Rattle.reg_export.specs.RegTexts.{data_text, number_text, list_text, list_label, byte_list, quoted, next_byte, separator, next_column, at_columns};
@@ -67,7 +67,7 @@ fn is_plain(bytes: &[u8]) -> bool
 
 // whether all units of the bytes are 0x20 to 0x7e
 fn are_plain_units(bytes: &[u8]) -> bool
-    ensures { result ≡ list_all is_name_unit (units_of bytes.now) }
+    ensures { result ≡ list_all is_printable (units_of bytes.now) }
 {
     let mut rest = bytes;
     while let Some((unit, others)) = first_unit(rest) {
