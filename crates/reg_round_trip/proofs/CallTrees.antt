@@ -5,7 +5,7 @@ use Rattle.std.specs.List.{AllByRecursion, flat_map, list_all}
 use Rattle.std.specs.FinMap as finite
 use Rattle.std.proofs.lemmas.Bool.Decides.{Decides-eqb, nat_tests}
 use Rattle.std.proofs.lemmas.List.{length-append}
-use Rattle.refusals.specs.declared.limits.TheConstants.{MOST_PATH_NAMES, MOST_VALUE_BYTES}
+use Rattle.refusals.specs.declared.limits.TheConstants.{MOST_PATH_NAMES, MOST_VALUE_NAME_UNITS, MOST_VALUE_BYTES}
 use Rattle.reg_names.specs.Names.{is_name_unit, is_key_unit, is_key_name}
 use Rattle.reg_tree_parts.specs.declared.value.Value.{Value}
 use Rattle.reg_tree_parts.specs.Rows.{Row}
@@ -18,9 +18,8 @@ use Rattle.reg_export.specs.RegFiles.{file_names}
 use Rattle.reg_round_trip.specs.Exports.{IsPrefixText, IsBelowName, IsValueOfLimits, IsKeyOfLimits, IsHiveOfLimits}
 use Rattle.reg_round_trip.specs.NewTrees.{IsCallValue, IsCallTree}
 use Rattle.reg_round_trip.proofs.Units.{all_both, all_then, all_flat, both_true, not_true, list_all_from, all_map}
-use Rattle.reg_round_trip.proofs.Reading.{printable_small}
 use Rattle.reg_round_trip.proofs.Spelled.{all_spelled, spelled_length}
-use Rattle.reg_round_trip.proofs.CallNames.{key_units, key_length, key_printable, value_printable}
+use Rattle.reg_round_trip.proofs.CallNames.{key_units, key_length, key_name_units, value_name_units}
 use Rattle.reg_round_trip.proofs.SortedKeys.{each_got}
 
 -- a row of such a tree
@@ -52,12 +51,12 @@ pub tree_shown : (tree : TreeMap) → IsCallTree tree → AllByRecursion IsCallS
 tree_shown tree call = rows_shown tree call (finite.entries tree) (each_got paths_total tree)
 
 -- within the limits of a registration file
-wide : (u : ℕ) → u < 128 → u < 2 ^ 16
-wide u h = omega (arith, h)
+wide : (u : ℕ) → is_name_unit u ≡ true → u < 2 ^ 16
+wide u h = grind (arith, nat_tests, h)
 
 below_name : (name : List ℕ) → is_key_name name ≡ true → IsBelowName name
 below_name name h = record {
-  units = all_then (λ u. is_name_unit u ≡ true) (λ u. u < 2 ^ 16) (λ u p. wide u (printable_small u p)) name (key_printable name h);
+  units = all_then (λ u. is_name_unit u ≡ true) (λ u. u < 2 ^ 16) wide name (key_name_units name h);
   some = λ e. let long = (key_length name h).0 in let none = ap length e in absurd (omega (arith, long, none));
   no_backslash = all_then (λ u. is_key_unit u ≡ true) (λ u. u ≢ 92) (λ u k e. not_true (sym (ap (λ v. not (v == 92)) e) ∙ (both_true (is_name_unit u) (not (u == 92)) k).1)) name (key_units name h);
 }
@@ -65,9 +64,9 @@ below_name name h = record {
 value_limits : (value : Value) → ((name : List ℕ) × IsCallValue name value) → IsValueOfLimits value
 value_limits value call =
     let its = call.1 in
-    let low = (both_true (nat_le (length value.name) 16383) (list_all is_name_unit value.name) its.named).0 in
+    let low = (both_true (nat_le (length value.name) MOST_VALUE_NAME_UNITS) (list_all is_name_unit value.name) its.named).0 in
     record {
-      units = all_then (λ u. is_name_unit u ≡ true) (λ u. u < 2 ^ 16) (λ u p. wide u (printable_small u p)) value.name (value_printable value.name its.named);
+      units = all_then (λ u. is_name_unit u ≡ true) (λ u. u < 2 ^ 16) wide value.name (value_name_units value.name its.named);
       short = grind (arith, nat_tests, low);
       kind = its.kind;
       bytes = its.bytes;
@@ -97,8 +96,8 @@ pub keys_limits : (prefix : List ℕ) → IsPrefixText prefix → length prefix 
 keys_limits prefix text few keys calls = record { prefix = text; keys = all_then IsCallShown (IsKeyOfLimits prefix) (key_limits prefix few) keys calls }
 
 -- its names fit lines
-printable_fits : (u : ℕ) → is_name_unit u ≡ true → not (breaks_line u) ≡ true
-printable_fits u h = by_tests (u == 0) (u == 10) (u == 13) refl refl refl
+unit_fits : (u : ℕ) → is_name_unit u ≡ true → not (breaks_line u) ≡ true
+unit_fits u h = by_tests (u == 0) (u == 10) (u == 13) refl refl refl
   where
     never : (n : ℕ) → is_name_unit n ≡ false → (u == n) ≡ true → ⊥
     never n other e = not_true (sym other ∙ ap is_name_unit (sym ((Decides-eqb u n).0 e)) ∙ h)
@@ -110,14 +109,14 @@ printable_fits u h = by_tests (u == 0) (u == 10) (u == 13) refl refl refl
     by_tests false false false x y z = rw (x, y, z) refl
 
 name_fits : (name : List ℕ) → AllByRecursion (λ u. is_name_unit u ≡ true) name → fits_line name ≡ true
-name_fits name all = list_all_from (λ u. not (breaks_line u)) name (all_then (λ u. is_name_unit u ≡ true) (λ u. not (breaks_line u) ≡ true) printable_fits name all)
+name_fits name all = list_all_from (λ u. not (breaks_line u)) name (all_then (λ u. is_name_unit u ≡ true) (λ u. not (breaks_line u) ≡ true) unit_fits name all)
 
 key_fits : (key : NamedRow) → IsCallShown key → AllByRecursion (λ name. fits_line name ≡ true) (shown_names key)
 key_fits key call =
     let values = finite.values (let its = key.1 in its.values) in
     all_both (λ name. fits_line name ≡ true) key.0 (map (λ (value : Value). value.name) values)
-    (all_then (λ n. is_key_name n ≡ true) (λ name. fits_line name ≡ true) (λ n k. name_fits n (key_printable n k)) key.0 call.names)
-    (all_map (λ name. fits_line name ≡ true) (λ (value : Value). value.name) values (all_then (λ (v : Value). (name : List ℕ) × IsCallValue name v) (λ (v : Value). fits_line v.name ≡ true) (λ v c. let its = c.1 in name_fits v.name (value_printable v.name its.named)) values call.values))
+    (all_then (λ n. is_key_name n ≡ true) (λ name. fits_line name ≡ true) (λ n k. name_fits n (key_name_units n k)) key.0 call.names)
+    (all_map (λ name. fits_line name ≡ true) (λ (value : Value). value.name) values (all_then (λ (v : Value). (name : List ℕ) × IsCallValue name v) (λ (v : Value). fits_line v.name ≡ true) (λ v c. let its = c.1 in name_fits v.name (value_name_units v.name its.named)) values call.values))
 
 pub hives_fit : (hives : List (List ℕ × List NamedRow)) → AllByRecursion (λ hive. AllByRecursion IsCallShown hive.1) hives → list_all fits_line (file_names hives) ≡ true
 hives_fit hives all =

@@ -5,7 +5,7 @@ use Rattle.std.specs.List.{AllByRecursion, flat_map}
 use Rattle.std.proofs.lemmas.List.{length-append}
 use Rattle.std.proofs.lemmas.Bool.Decides.{nat_tests}
 use Rattle.hex.specs.Hex.{encode_lower}
-use Rattle.reg_names.specs.Names.{is_name_unit}
+use Rattle.reg_names.specs.Printable.{is_printable}
 use Rattle.reg_export.specs.RegTexts.{next_column, next_byte, at_columns}
 use Rattle.reg_file.specs.Grammar.{AreBlanks, IsPair, IsBrokenLine, AreBytes}
 use Rattle.reg_round_trip.proofs.Units.{all_both, by_test}
@@ -70,11 +70,11 @@ read_bytes column byte (next ∷ bytes) h all blanks b =
 
 -- all units of these lines are printable
 abbrev Printable : List ℕ → Type 0
-Printable units = AllByRecursion (λ u. is_name_unit u ≡ true) units
+Printable units = AllByRecursion (λ u. is_printable u ≡ true) units
 
 rest_by_test : (test : Bool) (digits rest : List ℕ) → Printable digits → Printable rest → Printable (cond test (44 ∷ 92 ∷ []) (44 ∷ (digits ++ rest)))
 rest_by_test true digits rest d r = (refl, (refl, tt))
-rest_by_test false digits rest d r = (refl, all_both (λ u. is_name_unit u ≡ true) digits rest d r)
+rest_by_test false digits rest d r = (refl, all_both (λ u. is_printable u ≡ true) digits rest d r)
 
 pub rest_printable : (column : ℕ) (bytes : List ℕ) → AllByRecursion (λ b. b < 256) bytes → Printable (line_rest column bytes)
 rest_printable column [] all = tt
@@ -82,7 +82,7 @@ rest_printable column (byte ∷ bytes) all =
     rest_by_test (column == 2) (encode_lower (byte ∷ [])) (line_rest (next_column column) bytes) (bytes_printable (byte ∷ []) (all.0, tt)) (rest_printable (next_column column) bytes all.1)
 
 further_by_test : (test : Bool) (digits rest : List ℕ) (further : List (List ℕ)) → Printable digits → Printable rest → AllByRecursion Printable further → AllByRecursion Printable (cond test ((32 ∷ 32 ∷ (digits ++ rest)) ∷ further) further)
-further_by_test true digits rest further d r f = ((refl, (refl, all_both (λ u. is_name_unit u ≡ true) digits rest d r)), f)
+further_by_test true digits rest further d r f = ((refl, (refl, all_both (λ u. is_printable u ≡ true) digits rest d r)), f)
 further_by_test false digits rest further d r f = f
 
 pub further_printable : (column : ℕ) (bytes : List ℕ) → AllByRecursion (λ b. b < 256) bytes → AllByRecursion Printable (further_lines column bytes)

@@ -4,7 +4,7 @@ use Rattle.std.specs.List.{AllByRecursion, flat_map}
 use Rattle.std.specs.FinMap as finite
 use Rattle.std.proofs.lemmas.List.{length-append, map-append}
 use Rattle.std.proofs.lemmas.Grind.{flat_map-append}
-use Rattle.reg_names.specs.Names.{is_name_unit}
+use Rattle.reg_names.specs.Printable.{is_printable}
 use Rattle.reg_tree_parts.specs.declared.value.Value.{Value}
 use Rattle.key_walk.specs.KeyRows.{NamedRow}
 use Rattle.reg_export.specs.RegTexts.{reg_path, reg_value_line, reg_key_lines, reg_hive_lines}
@@ -183,7 +183,7 @@ pub record KeyFits (P : ℕ → Type 0) (key : NamedRow) : Type 0 where
   pub values : AllByRecursion (λ (v : Value). AllByRecursion P v.name) (values_of key)
 
 -- the units of their lines: those of names, and printable ones
-module _ (P : ℕ → Type 0) (prints : (u : ℕ) → is_name_unit u ≡ true → P u) where
+module _ (P : ℕ → Type 0) (prints : (u : ℕ) → is_printable u ≡ true → P u) where
   abbrev AreFit : List Entry → Type 0
   AreFit entries = AllByRecursion (AllByRecursion P) (entry_lines entries)
 

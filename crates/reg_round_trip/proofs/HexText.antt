@@ -7,7 +7,7 @@ use Rattle.std.specs.Int.{w32, to_be_bytes, byte_at}
 use Rattle.std.proofs.lemmas.List.{length-append, append-nil}
 use Rattle.std.proofs.lemmas.Bool.Decides.{Decides-eqb}
 use Rattle.hex.specs.Hex.{encode_lower, encode_with, lower_digits}
-use Rattle.reg_names.specs.Names.{is_name_unit}
+use Rattle.reg_names.specs.Printable.{is_printable}
 use Rattle.reg_file.specs.Scanning.{digit_of}
 use Rattle.reg_file.specs.Grammar.{GoOn, IsNumber, IsPair}
 use Rattle.reg_round_trip.proofs.Units.{all_both, by_test, not_both}
@@ -24,7 +24,7 @@ below (suc n) P all (suc d) h = below n (λ e. P (suc e)) all.1 d (omega (arith,
 
 -- a unit is the digit of a number
 abbrev pub IsDigit : ℕ → ℕ → Type 0
-IsDigit unit d = (digit_of unit ≡ Some d) × (is_name_unit unit ≡ true)
+IsDigit unit d = (digit_of unit ≡ Some d) × (is_printable unit ≡ true)
 
 digit_in_table : (d : ℕ) → d < 16 → IsDigit (slice_index lower_digits d) d
 digit_in_table = below 16 (λ d. IsDigit (slice_index lower_digits d) d)
@@ -48,7 +48,7 @@ byte_pair b h = record {
   value = omega arith;
 }
 
-pub bytes_printable : (bytes : List ℕ) → AllByRecursion (λ b. b < 256) bytes → AllByRecursion (λ u. is_name_unit u ≡ true) (encode_lower bytes)
+pub bytes_printable : (bytes : List ℕ) → AllByRecursion (λ b. b < 256) bytes → AllByRecursion (λ u. is_printable u ≡ true) (encode_lower bytes)
 unfolding encode_with
 bytes_printable [] all = tt
 bytes_printable (b ∷ bytes) all = ((digit_in_table (b / 16) (omega (arith, all.0))).1, ((digit_in_table (b % 16) (omega arith)).1, bytes_printable bytes all.1))
@@ -100,7 +100,7 @@ record Digits (k n : ℕ) (text : List ℕ) : Type 0 where
   some : 0 < length text
   few : length text ≤ suc k
   value : GoOn 0 text n
-  printable : AllByRecursion (λ u. is_name_unit u ≡ true) text
+  printable : AllByRecursion (λ u. is_printable u ≡ true) text
 
 abbrev Written : ℕ → ℕ → List ℕ → List ℕ → Type 0
 Written k n whole acc = (text : List ℕ) × (whole ≡ text ++ acc) × Digits k n text
@@ -120,7 +120,7 @@ one_more k n whole acc w =
     let goes : n ≡ 16 * (n / 16) + n % 16 = omega arith in (
       w.0 ++ digit_glyph false (n % 16) ∷ [],
       w.1 ∙ sym (append_assoc w.0 (digit_glyph false (n % 16) ∷ []) acc),
-      record { some = omega (arith, long); few = omega (arith, long, d.few); value = goes_both 0 w.0 (digit_glyph false (n % 16) ∷ []) (n / 16) n d.value (n % 16, is.0, goes); printable = all_both (λ u. is_name_unit u ≡ true) w.0 (digit_glyph false (n % 16) ∷ []) d.printable (is.1, tt) },
+      record { some = omega (arith, long); few = omega (arith, long, d.few); value = goes_both 0 w.0 (digit_glyph false (n % 16) ∷ []) (n / 16) n d.value (n % 16, is.0, goes); printable = all_both (λ u. is_printable u ≡ true) w.0 (digit_glyph false (n % 16) ∷ []) d.printable (is.1, tt) },
     )
 
 -- with another digit to the left, unless that would be a zero
@@ -135,10 +135,10 @@ digits_written (suc k) (suc fuel) n acc l h =
     (λ e. one_more k n _ acc (digits_written k fuel (n / 16) (digit_glyph false (n % 16) ∷ acc) (omega (arith, l)) (omega (arith, h))))
 
 -- the number of a type in hex digits
-pub kind_digits : (n : ℕ) → n < 2 ^ 32 → IsNumber (digits 16 false n) n × AllByRecursion (λ u. is_name_unit u ≡ true) (digits 16 false n)
+pub kind_digits : (n : ℕ) → n < 2 ^ 32 → IsNumber (digits 16 false n) n × AllByRecursion (λ u. is_printable u ≡ true) (digits 16 false n)
 unfolding digits
 kind_digits n h =
     let w = digits_written 7 63 n [] (omega arith) h in
     let same : digits_onto 64 16 false n [] ≡ w.0 = w.1 ∙ append-nil w.0 in
     let d = w.2 in
-    (subst (λ t. IsNumber t n) (sym same) (record { some = d.some; few = d.few; value = d.value }), subst (AllByRecursion (λ u. is_name_unit u ≡ true)) (sym same) d.printable)
+    (subst (λ t. IsNumber t n) (sym same) (record { some = d.some; few = d.few; value = d.value }), subst (AllByRecursion (λ u. is_printable u ≡ true)) (sym same) d.printable)

@@ -2,7 +2,7 @@
 use Rattle.std.proofs.Common.{◌≡◌, ◌≢◌, ℕ, Bool, true, false, cond, List, [], ◌∷◌, ◌++◌, refl, ◌∙◌, ap, subst}
 use Rattle.std.specs.Prelude.{◌==◌}
 use Rattle.std.specs.List.{AllByRecursion, slice_split, onto_first}
-use Rattle.reg_names.specs.Names.{is_name_unit}
+use Rattle.reg_names.specs.Printable.{is_printable}
 use Rattle.reg_round_trip.specs.Exports.{IsPrefixText}
 
 abbrev AreSome : List (List ℕ) → Type 0
@@ -23,7 +23,7 @@ ends_empty (x ∷ front) = by_test (x == 92) (ends_empty front)
     by_test true e = record { first = []; rest = e.first ∷ e.rest; are = ap (λ parts. [] ∷ parts) e.are; not_some = λ some. e.not_some some.1 }
     by_test false e = record { first = x ∷ e.first; rest = e.rest; are = ap (onto_first x) e.are; not_some = e.not_some }
 
-pub joined_text : (text : List ℕ) → AllByRecursion (λ u. is_name_unit u ≡ true) text → ((rest : List ℕ) → text ≢ 45 ∷ rest) → AreSome (slice_split (λ u. u == 92) text) → IsPrefixText text
+pub joined_text : (text : List ℕ) → AllByRecursion (λ u. is_printable u ≡ true) text → ((rest : List ℕ) → text ≢ 45 ∷ rest) → AreSome (slice_split (λ u. u == 92) text) → IsPrefixText text
 joined_text text units minus some = record {
   units = units;
   no_minus = minus;

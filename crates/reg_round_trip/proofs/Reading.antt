@@ -5,7 +5,7 @@ use Rattle.std.specs.List.{AllByRecursion, flat_map, list_all}
 use Rattle.std.specs.Int.{w16, to_le_bytes}
 use Rattle.std.proofs.lemmas.Bool.Decides.{Decides-eqb, nat_tests}
 use Rattle.std.proofs.lemmas.Grind.{flat_map-append}
-use Rattle.reg_names.specs.Names.{is_name_unit}
+use Rattle.reg_names.specs.Printable.{is_printable}
 use Rattle.reg_tree_parts.specs.declared.value.Value.{Value}
 use Rattle.key_walk.specs.KeyRows.{NamedRow}
 use Rattle.reg_export.specs.NameTests.{breaks_line, fits_line, is_ascii_name}
@@ -42,14 +42,14 @@ unbroken u h = ((λ z. not_false (sym h ∙ ap (λ v. not (breaks_line v)) z)), 
     no_feed false e = refl
     no_feed true e = absurd (not_false (sym h ∙ ap (λ v. not (breaks_line v)) ((Decides-eqb u 10).0 e)))
 
-printable_feed : (u : ℕ) → is_name_unit u ≡ true → (u == 10) ≡ false
+printable_feed : (u : ℕ) → is_printable u ≡ true → (u == 10) ≡ false
 printable_feed u h = no_feed (u == 10) refl
   where
     no_feed : (test : Bool) → (u == 10) ≡ test → test ≡ false
     no_feed false e = refl
-    no_feed true e = absurd (not_false (sym h ∙ ap is_name_unit ((Decides-eqb u 10).0 e)))
+    no_feed true e = absurd (not_false (sym h ∙ ap is_printable ((Decides-eqb u 10).0 e)))
 
-pub printable_small : (u : ℕ) → is_name_unit u ≡ true → u < 128
+printable_small : (u : ℕ) → is_printable u ≡ true → u < 128
 printable_small u h = grind (arith, nat_tests, h)
 
 -- all names of a key by what its shown names are
@@ -91,8 +91,8 @@ header = codes "Windows Registry Editor Version 5.00"
 abbrev lines_of : Hives → List (List ℕ)
 lines_of hives = header ∷ [] ∷ entry_lines (export_entries hives)
 
-lines_fit : (P : ℕ → Type 0) → ((u : ℕ) → is_name_unit u ≡ true → P u) → (hives : Hives) → AreFitHives P hives → AllByRecursion (AllByRecursion P) (lines_of hives)
-lines_fit P prints hives fit = (all_then (λ u. is_name_unit u ≡ true) P prints header (all_pass is_name_unit header refl), (tt, export_fits P prints hives fit))
+lines_fit : (P : ℕ → Type 0) → ((u : ℕ) → is_printable u ≡ true → P u) → (hives : Hives) → AreFitHives P hives → AllByRecursion (AllByRecursion P) (lines_of hives)
+lines_fit P prints hives fit = (all_then (λ u. is_printable u ≡ true) P prints header (all_pass is_printable header refl), (tt, export_fits P prints hives fit))
 
 units_are : (hives : Hives) → text_of (lines_of hives) ≡ reg_units hives
 units_are hives = ap (λ xs. reg_header ++ xs) (export_text hives)
@@ -152,7 +152,7 @@ name_feeds : (name : List ℕ) → fits_line name ≡ true → AllByRecursion (�
 name_feeds name fits = all_then (λ u. not (breaks_line u) ≡ true) (λ u. (u == 10) ≡ false) (λ u h. (unbroken u h).1) name (all_pass (λ u. not (breaks_line u)) name fits)
 
 name_ascii : (name : List ℕ) → is_ascii_name name ≡ true → AllByRecursion (λ u. u < 128) name
-name_ascii name ascii = all_then (λ u. is_name_unit u ≡ true) (λ u. u < 128) printable_small name (all_pass is_name_unit name ascii)
+name_ascii name ascii = all_then (λ u. is_printable u ≡ true) (λ u. u < 128) printable_small name (all_pass is_printable name ascii)
 
 -- what is known of reading
 pub record ReadsText : Type 0 where

@@ -8,7 +8,7 @@ use Rattle.std.proofs.lemmas.List.{length-append}
 use Rattle.std.proofs.lemmas.Bool.Decides.{Decides-eqb}
 use Rattle.refusals.specs.declared.limits.TheConstants.{MOST_ELEMENT_BYTES, MOST_VALUE_BYTES}
 use Rattle.hex.specs.Hex.{encode_lower}
-use Rattle.reg_names.specs.Names.{is_name_unit}
+use Rattle.reg_names.specs.Printable.{is_printable}
 use Rattle.reg_tree_parts.specs.declared.value.Value.{Value}
 use Rattle.reg_export.specs.ByteUnits.{units_of, front_units, is_plain_text}
 use Rattle.reg_export.specs.RegTexts.{escaped_unit, quoted, value_name_text, next_column, next_byte, at_columns, list_label, number_text, value_head}
@@ -68,9 +68,9 @@ value_read value v h =
     (λ other. list_value name kind bytes h v.kind v.bytes))
 
 -- their units
-module _ (P : ℕ → Type 0) (prints : (u : ℕ) → is_name_unit u ≡ true → P u) where
+module _ (P : ℕ → Type 0) (prints : (u : ℕ) → is_printable u ≡ true → P u) where
   pub printed : (units : List ℕ) → Printable units → AllByRecursion P units
-  printed units all = all_then (λ u. is_name_unit u ≡ true) P prints units all
+  printed units all = all_then (λ u. is_printable u ≡ true) P prints units all
 
   escaped : (u : ℕ) → P u → AllByRecursion P (escaped_unit u)
   escaped u h = by_test (AllByRecursion P) (u == 34 || u == 92) (92 ∷ u ∷ []) (u ∷ []) (λ e. (prints 92 refl, (h, tt))) (λ e. (h, tt))

@@ -9,7 +9,7 @@ use Rattle.std.proofs.lemmas.List.{length-append}
 use Rattle.std.proofs.lemmas.Slice.Eq.{ends_is}
 use Rattle.std.proofs.lemmas.Bool.Decides.{Decides-eqb}
 use Rattle.hex.specs.Hex.{encode_lower}
-use Rattle.reg_names.specs.Names.{is_name_unit}
+use Rattle.reg_names.specs.Printable.{is_printable}
 use Rattle.reg_tree_parts.specs.declared.value.Value.{Value}
 use Rattle.reg_export.specs.ByteUnits.{units_of, are_whole, ends_in_zero, front_units, is_plain_text}
 use Rattle.reg_export.specs.RegTexts.{escaped_unit, quoted, next_column, next_byte, at_columns, list_label, list_text, number_text, value_head, reg_value_line}
@@ -21,7 +21,7 @@ use Rattle.reg_round_trip.proofs.TextLines.{text_of}
 use Rattle.reg_round_trip.proofs.DataLines.{line_rest, further_lines, middle, rest_text}
 
 abbrev pub Printable : List ℕ → Type 0
-Printable units = AllByRecursion (λ u. is_name_unit u ≡ true) units
+Printable units = AllByRecursion (λ u. is_printable u ≡ true) units
 
 -- the lines of a list behind the head of its value
 abbrev pub list_lines : List ℕ → ℕ → List ℕ → List (List ℕ)
@@ -104,19 +104,19 @@ pub record IsPlain (bytes : List ℕ) : Type 0 where
 
 pub plain_read : (bytes : List ℕ) → AllByRecursion (λ b. b < 256) bytes → is_plain_text bytes ≡ true → IsPlain bytes
 plain_read bytes all h =
-    let two = both_true (are_whole bytes && ends_in_zero bytes) (list_all is_name_unit (units_of (front_units bytes))) h in
+    let two = both_true (are_whole bytes && ends_in_zero bytes) (list_all is_printable (units_of (front_units bytes))) h in
     let one = both_true (are_whole bytes) (ends_in_zero bytes) two.0 in
     let front = front_units bytes in
     let ended : bytes ≡ front ++ 0 ∷ 0 ∷ [] = (ends_is Decides-eqb bytes (0 ∷ 0 ∷ []) _ refl).0 one.1 in
     let long : length bytes ≡ length front + 2 = ap length ended ∙ length-append front (0 ∷ 0 ∷ []) in
     let even : length bytes % 2 ≡ 0 = (Decides-eqb (length bytes % 2) 0).0 one.0 in
     record {
-      units = all_pass is_name_unit (units_of front) two.1;
+      units = all_pass is_printable (units_of front) two.1;
       same = ended ∙ ap (λ xs. xs ++ 0 ∷ 0 ∷ []) (sym (units_back front (all_front (λ b. b < 256) (length bytes - 2) bytes all) (omega (arith, long, even))));
     }
 
 pub no_zero : (text : List ℕ) → Printable text → HasNoZero text
-no_zero text all = all_then (λ u. is_name_unit u ≡ true) (λ u. u ≢ 0) (λ u h e. not_false (sym h ∙ ap is_name_unit e)) text all
+no_zero text all = all_then (λ u. is_printable u ≡ true) (λ u. u ≢ 0) (λ u h e. not_false (sym h ∙ ap is_printable e)) text all
 
 -- data of a number are read back
 pub record IsNumberOf (bytes : List ℕ) (number : ℕ) : Type 0 where

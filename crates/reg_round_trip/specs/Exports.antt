@@ -3,7 +3,7 @@ use Rattle.std.specs.Prelude.{◌≡◌, ◌≢◌, ℕ, ◌+◌, ◌<◌, ◌�
 use Rattle.std.specs.List.{AllByRecursion}
 use Rattle.std.specs.FinMap as finite
 use Rattle.refusals.specs.declared.limits.TheConstants.{MOST_ELEMENT_BYTES, MOST_VALUE_BYTES}
-use Rattle.reg_names.specs.Names.{is_name_unit}
+use Rattle.reg_names.specs.Printable.{is_printable}
 use Rattle.reg_tree_parts.specs.declared.value.Value.{Value}
 use Rattle.key_walk.specs.KeyRows.{NamedRow}
 use Rattle.reg_export.specs.RegTexts.{reg_path}
@@ -23,7 +23,7 @@ HasNoBackslash name = AllByRecursion (λ u. u ≢ 92) name
 
 -- a prefix: units from 0x20 to 0x7e, which neither begin with a minus nor end with a backslash
 pub record IsPrefixText (prefix : List ℕ) : Type 0 where
-  pub units : AllByRecursion (λ u. is_name_unit u ≡ true) prefix
+  pub units : AllByRecursion (λ u. is_printable u ≡ true) prefix
   pub no_minus : (rest : List ℕ) → prefix ≢ 45 ∷ rest
   pub no_separator : (front : List ℕ) → prefix ≢ front ++ 92 ∷ []
 

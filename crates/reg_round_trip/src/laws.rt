@@ -2,7 +2,8 @@
 ghost use Rattle.std.specs.Prelude.{◌≡◌, ◌≢◌, ◌==◌, [], ◌∷◌, ◌≤◌, ℕ, List, length, Option, true, Some, Ok};
 ghost use Rattle.std.specs.List.{AllByRecursion, AllZip, list_all, slice_split};
 ghost use Rattle.refusals.specs.declared.limits.TheConstants.{MOST_PATH_NAMES};
-ghost use Rattle.reg_names.specs.Names.{is_key_name, is_name_unit, path_of};
+ghost use Rattle.reg_names.specs.Names.{is_key_name, path_of};
+ghost use Rattle.reg_names.specs.Printable.{is_printable};
 ghost use Rattle.reg_prefixes.specs.declared.prefix.Prefix.{Prefix};
 ghost use Rattle.reg_prefixes.specs.Places.{place_in, shown_in};
 ghost use Rattle.reg_export.specs.RegTexts.{reg_path};
@@ -40,7 +41,7 @@ pub fn exports_are_read()
 /// Names of units from 0x20 to 0x7e, joined by one backslash each, are the text of a prefix, if they don't begin with a
 /// minus.
 pub fn joined_names_are_prefixes()
-    ensures { (text : List ℕ) → AllByRecursion (λ unit. is_name_unit unit ≡ true) text →
+    ensures { (text : List ℕ) → AllByRecursion (λ unit. is_printable unit ≡ true) text →
         ((rest : List ℕ) → text ≢ 45 ∷ rest) →
         AllByRecursion (λ name. name ≢ []) (slice_split (λ unit. unit == 92) text) → IsPrefixText text }
 {}
