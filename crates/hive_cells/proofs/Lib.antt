@@ -12,3 +12,4 @@ pub mod Region
 pub mod Walk
 mod SavedPages
 mod CellFills
+mod Blocks

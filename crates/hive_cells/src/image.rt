@@ -15,6 +15,7 @@ mod saved_pages;
 
 use crate::free_bounds::FreeBounds;
 use crate::looks::Looks;
+use crate::moves::move_bytes;
 use crate::tiling::{MARKED_BYTES, index_of};
 use refusals::limits::MOST_BINS_BYTES;
 use refusals::{Cause, Refusal};
@@ -336,14 +337,4 @@ fn put_zeros(bytes: &mut [u8], from: usize, to: usize)
     ensures zeros { slice_range bytes.new from to ≡ replicate (to - from) 0 }
 {
     bytes[from..to].fill(0);
-}
-
-// moves bytes from one offset to another
-fn move_bytes(bytes: &mut [u8], from: usize, to: usize, len: usize)
-    requires source { from + len ≤ length bytes.old }
-    requires target { to + len ≤ length bytes.old }
-    ensures written { RewritesWithin bytes.old bytes.new to (to + len) }
-    ensures moved { (j : ℕ) → j < len → slice_index bytes.new (to + j) ≡ slice_index bytes.old (from + j) }
-{
-    bytes.copy_within(from..from + len, to);
 }

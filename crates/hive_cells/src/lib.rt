@@ -24,6 +24,7 @@
 mod free_bounds;
 mod image;
 mod looks;
+mod moves;
 mod starts;
 mod tiling;
 mod words;
