@@ -1,10 +1,10 @@
 -- The first marked or unmarked page from a page on.
-use Rattle.std.proofs.Common.{◌≡◌, ◌≢◌, ◌≤◌, ◌<◌, ℕ, zero, suc, ◌+◌, ◌-◌, ◌/◌, ◌%◌, ◌^◌, Bool, true, false, not, eqb, List, get_or, refl, sym, ap, ◌∙◌, inl, inr, arith}
+use Rattle.std.proofs.Common.{◌≡◌, ◌≢◌, ◌≤◌, ◌<◌, ℕ, zero, suc, ◌+◌, ◌-◌, ◌/◌, ◌^◌, Bool, true, false, not, eqb, refl, sym, ap, ◌∙◌, inl, inr, arith}
 use Rattle.std.specs.Int.{w64, bit_at, bit_not, trailing_zeros}
 use Rattle.std.proofs.lemmas.Bool.{cases_lt}
 use Rattle.std.proofs.lemmas.Nat.Bits.{bit_at-lt, bit_at-zero, bit_at_above, bit_at_not, bit_at-trailing_zeros}
 use Rattle.std.proofs.Math.Nat.{div-le_self}
-use Rattle.dirty_vector.specs.Marks.{is_marked, IsFirstBit}
+use Rattle.dirty_vector.specs.Marks.{IsFirstBit}
 use Rattle.dirty_vector.proofs.Bytes.{bit_from}
 
 -- a bit of what is left of a word
@@ -61,27 +61,3 @@ clear_from word low result fits first =
   where
     flip : (bit : ℕ) → bit < 64 → eqb (bit_at (bit_not w64 word) bit) 1 ≡ not (eqb (bit_at word bit) 1)
     flip bit h = ap (λ (n : ℕ). eqb n 1) (bit_at_not w64 word bit fits h) ∙ flipped (bit_at word bit) (bit_at-lt word bit)
-
--- a page of the word of another
-in_word : (words : List ℕ) (page p : ℕ) → p / 64 ≡ page / 64 → is_marked words p ≡ eqb (bit_at (get_or words (page / 64) 0) (p % 64)) 1
-in_word words page p e = ap (λ (i : ℕ). eqb (bit_at (get_or words i 0) (p % 64)) 1) e
-
--- no page of the rest of a word is it
-pub word_passed : (words : List ℕ) (marked : Bool) (from page end bit p : ℕ) → IsFirstBit (get_or words (page / 64) 0) marked (page % 64) bit → from ≤ page
-    → ((q : ℕ) → from ≤ q → q < page → q < end → is_marked words q ≡ not marked)
-    → from ≤ p → p < page - page % 64 + bit → p < end → is_marked words p ≡ not marked
-word_passed words marked from page end bit p first after before low high inside =
-    elim (cases_lt p page) [
-      | inl early ↦ before p low early inside
-      | inr late ↦
-          let w = first.within in
-          let same : p / 64 ≡ page / 64 = omega (arith, late, high, w) in
-          in_word words page p same ∙ first.before (p % 64) (omega (arith, late, same)) (omega (arith, high, same))
-    ]
-
-pub word_found : (words : List ℕ) (marked : Bool) (page bit : ℕ) → IsFirstBit (get_or words (page / 64) 0) marked (page % 64) bit → bit < 64 → is_marked words (page - page % 64 + bit) ≡ marked
-word_found words marked page bit first inside =
-    let at = page - page % 64 + bit in
-    let same : at / 64 ≡ page / 64 = omega (arith, inside) in
-    let place : at % 64 ≡ bit = omega (arith, inside) in
-    in_word words page at same ∙ ap (λ (n : ℕ). eqb (bit_at (get_or words (page / 64) 0) n) 1) place ∙ first.here inside

@@ -2,4 +2,3 @@ pub mod Marks
 pub mod Pages
 pub mod Changes
 pub mod MarkWords
-pub mod Runs

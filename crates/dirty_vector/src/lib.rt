@@ -8,9 +8,7 @@
 mod bitmap;
 mod marks;
 mod page_diff;
-mod runs;
 mod vector;
 
 pub use page_diff::mark_changes;
-pub use runs::Runs;
 pub use vector::{DirtyVector, PAGE_BYTES};

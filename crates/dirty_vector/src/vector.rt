@@ -1,15 +1,13 @@
 //! The set of dirty pages.
 
-ghost use Rattle.std.specs.Prelude.{◌≡◌, ℕ, ◌/◌, ◌%◌, ◌≤◌, ◌↔◌, ◌⊎◌, Bool, true, false, IsTrue, IfOk, IfErr, MatchOption, length, Ok};
+ghost use Rattle.std.specs.Prelude.{◌≡◌, ℕ, ◌/◌, ◌%◌, ◌≤◌, ◌↔◌, ◌⊎◌, true, false, IsTrue, IfOk, IfErr, MatchOption, length, Ok};
 ghost use Rattle.std.specs.FinSet as set;
 ghost use Rattle.refusals.specs.Answers.{IsOrNoMemory, RefusedFor};
 ghost use Rattle.dirty_vector.specs.MarkWords.{IsBlank};
-ghost use Rattle.dirty_vector.specs.Marks.{is_marked_in_bitmap, marked_below};
 ghost use Rattle.dirty_vector.specs.Pages.{is_dirty, dirty_count, is_bins_size, Touches, NoneFrom, IsNextDirty, IsNthDirty, IsFirstRun, clean_pages, fresh_pages, read_pages, bitmap_of};
 
 use crate::bitmap::{read_bitmap, write_bitmap};
 use crate::marks::{WORD_BITS, count_marks, first_page, is_page_marked, mark_pages, nth_mark};
-use crate::runs::Runs;
 use refusals::Refusal;
 use refusals::limits::MOST_BINS_BYTES;
 use std::alloc::Global;
@@ -56,8 +54,6 @@ impl Model for DirtyVector {
 }
 
 impl DirtyVector {
-    ghost use Rattle.dirty_vector.specs.Runs.{IteratorIsAt};
-
     /// A vector of bins data of a size, with no dirty page. Refused with `TooLarge` if the size
     /// isn't a multiple of 4,096 from 4,096 to the limit. Otherwise refused only for want of
     /// memory.
@@ -170,16 +166,6 @@ impl DirtyVector {
         }
         let end = first_page(words, false, start, pages);
         Some(start..end)
-    }
-
-    /// The runs of adjacent dirty pages, in rising order.
-    pub fn runs(&self) -> Runs<'_>
-        ensures { IteratorIsAt result self.now 0 }
-    {
-        Runs {
-            vector: self,
-            from: 0,
-        }
     }
 
     /// Writes the bitmap: a bit for each page, the least significant bit of the first byte first, 1 for a
