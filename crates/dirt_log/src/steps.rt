@@ -68,13 +68,6 @@ pub fn write_steps<'a>(image: &'a [u8], vector: &'a DirtyVector, base: &BaseBloc
 }
 
 impl LogSteps<'_> {
-    /// How many bytes the log has.
-    pub fn byte_count(&self) -> usize
-        ensures { result ≡ length self.now }
-    {
-        pages_start(self.vector.bins_size()) + PAGE_BYTES * self.vector.count()
-    }
-
     /// Lays the chunk of a number, from 0 on, at the front of a buffer, and answers how many bytes
     /// it has. Each chunk but the last is full, and past the last there is none.
     pub fn chunk(&self, index: u32, buffer: &mut [u8]) -> usize
