@@ -120,13 +120,3 @@ found words low end high bit some most is before after =
         | inr past ↦ before k past below
       ];
     }
-
--- the last one of a word lies below `low`
-pub found_low : (words : List ℕ) (low end high bit : ℕ) → low < end → IsLastBit (get_or words ((end - 1) / 64) 0) ((end - 1) % 64) bit → NoStart words end high
-    → end - 1 - (end - 1) % 64 + bit < low → NoStart words low high
-found_low words low end high bit some is before under k after below = elim (cases_lt k end) [
-  | inl here ↦
-      let same : k / 64 ≡ (end - 1) / 64 = omega arith in
-      ap (λ (i : ℕ). eqb (bit_at (get_or words i 0) (k % 64)) 1) same ∙ ap (λ (n : ℕ). eqb n 1) (is.rest (k % 64) (omega arith) (omega arith))
-  | inr past ↦ before k past below
-]

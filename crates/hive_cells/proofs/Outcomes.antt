@@ -2,10 +2,10 @@
 use Rattle.std.proofs.Common.{◌≡◌, ◌≢◌, ℕ, ◌+◌, ◌%◌, ◌<◌, ◌≤◌, true, false, List, length, refl, sym, ◌∙◌, subst, inl, inr, arith, ap}
 use Rattle.std.proofs.lemmas.Bool.{cases_lt, cases_eq}
 use Rattle.refusals.specs.declared.limits.TheConstants.{MOST_BINS_BYTES}
-use Rattle.hive_cells.specs.Tiles.{u32_at, IsBin, bin_size, is_allocated, cell_size, IsAllocatedCell, IsFreeCell, HasFree}
+use Rattle.hive_cells.specs.Tiles.{u32_at, IsBin, bin_size, is_allocated, cell_size, IsAllocatedCell, IsFreeCell}
 use Rattle.hive_cells.specs.Marks.{IsWholeCell}
 use Rattle.hive_cells.specs.Starts.{HasStartBits, SameCell}
-use Rattle.hive_cells.specs.Changes.{StaysAt, StaysFree, RewritesWithin, RewritesSizes, IsOutside, Turns, Splits, Joins, JoinsBehind, JoinsBefore, Frees, IsCutToSize, Takes, LeavesRest, IsRoomFor, AddsFreeBin, HasRoom, HasNoRoomFor, Allocates, least_size, least_bin}
+use Rattle.hive_cells.specs.Changes.{StaysAt, StaysFree, RewritesWithin, RewritesSizes, IsOutside, Turns, Splits, JoinsBehind, JoinsBefore, Frees, IsCutToSize, Takes, LeavesRest, IsRoomFor, HasRoom, HasNoRoomFor, Allocates, least_size}
 use Rattle.hive_cells.proofs.CellChanges.{cell_within}
 use Rattle.hive_cells.proofs.Lookups.{begins_apart}
 use Rattle.hive_cells.proofs.Region.{words_same}
@@ -89,22 +89,6 @@ freed old free joined new words at from k was limit turned behind before =
       written = λ i here there. before.written.others i there ∙ behind.written.others i here ∙ turned.written.others i here;
     }
 
--- the free cell after one that is joined with it
-pub joined_behind : (old new words : List ℕ) (at next : ℕ) → HasStartBits old words → IsFreeCell old at → next ≡ at + cell_size old at → Joins old new at next → JoinsBehind old new at
-joined_behind old new words at next k free next_is j =
-    let least : 8 ≤ cell_size old at = (cell_within old words at k free.0).least in
-    record {
-      free = j.joined;
-      least = omega (arith, j.size);
-      joined = λ other found is.
-          let same : other ≡ next = omega arith in
-          let size : cell_size old other ≡ cell_size old next = ap (cell_size old) same in
-          omega (arith, j.size);
-      stay = j.stay;
-      before = λ other low. j.cells other (omega arith) (omega arith);
-      written = j.written;
-    }
-
 -- none is there
 pub none_behind : (bytes : List ℕ) (at next : ℕ) → IsFreeCell bytes at → next ≡ at + cell_size bytes at → (¬ IsFreeCell bytes next) → JoinsBehind bytes bytes at
 none_behind bytes at next free next_is none =
@@ -115,20 +99,6 @@ none_behind bytes at next free next_is none =
       stay = λ other. stays_same bytes other;
       before = λ other low. same_cell bytes other;
       written = record { len = refl; others = λ i out. refl };
-    }
-
--- the free cell before one that takes it in
-pub joined_before : (old new words : List ℕ) (at from : ℕ) → HasStartBits old words → IsFreeCell old from → from + cell_size old from ≡ at
-    → ((other : ℕ) → IsFreeCell old other → other + cell_size old other ≡ at → from ≡ other) → Joins old new from at → JoinsBefore old new at from
-joined_before old new words at from k free ends only j =
-    record {
-      before = omega arith;
-      free = j.joined;
-      end = omega (arith, j.size);
-      joined = only;
-      alone = λ none. absurd (none from free ends);
-      stay = j.stay;
-      written = j.written;
     }
 
 -- none is there
@@ -320,22 +290,6 @@ room_found bytes words at size k limit free fits =
       same = λ i before. refl;
       source = inl (free, refl, refl);
       has_place = λ no. elim no [ inl over ↦ omega arith | inr needs ↦ needs.0 (at, free, fits) ];
-    }
-
--- so has one of a bin that was added
-pub room_added : (old new : List ℕ) (size : ℕ) → length old + least_bin size ≤ MOST_BINS_BYTES → (¬ HasFree old size) → AddsFreeBin old new (least_bin size) → HasRoom old new (length old + 32) size
-room_added old new size limit none added =
-    record {
-      limit = omega (arith, added.adds.longer);
-      cell = added.cell;
-      fits = omega (arith, added.cell_is);
-      within = omega (arith, added.cell_is, added.adds.longer);
-      stay = added.stay;
-      cells = added.cells;
-      longer = omega (arith, added.adds.longer);
-      same = added.same;
-      source = inr (none, added.adds, refl, added.cell_is);
-      has_place = λ no. elim no [ inl over ↦ omega arith | inr needs ↦ omega (arith, needs.1) ];
     }
 
 -- no cell that is longer than the limit has room
