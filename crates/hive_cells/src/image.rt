@@ -182,20 +182,20 @@ impl Image {
         Ok(())
     }
 
-    /// Writes a text into the data of the allocated cell that begins at an offset, from their first byte on, and zeros
-    /// after it up to the end of the cell. Takes no memory.
-    pub fn fill(&mut self, offset: u32, text: &[u8])
+    /// Writes bytes into the data of the allocated cell that begins at an offset, from the first byte of the data on,
+    /// and zeros after them up to the end of the cell. Takes no memory.
+    pub fn fill(&mut self, offset: u32, source: &[u8])
         requires cell { IsAllocatedCell self.old.bytes offset }
-        requires room { 4 + length text.now ≤ cell_size self.old.bytes offset }
+        requires room { 4 + length source.now ≤ cell_size self.old.bytes offset }
         ensures written { Writes self.old.bytes self.new.bytes offset (offset + 4)
             (offset + cell_size self.old.bytes offset) }
-        ensures data { cell_data self.new.bytes offset ≡ text.now
-            ++ replicate (cell_size self.old.bytes offset - (4 + length text.now)) 0 }
+        ensures data { cell_data self.new.bytes offset ≡ source.now
+            ++ replicate (cell_size self.old.bytes offset - (4 + length source.now)) 0 }
         ensures spare { self.new.spare ≡ self.old.spare }
     {
         let cell = offset as usize;
         let end = cell + self.size_at(cell);
-        put_filled(&mut self.bytes, cell + SIZE_BYTES, end, text);
+        put_filled(&mut self.bytes, cell + SIZE_BYTES, end, source);
     }
 
     /// Moves `len` bytes within the data of the allocated cell that begins at an offset, from the byte `from` of the
@@ -318,15 +318,15 @@ fn put_bytes(bytes: &mut [u8], from: usize, source: &[u8])
 }
 
 // writes bytes from an offset on, and zeros after them up to another offset
-fn put_filled(bytes: &mut [u8], from: usize, to: usize, text: &[u8])
+fn put_filled(bytes: &mut [u8], from: usize, to: usize, source: &[u8])
     requires within { to ≤ length bytes.old }
-    requires room { from + length text.now ≤ to }
+    requires room { from + length source.now ≤ to }
     ensures written { RewritesWithin bytes.old bytes.new from to }
     ensures encoding { slice_range bytes.new from to
-        ≡ text.now ++ replicate (to - (from + length text.now)) 0 }
+        ≡ source.now ++ replicate (to - (from + length source.now)) 0 }
 {
-    put_bytes(bytes, from, text);
-    put_zeros(bytes, from + text.len(), to);
+    put_bytes(bytes, from, source);
+    put_zeros(bytes, from + source.len(), to);
 }
 
 // writes zeros from an offset up to another

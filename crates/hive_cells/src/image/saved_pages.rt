@@ -32,17 +32,17 @@ impl Image {
 }
 
 // writes a page
-fn put_page(bytes: &mut [u8], page: usize, text: &[u8])
+fn put_page(bytes: &mut [u8], page: usize, source: &[u8])
     requires inside { 512 * page + 512 ≤ length bytes.old }
-    requires whole { length text.now ≡ 512 }
+    requires whole { length source.now ≡ 512 }
     ensures len { length bytes.new ≡ length bytes.old }
     ensures its { (j : ℕ) → j < 512 →
-        slice_index bytes.new (512 * page + j) ≡ slice_index text.now j }
+        slice_index bytes.new (512 * page + j) ≡ slice_index source.now j }
     ensures others { (i : ℕ) → ((i < 512 * page) ⊎ (512 * page + 512 ≤ i)) →
         slice_index bytes.new i ≡ slice_index bytes.old i }
 {
     let from = SAVED_BYTES * page;
-    bytes[from..from + SAVED_BYTES].copy_from_slice(text);
+    bytes[from..from + SAVED_BYTES].copy_from_slice(source);
 }
 
 // puts saved pages back
