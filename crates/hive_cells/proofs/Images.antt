@@ -3,6 +3,7 @@ use Rattle.std.proofs.Common.{◌≡◌, ℕ, ◌+◌, ◌-◌, ◌/◌, ◌%◌
 use Rattle.std.specs.Prelude.{Option, Some, None, MatchOption, replicate}
 use Rattle.std.proofs.lemmas.Bool.{cases_eq, cases_Bool}
 use Rattle.std.proofs.lemmas.List.{length-append, length-replicate}
+use Rattle.refusals.specs.declared.limits.TheConstants.{MOST_BINS_BYTES}
 use Rattle.hive_cells.proofs.NewBin.{bin_added}
 use Rattle.hive_cells.specs.Bins.{Cells, Shows}
 use Rattle.hive_cells.specs.Tiles.{is_allocated, cell_size, cell_data, BeginsCell, IsAllocatedCell, IsFreeCell}
@@ -135,12 +136,12 @@ write_all items now given new words bounds spare room words_room at from len see
 
 -- a bin that was added, with what is spare then
 pub bin_all : (items now given new words given_words words' bounds bounds' : List ℕ) (spare spare' room words_room room' words_room' more at : ℕ) → items ≡ now → at ≡ length items → IsImage items words bounds spare room words_room
-    → more % 4096 ≡ 0 → 0 < more → at + more ≤ 67108864 → given ≡ items ++ replicate more 0 → given_words ≡ words ++ replicate (more / 512) 0
+    → more % 4096 ≡ 0 → 0 < more → at + more ≤ MOST_BINS_BYTES → given ≡ items ++ replicate more 0 → given_words ≡ words ++ replicate (more / 512) 0
     → SetsStartBit given_words words' ((at + 32) / 8) true → LaysBin given new at → Raises bounds bounds' ((at + 32) / 4096) (more - 32)
     → spare' ≡ spare - more → room ≤ room' → words_room ≤ words_room' → length new ≤ room' → length words' ≤ words_room'
     → IsImage new words' bounds' spare' room' words_room' × AddsFreeBin now new more
 bin_all items now given new words given_words words' bounds bounds' spare spare' room words_room room' words_room' more at seen at_is i pages some limit given_is words_are put l r spare_is wider words_wider fits words_fit =
-    let most : 16384 ≤ length bounds = i.indexed.most_pages in
+    let most : MOST_BINS_BYTES / 4096 ≤ length bounds = i.indexed.most_pages in
     let whole : length items % 4096 ≡ 0 = i.indexed.cells.all.pages in
     let added = bin_added items given new words words' bounds bounds' more at at_is i.indexed.cells i.indexed.free pages some given_is
     (subst (λ (x : List ℕ). SetsStartBit x words' ((at + 32) / 8) true) words_are put) l (omega arith) r in

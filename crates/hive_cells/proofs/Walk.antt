@@ -5,6 +5,7 @@ use Rattle.std.specs.Int.{bit_at}
 use Rattle.std.proofs.lemmas.Bool.{cases_eq, cases_lt}
 use Rattle.std.proofs.lemmas.List.{length-replicate, get_or-replicate, get_or_past}
 use Rattle.std.proofs.lemmas.Nat.Bits.{bit_at-zero}
+use Rattle.refusals.specs.declared.limits.TheConstants.{MOST_BINS_BYTES}
 use Rattle.hive_cells.specs.Tiles.{IsBin, bin_size, IsCell, cell_size, is_allocated}
 use Rattle.hive_cells.specs.Marks.{Mark, Inside, Bin, Cell, mark_at, BinMarked, IsMarked, IsInBin, IsCellMarkedAt}
 use Rattle.hive_cells.specs.Starts.{is_start, is_cell_mark, IsIndexed, SetsStartBit, WalkIsBetweenBins, WalkIsInBin, bound_at}
@@ -24,7 +25,7 @@ pub no_start : (n k : ℕ) → is_start (replicate n 0) k ≡ false
 no_start n k = ap (λ (w : ℕ). eqb (bit_at w (k % 64)) 1) (zero_word n (k / 64)) ∙ ap (λ (b : ℕ). eqb b 1) (bit_at-zero (k % 64))
 
 -- the walk begins
-pub walk_start : (bytes : List ℕ) (bounds : ℕ) → length bytes % 4096 ≡ 0 → length bytes / 4096 ≤ bounds → 16384 ≤ bounds → WalkIsBetweenBins bytes (replicate (length bytes / 512) 0) (replicate bounds 0) 0
+pub walk_start : (bytes : List ℕ) (bounds : ℕ) → length bytes % 4096 ≡ 0 → length bytes / 4096 ≤ bounds → MOST_BINS_BYTES / 4096 ≤ bounds → WalkIsBetweenBins bytes (replicate (length bytes / 512) 0) (replicate bounds 0) 0
 walk_start bytes bounds pages enough most_pages =
     let count : ℕ = length bytes / 8 in
     let inside : (k : ℕ) → mark_at (replicate count Inside) k ≡ Inside = inside_marks count in

@@ -2,6 +2,7 @@
 -- the greatest sizes of free cells, page by page.
 use Rattle.std.specs.Prelude.{◌≡◌, ◌≢◌, ℕ, ◌+◌, ◌*◌, ◌/◌, ◌%◌, ◌<◌, ◌≤◌, ◌==◌, Bool, true, false, List, length, slice_index}
 use Rattle.std.specs.Int.{bit_at}
+use Rattle.refusals.specs.declared.limits.TheConstants.{MOST_BINS_BYTES}
 use Rattle.hive_cells.specs.Tiles.{IsFreeCell, BeginsCell, u32_at, is_allocated, cell_size}
 use Rattle.hive_cells.specs.Marks.{Mark, Cell, mark_at, IsMarked, IsBetweenBins, IsInBin}
 
@@ -72,7 +73,7 @@ pub record AreBounds (bytes bounds : List ℕ) : Type 0 where
 pub record IsIndexed (bytes words bounds : List ℕ) : Type 0 where
   pub cells : HasStartBits bytes words
   pub free : AreBounds bytes bounds
-  pub most_pages : 16384 ≤ length bounds
+  pub most_pages : MOST_BINS_BYTES / 4096 ≤ length bounds
 
 -- an image: data with bits and bounds, and memory for some bytes more and their bits
 pub record IsImage (bytes words bounds : List ℕ) (spare room words_room : ℕ) : Type 0 where
@@ -105,7 +106,7 @@ pub record IsNextPage (bounds : List ℕ) (from upto size page : ℕ) : Type 0 w
 -- the bounds of the free cells that are marked so far
 pub record AreBoundsOf (bytes : List ℕ) (marks : List Mark) (bounds : List ℕ) : Type 0 where
   pub len : length bytes ≤ 4096 * length bounds
-  pub most_pages : 16384 ≤ length bounds
+  pub most_pages : MOST_BINS_BYTES / 4096 ≤ length bounds
   pub most : (k : ℕ) → mark_at marks k ≡ Cell → is_allocated bytes (8 * k) ≡ false → cell_size bytes (8 * k) ≤ bound_at bounds (8 * k)
 
 -- the walk over the data is between two bins, at an offset

@@ -20,8 +20,6 @@ const MOST_PAGES: usize = MOST_BINS_BYTES / PAGE_BYTES;
 
 const _: () = prove!(GROUP == 128);
 
-const _: () = prove!(MOST_PAGES == 16_384);
-
 /// The bounds of the sizes of free cells, page by page. Contracts see the list of them.
 #[derive(Drop)]
 pub(crate) struct FreeBounds {
@@ -40,7 +38,7 @@ impl Model for FreeBounds {
 impl FreeBounds {
     /// Bounds of 0 for `count` pages, or for as many pages as the largest data have, if those are more.
     pub(crate) fn none(alloc: Global, count: usize) -> Result<FreeBounds, AllocError>
-        ensures { IfOk result (λ bounds. bounds ≡ replicate (max count 16384) 0) }
+        ensures { IfOk result (λ bounds. bounds ≡ replicate (max count (MOST_BINS_BYTES / 4096)) 0) }
     {
         let count = count.max(MOST_PAGES);
         let pages = vec![in alloc; 0; count]?;

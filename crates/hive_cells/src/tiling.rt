@@ -1,5 +1,6 @@
 //! The one walk over hive bins data that finds where bins and cells begin.
 ghost use Rattle.std.specs.Prelude.{◌≡◌, ◌+◌, ◌≤◌, ◌<◌, ◌*◌, ◌/◌, ◌%◌, ◌^◌, length, MatchResult, IfOk};
+ghost use Rattle.refusals.specs.declared.limits.TheConstants.{MOST_BINS_BYTES};
 ghost use Rattle.hive_cells.specs.Tiles.{IsBin, IsCell, DataRefused, IsFaultOf, bin_size, cell_size, is_allocated};
 ghost use Rattle.hive_cells.specs.Starts.{IsIndexed, WalkIsBetweenBins, WalkIsInBin};
 
@@ -159,7 +160,7 @@ pub(crate) fn index_again(
 ) -> Result<(), Refusal>
     requires bits { length starts.old ≡ length bytes.now / 512 }
     requires bounds { length bytes.now / 4096 ≤ length free.old }
-    requires most { 16384 ≤ length free.old }
+    requires most { MOST_BINS_BYTES / 4096 ≤ length free.old }
     ensures { MatchResult result (λ _. IsIndexed bytes.now starts.new free.new)
         (IsFaultOf bytes.now) }
 {
