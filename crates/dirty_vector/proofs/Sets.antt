@@ -10,6 +10,7 @@ use Rattle.std.proofs.lemmas.Bool.Decides.{nat_tests}
 use Rattle.std.proofs.Math.Nat.{add-zero}
 use Rattle.std.proofs.lemmas.List.FromFn.{fill_by_all, length-map-range_with_len, get_or-map-range_with_len}
 use Rattle.dirty_vector.specs.Marks.{is_marked, is_marked_in_bitmap, marked_count, marked_below, IsNthMark}
+use Rattle.refusals.specs.declared.limits.TheConstants.{MOST_BINS_BYTES}
 use Rattle.dirty_vector.specs.Pages.{Pages, is_dirty, dirty_count, is_bins_size, Touches, clean_pages, fresh_pages, read_pages, bit_of, bitmap_byte, bitmap_of, NoneFrom, IsNextDirty, IsNthDirty, IsFirstRun}
 use Rattle.dirty_vector.specs.MarkWords.{pages_of, AreMarkWords, IsBlank}
 use Rattle.std.specs.Prelude.{Option, Some, None, MatchOption, replicate}
@@ -172,7 +173,7 @@ made_clean size old words v is zeros = ap (λ (d : set.FinSet nat_cmp). pages si
 -- the same words are the words of larger bins data
 pub kept_larger : (size larger : ℕ) (words : List ℕ) → AreMarkWords size words → is_bins_size larger ≡ true → size ≤ larger → AreMarkWords larger words
 kept_larger size larger words kept good more =
-    let most : larger ≤ 67108864 = leb-true larger 67108864 (and_parts (eqb (larger % 4096) 0 && leb 4096 larger) (leb larger 67108864) good).1 in
+    let most : larger ≤ MOST_BINS_BYTES = leb-true larger MOST_BINS_BYTES (and_parts (eqb (larger % 4096) 0 && leb 4096 larger) (leb larger MOST_BINS_BYTES) good).1 in
     record { good = good; room = omega (arith, kept.long); long = kept.long; inside = λ page past. kept.inside page (omega arith) }
 
 pub same_in_larger : (size larger : ℕ) (words : List ℕ) (v : Pages) → AreMarkWords size words → pages_of size words ≡ v → is_bins_size larger ≡ true → v.bins_size ≤ larger → (page : ℕ) → is_dirty (pages_of larger words) page ≡ is_dirty v page

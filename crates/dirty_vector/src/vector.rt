@@ -27,8 +27,6 @@ const _: () = prove!(PAGE_BYTES == 512);
 
 const _: () = prove!(BIN_BYTES == 4096);
 
-const _: () = prove!(MOST_WORDS == 2048);
-
 /// The set of the dirty pages of hive bins data of one size.
 ///
 /// It is made with words for the largest bins data, 16,384 bytes of them, so that it grows without
