@@ -1,5 +1,5 @@
 //! An image with a savepoint.
-ghost use Rattle.std.specs.Prelude.{◌≡◌, ◌≤◌, ◌<◌, ◌+◌, ◌%◌, ◌-◌, ◌^◌, ◌*◌, ℕ, true, min, IfErr, IfOk, OnOk, OnErr, MatchResult, length};
+ghost use Rattle.std.specs.Prelude.{◌≡◌, ◌≤◌, ◌<◌, ◌+◌, ◌%◌, ◌-◌, ◌^◌, ◌*◌, true, min, IfErr, IfOk, OnOk, OnErr, MatchResult, length};
 ghost use Rattle.std.specs.List.{AllByRecursion};
 ghost use Rattle.std.specs.Borrow.{sem};
 ghost use Rattle.refusals.specs.declared.refusal.Refusal.TheVariants.{HiveDamaged, NoMemory};
@@ -78,19 +78,6 @@ impl SavepointImage {
         self.limit = image.len();
         self.before = Snapshot::of(&image);
         self.image = image;
-    }
-
-    /// The image, without its savepoint.
-    pub fn into_image(self) -> Image
-        ensures { result.bytes ≡ self.bytes }
-    {
-        let SavepointImage {
-            image,
-            log: _,
-            limit: _,
-            before: _,
-        } = self;
-        image
     }
 
     /// The image as it is now.
