@@ -103,18 +103,18 @@ module _ (old new : List ℕ) (at from len : ℕ) (w : Writes old new at (at + 4
 data_index : (bytes : List ℕ) (at i : ℕ) → 4 + i < cell_size bytes at → slice_index (cell_data bytes at) i ≡ slice_index bytes (at + 4 + i)
 data_index bytes at i h = range_index bytes (at + 4) (at + cell_size bytes at) i (omega (arith, h))
 
--- a text was written
-overlaid : (old new : List ℕ) (at from : ℕ) (text : List ℕ) → HasData old at (from + length text) → Writes old new at (at + 4 + from) (at + 4 + from + length text) → slice_range new (at + 4 + from) (at + 4 + from + length text) ≡ text
-    → Overlays (cell_data old at) (cell_data new at) from text
-overlaid old new at from text has w is = record {
-  len = same_len old new at from (length text) w;
-  before = data_before old new at from (length text) w;
-  after = data_after old new at from (length text) w;
+-- bytes were written
+overlaid : (old new : List ℕ) (at from : ℕ) (bytes : List ℕ) → HasData old at (from + length bytes) → Writes old new at (at + 4 + from) (at + 4 + from + length bytes) → slice_range new (at + 4 + from) (at + 4 + from + length bytes) ≡ bytes
+    → Overlays (cell_data old at) (cell_data new at) from bytes
+overlaid old new at from bytes has w is = record {
+  len = same_len old new at from (length bytes) w;
+  before = data_before old new at from (length bytes) w;
+  after = data_after old new at from (length bytes) w;
   its = λ i h.
       let size : cell_size new at ≡ cell_size old at = w.size in
       data_index new at (from + i) (omega (arith, h, has.1, size))
       ∙ ap (slice_index new) (omega arith)
-      ∙ sym (range_index new (at + 4 + from) (at + 4 + from + length text) i (omega (arith, h)))
+      ∙ sym (range_index new (at + 4 + from) (at + 4 + from + length bytes) i (omega (arith, h)))
       ∙ ap (λ (z : List ℕ). slice_index z i) is;
 }
 
@@ -166,17 +166,17 @@ changed_cell old new at how others begins size is = record {
   ];
 }
 
-pub put_in : (old new : List ℕ) (at from : ℕ) (text : List ℕ) → HasData old at (from + length text) → Writes old new at (at + 4 + from) (at + 4 + from + length text) → slice_range new (at + 4 + from) (at + 4 + from + length text) ≡ text
-    → ChangesCell old new at (λ its now. Overlays its now from text)
-put_in old new at from text has w is = changed_cell old new at (λ its now. Overlays its now from text) w.others w.begins w.size (overlaid old new at from text has w is)
+pub put_in : (old new : List ℕ) (at from : ℕ) (bytes : List ℕ) → HasData old at (from + length bytes) → Writes old new at (at + 4 + from) (at + 4 + from + length bytes) → slice_range new (at + 4 + from) (at + 4 + from + length bytes) ≡ bytes
+    → ChangesCell old new at (λ its now. Overlays its now from bytes)
+put_in old new at from bytes has w is = changed_cell old new at (λ its now. Overlays its now from bytes) w.others w.begins w.size (overlaid old new at from bytes has w is)
 
 pub moved_in : (old new : List ℕ) (at from to len : ℕ) → HasData old at (from + len) → HasData old at (to + len) → Writes old new at (at + 4 + to) (at + 4 + to + len)
     → ((j : ℕ) → j < len → slice_index new (at + 4 + to + j) ≡ slice_index old (at + 4 + from + j)) → ChangesCell old new at (λ its now. Moves its now from to len)
 moved_in old new at from to len source target w is = changed_cell old new at (λ its now. Moves its now from to len) w.others w.begins w.size (moved old new at from to len source target w is)
 
 -- a cell that was allocated and filled
-pub added : (old mid new : List ℕ) (len at : ℕ) (text : List ℕ) (zeros : ℕ) → length text ≤ len → Allocates old mid len at → Writes mid new at (at + 4) (at + cell_size mid at) → cell_data new at ≡ text ++ replicate zeros 0 → AddsCell old new at text
-added old mid new len at text zeros most a w is = record {
+pub added : (old mid new : List ℕ) (len at : ℕ) (bytes : List ℕ) (zeros : ℕ) → length bytes ≤ len → Allocates old mid len at → Writes mid new at (at + 4) (at + cell_size mid at) → cell_data new at ≡ bytes ++ replicate zeros 0 → AddsCell old new at bytes
+added old mid new len at bytes zeros most a w is = record {
   cells = λ before shows. (
     none_shown old at a.fresh (before at) (shows at),
     put_at before at (cell_data new at),

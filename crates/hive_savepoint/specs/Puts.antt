@@ -8,12 +8,12 @@ use Rattle.hive_tree_model.specs.Cells.{SameBut}
 abbrev pub HasData : List ℕ → ℕ → ℕ → Type 0
 HasData bytes at len = IsAllocatedCell bytes at × (4 + len ≤ cell_size bytes at)
 
--- a text is in data from an offset on; all other bytes are the old ones
-pub record Overlays (old new : List ℕ) (from : ℕ) (text : List ℕ) : Type 0 where
+-- bytes are in data from an offset on; all others are the old ones
+pub record Overlays (old new : List ℕ) (from : ℕ) (bytes : List ℕ) : Type 0 where
   pub len : length new ≡ length old
   pub before : (i : ℕ) → i < from → slice_index new i ≡ slice_index old i
-  pub after : (i : ℕ) → from + length text ≤ i → slice_index new i ≡ slice_index old i
-  pub its : (i : ℕ) → i < length text → slice_index new (from + i) ≡ slice_index text i
+  pub after : (i : ℕ) → from + length bytes ≤ i → slice_index new i ≡ slice_index old i
+  pub its : (i : ℕ) → i < length bytes → slice_index new (from + i) ≡ slice_index bytes i
 
 -- bytes of data are moved within the data: `len` bytes from one offset to another
 pub record Moves (old new : List ℕ) (from to len : ℕ) : Type 0 where
@@ -29,11 +29,11 @@ pub record ChangesCell (old new : List ℕ) (at : ℕ) (how : List ℕ → List 
   pub sizes : (cell len : ℕ) → HasData old cell len → HasData new cell len
 
 -- a new cell at an offset has these data, with zeros after them; all other cells stay and keep their sizes
-pub record AddsCell (old new : List ℕ) (at : ℕ) (text : List ℕ) : Type 0 where
+pub record AddsCell (old new : List ℕ) (at : ℕ) (bytes : List ℕ) : Type 0 where
   pub cells : (before : Cells) → Shows old before → (before at ≡ None) × (after : Cells) × Shows new after × SameBut at before after
-      × (zeros : ℕ) × (after at ≡ Some (text ++ replicate zeros 0))
+      × (zeros : ℕ) × (after at ≡ Some (bytes ++ replicate zeros 0))
   pub sizes : (cell len : ℕ) → HasData old cell len → HasData new cell len
-  pub own_size : HasData new at (length text)
+  pub own_size : HasData new at (length bytes)
 
 -- the cell at an offset is free; all other cells stay and keep their sizes
 pub record DropsCell (old new : List ℕ) (at : ℕ) : Type 0 where

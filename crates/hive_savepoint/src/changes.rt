@@ -87,12 +87,12 @@ pub(crate) fn shift(
     Ok(())
 }
 
-/// Allocates a cell for a text and `room` bytes more, and writes the text and zeros into it.
+/// Allocates a cell for bytes and `room` bytes more, and writes the bytes and zeros into it.
 pub(crate) fn insert(
     image: &mut Image,
     log: &mut UndoLog,
     limit: usize,
-    text: &[u8],
+    source: &[u8],
     room: usize,
 ) -> Result<u32, Refusal>
     requires within { limit ≤ length image.old.bytes }
@@ -101,18 +101,18 @@ pub(crate) fn insert(
     ensures back { (saved : List ℕ) → LeadsBack saved image.old.bytes log.old limit →
         LeadsBack saved image.new.bytes log.new limit }
     ensures added { IfOk result (λ offset.
-        AddsCell image.old.bytes image.new.bytes offset text.now) }
-    ensures room { IfOk result (λ offset. HasData image.new.bytes offset (length text.now + room)) }
+        AddsCell image.old.bytes image.new.bytes offset source.now) }
+    ensures room { IfOk result (λ offset. HasData image.new.bytes offset (length source.now + room)) }
     ensures eights { IfOk result (λ offset. offset % 8 ≡ 0) }
-    ensures refused { IfErr result (AllocRefused image.old.bytes (least_size (length text.now + room))) }
+    ensures refused { IfErr result (AllocRefused image.old.bytes (least_size (length source.now + room))) }
     ensures err { OnErr result (image.new.bytes ≡ image.old.bytes) }
 {
     image.tiles(0); // for the prover
-    if text.len() > MOST_BINS_BYTES || room > MOST_BINS_BYTES - text.len() {
+    if source.len() > MOST_BINS_BYTES || room > MOST_BINS_BYTES - source.len() {
         return Err(Refusal::TooLarge);
     }
-    let offset = alloc(image, log, limit, text.len() + room)?;
-    image.fill(offset, text);
+    let offset = alloc(image, log, limit, source.len() + room)?;
+    image.fill(offset, source);
     Ok(offset)
 }
 

@@ -176,20 +176,20 @@ impl SavepointImage {
         )
     }
 
-    /// Allocates a cell for a text and `room` bytes more. Writes the text into it and zeros after it, up to the end of
-    /// the cell. Answers the cell's offset.
+    /// Allocates a cell for bytes and `room` bytes more. Writes the bytes into it and zeros after them, up to the end
+    /// of the cell. Answers the cell's offset.
     ///
     /// Refused with `NoMemory`, or with `TooLarge` if there is no room within 64 MiB. Nothing is changed then.
-    pub fn insert(&mut self, text: &[u8], room: usize) -> Result<u32, Refusal>
+    pub fn insert(&mut self, source: &[u8], room: usize) -> Result<u32, Refusal>
         ensures added { IfOk result (λ offset.
-            AddsCell self.old.bytes self.new.bytes offset text.now) }
-        ensures room { IfOk result (λ offset. HasData self.new.bytes offset (length text.now + room)) }
+            AddsCell self.old.bytes self.new.bytes offset source.now) }
+        ensures room { IfOk result (λ offset. HasData self.new.bytes offset (length source.now + room)) }
         ensures eights { IfOk result (λ offset. offset % 8 ≡ 0) }
         ensures saved { self.new.saved ≡ self.old.saved }
-        ensures refused { IfErr result (AllocRefused self.old.bytes (least_size (length text.now + room))) }
+        ensures refused { IfErr result (AllocRefused self.old.bytes (least_size (length source.now + room))) }
         ensures err { OnErr result (self.new ≡ self.old) }
     {
-        changes::insert(&mut self.image, &mut self.log, self.limit, text, room)
+        changes::insert(&mut self.image, &mut self.log, self.limit, source, room)
     }
 
     /// Frees an allocated cell. Refused with `NoMemory` alone, and then nothing is changed.

@@ -2,15 +2,15 @@ use Rattle.std.proofs.Common.{◌+◌, ◌-◌, length, refl, arith}
 use Rattle.hive_cells.specs.Tiles.{cell_size}
 use Rattle.hive_savepoint.proofs.CellChanges.{added, cell_eights, no_place}
 use Rattle.hive_savepoint.proofs.WaysBack.{wrote_back}
-use Rattle.hive_savepoint.proofs.changes.insert.Goals.{then-text-gt-MOST_BINS_BYTES-via-then-text-gt-MOST_BINS_BYTES, then-text-gt-MOST_BINS_BYTES-via-else-text-gt-MOST_BINS_BYTES+then-room-text}
+use Rattle.hive_savepoint.proofs.changes.insert.Goals.{then-source-gt-MOST_BINS_BYTES-via-then-source-gt-MOST_BINS_BYTES, then-source-gt-MOST_BINS_BYTES-via-else-source-gt-MOST_BINS_BYTES+then-room-source}
 use Rattle.hive_savepoint.proofs.changes.insert.Goals as goal
 
-pub returns-then-text-gt-MOST_BINS_BYTES-clause-refused : goal.returns-then-text-gt-MOST_BINS_BYTES-clause-refused
-returns-then-text-gt-MOST_BINS_BYTES-clause-refused c =
-    no_place c.args.image.now.bytes (length c.args.text.now + c.args.room) c.tiles.ensures.tiles c.requires.whole
-    (elim c.then-text-gt-MOST_BINS_BYTES.branch [
-      | then-text-gt-MOST_BINS_BYTES-via-then-text-gt-MOST_BINS_BYTES w ↦ omega arith
-      | then-text-gt-MOST_BINS_BYTES-via-else-text-gt-MOST_BINS_BYTES+then-room-text w ↦ omega arith
+pub returns-then-source-gt-MOST_BINS_BYTES-clause-refused : goal.returns-then-source-gt-MOST_BINS_BYTES-clause-refused
+returns-then-source-gt-MOST_BINS_BYTES-clause-refused c =
+    no_place c.args.image.now.bytes (length c.args.source.now + c.args.room) c.tiles.ensures.tiles c.requires.whole
+    (elim c.then-source-gt-MOST_BINS_BYTES.branch [
+      | then-source-gt-MOST_BINS_BYTES-via-then-source-gt-MOST_BINS_BYTES w ↦ omega arith
+      | then-source-gt-MOST_BINS_BYTES-via-else-source-gt-MOST_BINS_BYTES+then-room-source w ↦ omega arith
     ])
 
 pub returns-clause-back : goal.returns-clause-back
@@ -24,7 +24,7 @@ pub returns-clause-added : goal.returns-clause-added
 returns-clause-added c =
     let mid = c.alloc.new.image.bytes in
     let offset = c.in_ok-offset.offset in
-    added c.args.image.now.bytes mid c.fill.new.self.bytes (length c.args.text.now + c.args.room) offset c.args.text.now (cell_size mid offset - (4 + length c.args.text.now)) (omega arith)
+    added c.args.image.now.bytes mid c.fill.new.self.bytes (length c.args.source.now + c.args.room) offset c.args.source.now (cell_size mid offset - (4 + length c.args.source.now)) (omega arith)
     c.in_ok-offset.ensures.allocated c.fill.ensures.written c.fill.ensures.data
 
 pub returns-clause-eights : goal.returns-clause-eights
