@@ -4,6 +4,7 @@ use Rattle.std.specs.Prelude.{replicate}
 use Rattle.std.proofs.lemmas.List.{get_or_past}
 use Rattle.std.proofs.lemmas.Bool.{cases_eq, cases_lt}
 use Rattle.std.proofs.lemmas.Bool.Decides.{eqb_tells}
+use Rattle.refusals.specs.declared.limits.TheConstants.{MOST_BINS_BYTES}
 use Rattle.hive_cells.specs.Tiles.{Tiles, BinStart, first_bin, next_bin, CellStart, first_cell, next_cell, IsCell, IsAllocatedCell, cell_size, cell_data, bin_size, is_allocated}
 use Rattle.hive_cells.specs.Bins.{Cells, Shows}
 use Rattle.hive_cells.proofs.Outcomes.{stays_on}
@@ -218,7 +219,7 @@ dropped old new at from f = record {
 }
 
 -- no cell that is longer than the limit has room
-pub no_place : (bytes : List ℕ) (len : ℕ) → Tiles bytes → length bytes ≤ 67108864 → 67108864 < len → HasNoRoomFor bytes (least_size len)
+pub no_place : (bytes : List ℕ) (len : ℕ) → Tiles bytes → length bytes ≤ MOST_BINS_BYTES → MOST_BINS_BYTES < len → HasNoRoomFor bytes (least_size len)
 no_place bytes len tiles limit over = inr (
   (
       λ h.

@@ -5,6 +5,7 @@ use Rattle.std.proofs.Math.ListN.{get_or-append}
 use Rattle.std.proofs.Math.Seq.{get_or-append_seam}
 use Rattle.std.proofs.lemmas.Bool.{cases_eq, cases_lt}
 use Rattle.std.proofs.lemmas.List.{length-replicate, length-append, get_or-append-add, get_or-drop, get_or-take}
+use Rattle.refusals.specs.declared.limits.TheConstants.{MOST_BINS_BYTES}
 use Rattle.dirty_vector.specs.Marks.{is_marked}
 use Rattle.hive_cells.specs.Restores.{HasPage, IsSaved}
 use Rattle.hive_cells.proofs.Walk.{no_start}
@@ -15,7 +16,7 @@ none_saved : (page : ℕ) → HasPage [] page → ⊥
 none_saved page h = let low : h.0 < 0 = h.1.0 in omega (arith, low)
 
 -- without a mark nothing is saved
-pub empty_log : (marks : List ℕ) → length marks ≡ 2048 → ((page : ℕ) → is_marked marks page ≡ false) → IsLog marks [] []
+pub empty_log : (marks : List ℕ) → length marks ≡ MOST_BINS_BYTES / 512 / 64 → ((page : ℕ) → is_marked marks page ≡ false) → IsLog marks [] []
 empty_log marks len clear = record {
   len = len;
   marked = λ page. ((λ set. absurd (let no : is_marked marks page ≡ false = clear page in let bad : ⊥ = cc in bad)), (λ h. absurd (none_saved page h)));
@@ -23,12 +24,12 @@ empty_log marks len clear = record {
   sizes = refl;
 }
 
-pub blank_log : (marks order bytes : List ℕ) → marks ≡ replicate 2048 0 → order ≡ [] → bytes ≡ [] → IsLog marks order bytes
+pub blank_log : (marks order bytes : List ℕ) → marks ≡ replicate (MOST_BINS_BYTES / 512 / 64) 0 → order ≡ [] → bytes ≡ [] → IsLog marks order bytes
 blank_log marks order bytes is none empty =
     subst (λ (x : List ℕ). IsLog x order bytes) (sym is)
-    (subst (λ (x : List ℕ). IsLog (replicate 2048 0) x bytes) (sym none)
-    (subst (λ (x : List ℕ). IsLog (replicate 2048 0) [] x) (sym empty)
-    (empty_log (replicate 2048 0) (length-replicate {A = ℕ} 2048 0) (λ page. no_start 2048 page))))
+    (subst (λ (x : List ℕ). IsLog (replicate (MOST_BINS_BYTES / 512 / 64) 0) x bytes) (sym none)
+    (subst (λ (x : List ℕ). IsLog (replicate (MOST_BINS_BYTES / 512 / 64) 0) [] x) (sym empty)
+    (empty_log (replicate (MOST_BINS_BYTES / 512 / 64) 0) (length-replicate {A = ℕ} (MOST_BINS_BYTES / 512 / 64) 0) (λ page. no_start (MOST_BINS_BYTES / 512 / 64) page))))
 
 -- ---- one page more
 
@@ -56,7 +57,7 @@ has_one_of order page other h = elim (which order page h.0 h.1.0) [
 ]
 
 -- the log is one still
-pub pushed : (marks marks' order bytes part : List ℕ) (page : ℕ) → IsLog marks order bytes → page < 131072 → length marks' ≡ length marks → is_marked marks' page ≡ true
+pub pushed : (marks marks' order bytes part : List ℕ) (page : ℕ) → IsLog marks order bytes → page < MOST_BINS_BYTES / 512 → length marks' ≡ length marks → is_marked marks' page ≡ true
     → ((other : ℕ) → other ≢ page → is_marked marks' other ≡ is_marked marks other) → length part ≡ 512 → IsLog marks' (order ++ page ∷ []) (bytes ++ part)
 pushed marks marks' order bytes part page log low len here others whole = record {
   len = len ∙ log.len;
@@ -71,14 +72,14 @@ pushed marks marks' order bytes part page log low len here others whole = record
     ]),
   );
   within = λ k less. elim (which order page k less) [
-    | inl before ↦ subst (λ n. n < 131072) (sym (get_or-append order (page ∷ []) 0 k before)) (log.within k before)
-    | inr last ↦ subst (λ n. n < 131072) (sym (ap (slice_index (order ++ page ∷ [])) last ∙ get_or-append_seam order page [] 0)) low
+    | inl before ↦ subst (λ n. n < MOST_BINS_BYTES / 512) (sym (get_or-append order (page ∷ []) 0 k before)) (log.within k before)
+    | inr last ↦ subst (λ n. n < MOST_BINS_BYTES / 512) (sym (ap (slice_index (order ++ page ∷ [])) last ∙ get_or-append_seam order page [] 0)) low
   ];
   sizes = let size : length bytes ≡ 512 * length order = log.sizes in omega (arith, length-append bytes part, one_longer order page, size, whole);
 }
 
 -- the same, as the method knows it
-pub pushed_all : (marks given marks' order order' bytes bytes' part : List ℕ) (page : ℕ) → given ≡ marks → IsLog marks order bytes → page < 131072 → length marks' ≡ length given → is_marked marks' page ≡ true
+pub pushed_all : (marks given marks' order order' bytes bytes' part : List ℕ) (page : ℕ) → given ≡ marks → IsLog marks order bytes → page < MOST_BINS_BYTES / 512 → length marks' ≡ length given → is_marked marks' page ≡ true
     → ((other : ℕ) → other ≢ page → is_marked marks' other ≡ is_marked given other) → length part ≡ 512 → order' ≡ order ++ page ∷ [] → bytes' ≡ bytes ++ part → IsLog marks' order' bytes'
 pushed_all marks given marks' order order' bytes bytes' part page same log low len here others whole longer more =
     subst (λ (x : List ℕ). IsLog marks' x bytes') (sym longer)

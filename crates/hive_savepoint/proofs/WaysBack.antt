@@ -3,6 +3,7 @@ use Rattle.std.proofs.Common.{◌≡◌, inl, inr, ◌⊎◌, ℕ, ◌/◌, ◌%
 use Rattle.std.specs.Prelude.{IsTrue, ◌↔◌}
 use Rattle.std.proofs.lemmas.List.{get_or-take, get_or-drop}
 use Rattle.std.proofs.lemmas.Bool.{and_from, and_parts, eqb-true, leb-true, eq-eqb, le-leb, cases_lt, cases_Bool}
+use Rattle.refusals.specs.declared.limits.TheConstants.{MOST_BINS_BYTES}
 use Rattle.dirty_vector.specs.Pages.{Pages, is_bins_size, is_dirty, Touches}
 use Rattle.dirty_vector.specs.Changes.{ChangesAreMarked}
 use Rattle.hive_cells.specs.Tiles.{HasFree, cell_size}
@@ -18,8 +19,8 @@ size_pages size good = eqb-true _ _ (and_parts _ _ (and_parts _ _ good).0).0
 pub size_least : (size : ℕ) → is_bins_size size ≡ true → 4096 ≤ size
 size_least size good = leb-true _ _ (and_parts _ _ (and_parts _ _ good).0).1
 
-pub good_size : (size : ℕ) → size % 4096 ≡ 0 → 4096 ≤ size → size ≤ 67108864 → is_bins_size size ≡ true
-good_size size pages least most = and_from _ _ (and_from _ _ (eq-eqb (size % 4096) 0 pages) (le-leb 4096 size least)) (le-leb size 67108864 most)
+pub good_size : (size : ℕ) → size % 4096 ≡ 0 → 4096 ≤ size → size ≤ MOST_BINS_BYTES → is_bins_size size ≡ true
+good_size size pages least most = and_from _ _ (and_from _ _ (eq-eqb (size % 4096) 0 pages) (le-leb 4096 size least)) (le-leb size MOST_BINS_BYTES most)
 
 -- ---- the way back
 
@@ -137,7 +138,7 @@ extends old new len at none a = elim a.source [
             let pages : length old % 4096 ≡ 0 = size_pages (length old) good in
             let least : 4096 ≤ length old = size_least (length old) good in
             good_size (length new) (omega (arith, longer, pages)) (omega (arith, longer, least))
-            (elim (cases_lt 67108864 (length old + least_bin (least_size len))) [ inl over ↦ absurd (a.has_place (inr (added.0, over))) | inr within ↦ omega (arith, longer, within) ]);
+            (elim (cases_lt MOST_BINS_BYTES (length old + least_bin (least_size len))) [ inl over ↦ absurd (a.has_place (inr (added.0, over))) | inr within ↦ omega (arith, longer, within) ]);
       }
 ]
 

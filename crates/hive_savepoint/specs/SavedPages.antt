@@ -1,6 +1,7 @@
 -- What contracts see of an undo log, and how an image and its log lead back to a savepoint.
-use Rattle.std.specs.Prelude.{◌≡◌, ℕ, ◌*◌, ◌<◌, ◌≤◌, ◌↔◌, [], true, List, length, slice_index, refl}
+use Rattle.std.specs.Prelude.{◌≡◌, ℕ, ◌*◌, ◌/◌, ◌<◌, ◌≤◌, ◌↔◌, [], true, List, length, slice_index, refl}
 use Rattle.std.specs.Coded.{Coded, code_by, coded×, coded_ℕ, coded_list}
+use Rattle.refusals.specs.declared.limits.TheConstants.{MOST_BINS_BYTES}
 use Rattle.dirty_vector.specs.Marks.{is_marked}
 use Rattle.dirty_vector.specs.Pages.{is_bins_size}
 use Rattle.hive_cells.specs.Restores.{HasPage, Restores}
@@ -19,9 +20,9 @@ no_pages = record { order = []; bytes = [] }
 -- a log: there is a mark for each page of the largest data, a page is marked exactly if it is saved, and each saved page
 -- has its bytes
 pub record IsLog (marks order bytes : List ℕ) : Type 0 where
-  pub len : length marks ≡ 2048
+  pub len : length marks ≡ MOST_BINS_BYTES / 512 / 64
   pub marked : (page : ℕ) → (is_marked marks page ≡ true) ↔ HasPage order page
-  pub within : (k : ℕ) → k < length order → slice_index order k < 131_072
+  pub within : (k : ℕ) → k < length order → slice_index order k < MOST_BINS_BYTES / 512
   pub sizes : length bytes ≡ 512 * length order
 
 -- data get longer, and what they were stays. Sizes of bins data stay such

@@ -16,8 +16,6 @@ use std::marker::Model;
 // words of 64 bits with a bit for each page of the largest data
 const MOST_WORDS: usize = MOST_BINS_BYTES / PAGE_BYTES / 64;
 
-const _: () = prove!(MOST_WORDS == 2048);
-
 /// The pages that were saved since a savepoint: their numbers in the order in which they were saved, and their bytes.
 ///
 /// It keeps a bit for each page of the largest data, in 16 KiB that it takes when it is made. A saved page takes 516
@@ -83,7 +81,7 @@ impl UndoLog {
 
     // whether a page is saved
     fn has(&self, page: usize) -> bool
-        requires { page < 131_072 }
+        requires { page < MOST_BINS_BYTES / 512 }
         ensures { IsTrue result ↔ HasPage self.now.order page }
     {
         is_marked(&self.marks, page)
@@ -91,7 +89,7 @@ impl UndoLog {
 
     // saves a page
     fn push(&mut self, bytes: &[u8], page: usize) -> Result<(), AllocError>
-        requires most { page < 131_072 }
+        requires most { page < MOST_BINS_BYTES / 512 }
         requires within { 512 * page + 512 ≤ length bytes.now }
         ensures order { OnOk result (self.new.order ≡ self.old.order ++ page ∷ []) }
         ensures bytes { OnOk result (self.new.bytes
