@@ -9,6 +9,7 @@ pub mod OneTile
 pub mod Outcomes
 pub mod Reached
 pub mod Region
+pub mod Shown
 pub mod Walk
 mod SavedPages
 mod CellFills

@@ -1,71 +1,22 @@
 -- Changes of bytes, in terms of cells.
-use Rattle.std.proofs.Common.{◌≡◌, ◌≢◌, inl, inr, ℕ, ◌+◌, ◌-◌, ◌%◌, ◌<◌, ◌≤◌, ◌^◌, cond, eqb, List, length, drop, slice_range, slice_index, refl, sym, ◌∙◌, ap, subst, arith, Option, Some, None, MatchOption, length-take, length-drop, ◌++◌}
+use Rattle.std.proofs.Common.{◌≡◌, ◌≢◌, inl, inr, ℕ, ◌+◌, ◌-◌, ◌<◌, ◌≤◌, ◌^◌, cond, eqb, List, length, drop, slice_range, slice_index, refl, sym, ◌∙◌, ap, subst, arith, Option, Some, None, length-take, length-drop, ◌++◌}
 use Rattle.std.specs.Prelude.{replicate}
 use Rattle.std.proofs.lemmas.List.{get_or_past}
 use Rattle.std.proofs.lemmas.Bool.{cases_eq, cases_lt}
 use Rattle.std.proofs.lemmas.Bool.Decides.{eqb_tells}
 use Rattle.refusals.specs.declared.limits.TheConstants.{MOST_BINS_BYTES}
-use Rattle.hive_cells.specs.Tiles.{Tiles, BinStart, first_bin, next_bin, CellStart, first_cell, next_cell, IsCell, IsAllocatedCell, cell_size, cell_data, bin_size, is_allocated}
+use Rattle.hive_cells.specs.Tiles.{Tiles, IsCell, IsAllocatedCell, cell_size, cell_data, is_allocated}
 use Rattle.hive_cells.specs.Bins.{Cells, Shows}
 use Rattle.hive_cells.proofs.Outcomes.{stays_on}
 use Rattle.hive_cells.specs.Changes.{OthersStay, StaysAt, Writes, Allocates, Frees, HasNoRoomFor, least_size}
+use Rattle.hive_cells.proofs.Shown.{end_within, put_at, put_here, put_there, ShowsAt, stays_shown, put_shown, none_shown}
 use Rattle.hive_savepoint.proofs.Logs.{range_index}
 use Rattle.hive_savepoint.specs.Puts.{HasData, Overlays, Moves, ChangesCell, AddsCell, DropsCell}
-
--- a bin ends within the data
-end_within : (bytes : List ℕ) (end at : ℕ) → CellStart bytes end at → end ≤ length bytes
-end_within bytes end _ (first_cell bin at start is ends begins) = let w : bin + bin_size bytes bin ≤ length bytes = is.within in omega (arith, w, ends)
-end_within bytes end _ (next_cell from at start is next within) = end_within bytes end from start
-
--- bins begin at multiples of 4,096, cells at multiples of 8
-bin_pages : (bytes : List ℕ) (at : ℕ) → BinStart bytes at → at % 4096 ≡ 0
-bin_pages bytes _ (first_bin some) = refl
-bin_pages bytes _ (next_bin from at start bin is within) =
-    let before : from % 4096 ≡ 0 = bin_pages bytes from start in
-    let pages : bin_size bytes from % 4096 ≡ 0 = bin.pages in
-    let sum : at ≡ from + bin_size bytes from = is in
-    omega (arith, before, pages, sum)
-
-pub cell_eights : (bytes : List ℕ) (end at : ℕ) → CellStart bytes end at → at % 8 ≡ 0
-cell_eights bytes end _ (first_cell bin at start is ends begins) =
-    let before : bin % 4096 ≡ 0 = bin_pages bytes bin start in
-    let sum : at ≡ bin + 32 = begins in
-    omega (arith, before, sum)
-cell_eights bytes end _ (next_cell from at start is next within) =
-    let before : from % 8 ≡ 0 = cell_eights bytes end from start in
-    let eights : cell_size bytes from % 8 ≡ 0 = is.eights in
-    let sum : at ≡ from + cell_size bytes from = next in
-    omega (arith, before, eights, sum)
 
 -- a cell has no more than half of the numbers of 32 bits
 pub cell_most : (bytes : List ℕ) (at : ℕ) → IsAllocatedCell bytes at → cell_size bytes at ≤ 2 ^ 31
 unfolding cell_size is_allocated
 cell_most bytes at found = grind (arith, found.1)
-
--- the cells with other data at one offset
-put_at : Cells → ℕ → List ℕ → Cells
-put_at before at its cell = cond (eqb cell at) (Some its) (before cell)
-
-put_here : (before : Cells) (at : ℕ) (its : List ℕ) (cell : ℕ) → cell ≡ at → put_at before at its cell ≡ Some its
-unfolding put_at
-put_here before at its cell e = elim (eqb_tells cell at) [ inl h ↦ ap (λ b. cond b (Some its) (before cell)) h.0 | inr h ↦ absurd (h.1 e) ]
-
-put_there : (before : Cells) (at : ℕ) (its : List ℕ) (cell : ℕ) → cell ≢ at → put_at before at its cell ≡ before cell
-unfolding put_at
-put_there before at its cell e = elim (eqb_tells cell at) [ inl h ↦ absurd (e h.1) | inr h ↦ ap (λ b. cond b (Some its) (before cell)) h.0 ]
-
-abbrev ShowsAt : List ℕ → ℕ → Option (List ℕ) → Type 0
-ShowsAt bytes at o = MatchOption o (¬ IsAllocatedCell bytes at) (λ its. IsAllocatedCell bytes at × (its ≡ cell_data bytes at))
-
-stays_shown : (old new : List ℕ) (at : ℕ) → StaysAt old new at → (o : Option (List ℕ)) → ShowsAt old at o → ShowsAt new at o
-stays_shown old new at s None h = λ found. h (s.same.0 found)
-stays_shown old new at s (Some its) h = (s.same.1 h.0, h.1 ∙ sym (s.kept h.0))
-
-put_shown : (old new : List ℕ) (at : ℕ) (before : Cells) → Shows old before → IsAllocatedCell new at → OthersStay old new at → Shows new (put_at before at (cell_data new at))
-put_shown old new at before shows begins others cell = elim (cases_eq cell at) [
-  | inl here ↦ subst (ShowsAt new cell) (sym (put_here before at (cell_data new at) cell here)) (subst (IsAllocatedCell new) (sym here) begins, ap (cell_data new) (sym here))
-  | inr there ↦ subst (ShowsAt new cell) (sym (put_there before at (cell_data new at) cell there)) (stays_shown old new cell (others cell there) (before cell) (shows cell))
-]
 
 -- a byte of a part in which the byte is the same
 range_same : (xs ys : List ℕ) (from to i : ℕ) → slice_index ys (from + i) ≡ slice_index xs (from + i) → length ys ≡ length xs → slice_index (slice_range ys from to) i ≡ slice_index (slice_range xs from to) i
@@ -143,10 +94,6 @@ some_same x its e = cc
 shown_is : (bytes : List ℕ) (at : ℕ) (o : Option (List ℕ)) → ShowsAt bytes at o → (its : List ℕ) → o ≡ Some its → its ≡ cell_data bytes at
 shown_is bytes at None h its e = absurd (let bad : ⊥ = cc in bad)
 shown_is bytes at (Some x) h its e = sym (some_same x its e) ∙ h.1
-
-none_shown : (bytes : List ℕ) (at : ℕ) → ¬ IsAllocatedCell bytes at → (o : Option (List ℕ)) → ShowsAt bytes at o → o ≡ None
-none_shown bytes at none None h = refl
-none_shown bytes at none (Some its) h = absurd (none h.0)
 
 -- cells that stay keep their sizes
 size_stays : (old new : List ℕ) (cell len : ℕ) → StaysAt old new cell → HasData old cell len → HasData new cell len

@@ -1,6 +1,7 @@
 use Rattle.std.proofs.Common.{◌+◌, ◌-◌, length, refl, arith}
 use Rattle.hive_cells.specs.Tiles.{cell_size}
-use Rattle.hive_savepoint.proofs.CellChanges.{added, cell_eights, no_place}
+use Rattle.hive_cells.proofs.Shown.{cell_eights}
+use Rattle.hive_savepoint.proofs.CellChanges.{added, no_place}
 use Rattle.hive_savepoint.proofs.WaysBack.{wrote_back}
 use Rattle.hive_savepoint.proofs.changes.insert.Goals.{then-source-gt-MOST_BINS_BYTES-via-then-source-gt-MOST_BINS_BYTES, then-source-gt-MOST_BINS_BYTES-via-else-source-gt-MOST_BINS_BYTES+then-room-source}
 use Rattle.hive_savepoint.proofs.changes.insert.Goals as goal
