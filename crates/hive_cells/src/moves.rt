@@ -30,10 +30,11 @@ fn move_down(bytes: &mut [u8], from: usize, to: usize, len: usize)
     ensures moved { (j : ℕ) → j < len →
         slice_index bytes.new (to + j) ≡ slice_index bytes.old (from + j) }
 {
+    let mut buffer = [0; BLOCK_BYTES];
     let mut moved = 0;
     while moved < len {
         let count = (len - moved).min(BLOCK_BYTES);
-        move_block(bytes, from + moved, to + moved, count);
+        move_block(bytes, &mut buffer, from + moved, to + moved, count);
         moved += count;
     }
 }
@@ -46,16 +47,17 @@ fn move_up(bytes: &mut [u8], from: usize, to: usize, len: usize)
     ensures moved { (j : ℕ) → j < len →
         slice_index bytes.new (to + j) ≡ slice_index bytes.old (from + j) }
 {
+    let mut buffer = [0; BLOCK_BYTES];
     let mut left = len;
     while 0 < left {
         let count = left.min(BLOCK_BYTES);
         left -= count;
-        move_block(bytes, from + left, to + left, count);
+        move_block(bytes, &mut buffer, from + left, to + left, count);
     }
 }
 
-// moves a block, which is read whole before it is written
-fn move_block(bytes: &mut [u8], from: usize, to: usize, len: usize)
+// moves a block by a buffer, which has the whole of it before any byte is written
+fn move_block(bytes: &mut [u8], buffer: &mut [u8; BLOCK_BYTES], from: usize, to: usize, len: usize)
     requires few { len ≤ BLOCK_BYTES }
     requires source { from + len ≤ length bytes.old }
     requires target { to + len ≤ length bytes.old }
@@ -63,7 +65,6 @@ fn move_block(bytes: &mut [u8], from: usize, to: usize, len: usize)
     ensures moved { (j : ℕ) → j < len →
         slice_index bytes.new (to + j) ≡ slice_index bytes.old (from + j) }
 {
-    let mut buffer = [0; BLOCK_BYTES];
     let block = &mut buffer[..len];
     block.copy_from_slice(&bytes[from..from + len]);
     bytes[to..to + len].copy_from_slice(block);
