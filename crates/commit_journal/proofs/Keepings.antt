@@ -4,8 +4,7 @@ use Rattle.std.proofs.lemmas.List.{length-append, length-map, map-append, drop-a
 use Rattle.std.proofs.Math.ListN.{drop_of_length-le}
 use Rattle.reg_tree.specs.declared.element.Element.{Element}
 use Rattle.crash_model.specs.Changes as law
-use Rattle.crash_model.specs.Changes.{on_hive, ops_on}
-use Rattle.crash_model.specs.Promises.{Content, top}
+use Rattle.crash_model.specs.Promises.{top}
 use Rattle.std.proofs.lemmas.List.Sums.{sum_by-cons}
 use Rattle.refusals.specs.declared.limits.TheConstants.{GREATEST_NUMBER}
 use Rattle.reg_tree.specs.Encodings.{element_encoded_len}
@@ -26,9 +25,6 @@ logged_are Nothing = refl
 logged_are (Then' shape before element) = ap (λ (l : List (law.Element TimedOp)). l ++ timed_element element.value ∷ []) (logged_are before) ∙ sym (map-append timed_element (logged_changes before) (element.value ∷ []))
 logged_are (Same' shape before) = logged_are before
 
-abbrev decoded_at : ℕ → List (law.Element TimedOp) → Content TimedOp
-decoded_at below es = record { below = below; elements = es }
-
 -- a number after the durable content continues what was read
 pub follows_on : (now : Extent) (es : List Element) (last first : ℕ) → logged_elements now.ghost_log ≡ timed_elements es → last ≡ now.last → 1 ≤ first → top (first - 1) (content_of now) ≡ first - 1 → (es ≡ []) ⊎ (last + 1 ≡ first)
 follows_on now [] last first ghost_log same some ends = inl refl
@@ -40,14 +36,6 @@ follows_on now (x ∷ xs) last first ghost_log same some ends =
 pub same_numbers : (es : List Element) (last first : ℕ) → (es ≡ []) ⊎ (last + 1 ≡ first) → numbered_to (first - 1) es ≡ numbered_to last es
 same_numbers es last first (inl none) = ap (numbered_to (first - 1)) none ∙ sym (ap (numbered_to last) none)
 same_numbers es last first (inr next) = let e : first - 1 ≡ last = omega (arith, next) in ap (λ n. numbered_to n es) e
-
-pub still_few : (es : List Element) (last first : ℕ) → length es ≤ last → (es ≡ []) ⊎ (last + 1 ≡ first) → length es ≤ first - 1
-still_few es last first few (inl none) = omega (arith, ap length none)
-still_few es last first few (inr next) = omega (arith, few, next)
-
-pub count_is : (below last : ℕ) (es : List (law.Element TimedOp)) → last ≡ top 0 (decoded_at below es) → last - below ≡ length es
-count_is below last [] is = omega (arith, is)
-count_is below last (e ∷ es) is = omega (arith, is)
 
 pub head_keeps : (hives : ℕ) (now : Extent) (es xs : List Element) (start : ℕ) → xs ≡ es → start ≡ length es → ElementsAreSound hives now es es → ElementsAreSound hives now (take start xs) xs
 head_keeps hives now es xs start same is keeps = subst (λ (l : List Element). ElementsAreSound hives now (take start l) l) (sym same) (subst (λ (l : List Element). ElementsAreSound hives now l es) (sym (take_all start es (omega (arith, is)))) keeps)

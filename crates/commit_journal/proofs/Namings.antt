@@ -3,7 +3,7 @@ use Rattle.std.proofs.Common.{◌≡◌, ◌≢◌, inl, inr, ℕ, zero, suc, �
 use Rattle.std.specs.Prelude.{eqb, replicate, slice_set}
 use Rattle.std.specs.List.{list_any}
 use Rattle.std.proofs.lemmas.Bool.Decides.{nat_tests}
-use Rattle.std.proofs.lemmas.Bool.{eqb-true, eq-eqb, true≢false}
+use Rattle.std.proofs.lemmas.Bool.{eqb-true, true≢false}
 use Rattle.std.proofs.lemmas.List.Folds.{list_any-append}
 use Rattle.std.proofs.lemmas.List.{append-nil, length-append, length-set, take-append-le, take_all}
 use Rattle.std.proofs.lemmas.Option.{none-some, same_Some, slice_get_read, slice_get-get_or}
@@ -115,10 +115,6 @@ none_named base hives i m is = record { none_after = ap (ops_on i) (drop_nil {A 
 same_test : (n : ℕ) → eqb n n ≡ true
 same_test n = grind (arith, nat_tests)
 
-or_again : (a b c : Bool) → (a || (b || c)) ≡ ((a || b) || c)
-or_again true b c = refl
-or_again false b c = refl
-
 or_no : (c : Bool) → (c || false) ≡ c
 or_no true = refl
 or_no false = refl
@@ -192,13 +188,6 @@ abbrev pub HasNamed : List ℕ → ℕ → List ℕ → List ℕ → List ℕ �
 HasNamed was number hives is left = (prefix : List ℕ) × (hives ≡ prefix ++ left) × ((i : ℕ) → slice_get is i ≡ option_map (λ m. cond (among i prefix) number m) (slice_get was i)) × (length is ≡ length was)
 
 module _ (was : List ℕ) (number : ℕ) (hives : List ℕ) where
-  untouched : (o : Option ℕ) → o ≡ option_map (λ m. m) o
-  untouched None = refl
-  untouched (Some m) = refl
-
-  pub none_named_yet : HasNamed was number hives was hives
-  none_named_yet = ([], refl, λ i. untouched (slice_get was i), refl)
-
   pub next_named : (is : List ℕ) (h : ℕ) (left : List ℕ) → HasNamed was number hives is (h ∷ left) → h < length is → HasNamed was number hives (slice_set is h number) left
   next_named is h left (prefix, are, named, many) lt = (
     prefix ++ h ∷ [],
@@ -218,30 +207,3 @@ module _ (was : List ℕ) (number : ℕ) (hives : List ℕ) where
 pub all_named : (was : List ℕ) (number : ℕ) (ops : List Op) (is : List ℕ) → HasNamed was number (map hive_of ops) is [] → (i : ℕ) → slice_get is i ≡ option_map (λ m. cond (names i ops) number m) (slice_get was i)
 all_named was number ops is (prefix, are, named, many) i =
     named i ∙ ap (λ b. option_map (λ m. cond b number m) (slice_get was i)) (sym (names_among i ops ∙ ap (among i) (are ∙ append-nil prefix)))
-
--- Of a change's hives these are left, and each of the others has the change of this number, by its own number.
-abbrev pub HaveHeld : List ℕ → ℕ → List ℕ → List ℕ → Type 0
-HaveHeld numbers number hives left = (prefix : List ℕ) × (hives ≡ prefix ++ left) × ((i : ℕ) → get_or numbers i 0 < number → among i prefix ≡ false)
-
-module _ (numbers : List ℕ) (number : ℕ) where
-  pub none_held_yet : (hives : List ℕ) → HaveHeld numbers number hives hives
-  none_held_yet hives = ([], refl, λ i lacks. refl)
-
-  pub next_held : (hives : List ℕ) (h : ℕ) (left : List ℕ) → HaveHeld numbers number hives (h ∷ left) → number ≤ get_or numbers h 0 → HaveHeld numbers number hives left
-  next_held hives h left (prefix, are, held) le = (prefix ++ h ∷ [], are ∙ sym (append_assoc prefix (h ∷ []) left), λ i lacks. among_more i prefix h ∙ ap (λ b. b || eqb h i) (held i lacks) ∙ other i lacks (eqb h i) refl)
-    where
-      other : (i : ℕ) → get_or numbers i 0 < number → (b : Bool) → eqb h i ≡ b → b ≡ false
-      other i lacks true e = absurd (omega (arith, le, lacks, ap (λ k. get_or numbers k 0) (eqb-true h i e)))
-      other i lacks false e = refl
-
-  pub all_held : (ops : List Op) → HaveHeld numbers number (map hive_of ops) [] → (i : ℕ) → get_or numbers i 0 < number → names i ops ≡ false
-  all_held ops (prefix, are, held) i lacks = names_among i ops ∙ ap (among i) (are ∙ append-nil prefix) ∙ held i lacks
-
-  -- the next hive is one of the change's
-  pub next_is_named : (ops : List Op) (h : ℕ) (left : List ℕ) → HaveHeld numbers number (map hive_of ops) (h ∷ left) → names h ops ≡ true
-  next_is_named ops h left (prefix, are, held) =
-      names_among h ops ∙ ap (among h) are ∙ list_any-append (λ k. eqb k h) prefix (h ∷ left) ∙ ap (λ b. among h prefix || (b || among h left)) (eq-eqb h h refl) ∙ or_true (among h prefix)
-    where
-      or_true : (b : Bool) → (b || true) ≡ true
-      or_true true = refl
-      or_true false = refl
