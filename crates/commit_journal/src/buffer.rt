@@ -2,8 +2,8 @@
 ghost use Rattle.std.specs.Prelude.{◌≡◌, ◌+◌, ◌-◌, ◌<◌, ◌≤◌, ℕ, List, length, take, drop, max, IfOk, OnOk, IfErr, OnErr};
 ghost use Rattle.disk_model.specs.ReadOnly.{OnlyReads};
 
-use crate::device;
 use crate::layout::CHUNK_BYTES;
+use crate::{device, moves};
 use disk_model::Disk;
 use refusals::Refusal;
 use std::alloc::{AllocError, Global};
@@ -147,7 +147,7 @@ impl ReadBuffer {
         ensures end { self.new.end_of_file ≡ self.old.end_of_file }
     {
         if self.start > 0 {
-            self.bytes.copy_within(self.start..self.end, 0);
+            moves::move_to_front(&mut self.bytes, self.start, self.end);
             self.end -= self.start;
             self.start = 0;
         }

@@ -17,6 +17,7 @@ mod journal;
 mod last_changes;
 pub mod laws;
 mod layout;
+mod moves;
 mod reader;
 mod scan;
 mod sink;
