@@ -14,6 +14,7 @@ use Rattle.change_codec.specs.Encoding.{element_bytes, Fits}
 use Rattle.change_codec.proofs.Elements.{element_law}
 use Rattle.change_codec.proofs.Lengths.{element_length}
 use Rattle.change_codec.specs.ModelChanges.{TimedOp, timed, timed_element, timed_elements}
+use Rattle.commit_journal.specs.declared.layout.TheConstants.{MOST_BODY_BYTES}
 use Rattle.commit_journal.specs.Encoding.{IsBody, body_bytes}
 use Rattle.commit_journal.specs.OnDisk.{with_elements}
 use Rattle.commit_journal.specs.Store.{encodings_after, timed_at, timed_len, room_of}
@@ -122,7 +123,7 @@ module _ (hives : ℕ) (le : hives ≤ 256) where
   MadeOf header first count encoding elements = IsBody (encodings_after header hives) (body_bytes first count encoding) (record { first = first; elements = elements })
 
   -- the bytes of a body of changes that fit are that body's
-  pub body_is : (header : List ℕ) (first : ℕ) (es : List Element) → AllByRecursion (Fits hives) es → first < 256 ^ 8 → 16 + sum_by element_encoded_len es ≤ 8388608
+  pub body_is : (header : List ℕ) (first : ℕ) (es : List Element) → AllByRecursion (Fits hives) es → first < 256 ^ 8 → 16 + sum_by element_encoded_len es ≤ MOST_BODY_BYTES
       → MadeOf header first (length es) (flat_map element_bytes es) (timed_elements es)
   body_is header first es fit small short =
       let xs = with_proofs es fit in

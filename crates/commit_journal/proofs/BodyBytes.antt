@@ -7,6 +7,7 @@ use Rattle.std.proofs.lemmas.List.{drop_at, append-nil}
 use Rattle.byteorder.specs.Endian.{little_bytes, little_number}
 use Rattle.byteorder.specs.Numbers.{little_number-reads_back, length-bytes_low_first}
 use Rattle.crash_model.specs.Changes.{Element}
+use Rattle.commit_journal.specs.declared.layout.TheConstants.{MOST_BODY_BYTES}
 use Rattle.commit_journal.specs.Encoding.{Encodings, read_elements, whole_body, body_of, IsBody, body_bytes}
 use Rattle.commit_journal.proofs.Opening.{body_read}
 
@@ -28,7 +29,7 @@ module _ {X Op : Type 0} (t : Encodings Op) (encoding : X → List ℕ) (seen : 
     abbrev c : List ℕ
     c = little_bytes 4 (length xs)
 
-    pub is_body : 16 + length (flat_map encoding xs) ≤ 8388608 → IsBody t (body_bytes first (length xs) (flat_map encoding xs)) (record { first = first; elements = map seen xs })
+    pub is_body : 16 + length (flat_map encoding xs) ≤ MOST_BODY_BYTES → IsBody t (body_bytes first (length xs) (flat_map encoding xs)) (record { first = first; elements = map seen xs })
     is_body most =
         let d = flat_map encoding xs in
         let bytes = body_bytes first (length xs) d in

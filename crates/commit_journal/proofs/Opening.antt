@@ -11,6 +11,7 @@ use Rattle.byteorder.specs.Endian.{little_number}
 use Rattle.byteorder.specs.Numbers.{little_from-append, little_from-take}
 use Rattle.crash_model.specs.Promises.{Content, nothing}
 use Rattle.disk_model.specs.FileState.{at_rest}
+use Rattle.commit_journal.specs.declared.layout.TheConstants.{MOST_BODY_BYTES}
 use Rattle.commit_journal.specs.Encoding.{Encodings, Body, body_of, is_body_length, read_body, read_gates, content_of_bodies, decoded, IsBody, AreGated, PrefixEncodes}
 use Rattle.commit_journal.proofs.Reading.{begun_with}
 use Rattle.commit_journal.proofs.Numbers.{empty_prefix}
@@ -25,13 +26,13 @@ let_through true o y e = (refl, e)
 let_through false o y e = absurd (none-some y e)
 
 -- a body may have the length that it has
-pub length_fits : (len : ℕ) (bytes : List ℕ) → 16 ≤ len → len ≤ 8388608 → len ≤ length bytes → is_body_length len bytes ≡ true
+pub length_fits : (len : ℕ) (bytes : List ℕ) → 16 ≤ len → len ≤ MOST_BODY_BYTES → len ≤ length bytes → is_body_length len bytes ≡ true
 length_fits len bytes low high there =
-    and_from (nat_le 16 len) _ (le-leb 16 len low) (and_from (nat_le len 8388608) (nat_le len (length bytes)) (le-leb len 8388608 high) (le-leb len (length bytes) there))
+    and_from (nat_le 16 len) _ (le-leb 16 len low) (and_from (nat_le len MOST_BODY_BYTES) (nat_le len (length bytes)) (le-leb len MOST_BODY_BYTES high) (le-leb len (length bytes) there))
 
 module _ {Op : Type 0} (t : Encodings Op) where
   -- bytes that are a body's, with their length before them, are read as that body, whatever follows
-  pub body_read : (chunk : List ℕ) (b : Body Op) → little_number 4 chunk ≡ length chunk → 16 ≤ length chunk → length chunk ≤ 8388608 → body_of t chunk ≡ Some b → IsBody t chunk b
+  pub body_read : (chunk : List ℕ) (b : Body Op) → little_number 4 chunk ≡ length chunk → 16 ≤ length chunk → length chunk ≤ MOST_BODY_BYTES → body_of t chunk ≡ Some b → IsBody t chunk b
   body_read chunk b len low high is rest =
       let bytes = chunk ++ rest in
       let n : little_number 4 bytes ≡ length chunk = little_from-append 4 chunk rest (omega arith) ∙ len in
@@ -47,9 +48,9 @@ module _ {Op : Type 0} (t : Encodings Op) where
       let len = little_number 4 bytes in
       let p = let_through (is_body_length len bytes) (option_map (λ body. (body, drop len bytes)) (body_of t (take len bytes))) got e in
       let q = and_parts (nat_le 16 len) _ p.0 in
-      let r = and_parts (nat_le len 8388608) (nat_le len (length bytes)) q.1 in
+      let r = and_parts (nat_le len MOST_BODY_BYTES) (nat_le len (length bytes)) q.1 in
       let low : 16 ≤ len = leb-true 16 len q.0 in
-      let high : len ≤ 8388608 = leb-true len 8388608 r.0 in
+      let high : len ≤ MOST_BODY_BYTES = leb-true len MOST_BODY_BYTES r.0 in
       let there : len ≤ length bytes = leb-true len (length bytes) r.1 in
       let chunk = take len bytes in
       let size : length chunk ≡ len = omega (arith, length-take len bytes, there) in

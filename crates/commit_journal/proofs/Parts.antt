@@ -11,6 +11,7 @@ use Rattle.byteorder.specs.Numbers.{little_from-take}
 use Rattle.crash_model.specs.Changes.{Element}
 use Rattle.crash_model.specs.Promises.{Content, nothing, floor_of, top}
 use Rattle.disk_model.specs.FileState.{at_rest}
+use Rattle.commit_journal.specs.declared.layout.TheConstants.{MOST_BODY_BYTES}
 use Rattle.commit_journal.specs.Encoding.{Encodings, Body, read_elements, whole_body, body_of, is_body_length, read_body, read_gates, continue_at, elements_of, are_numbered, content_of_bodies, decoded, AreGated, PrefixEncodes}
 use Rattle.commit_journal.specs.OnDisk.{is_on, view_at, with_elements, Phase.AtRest}
 use Rattle.commit_journal.specs.Reading.{AtGate, finished, rest_of_body, InBody, BodyMayFollow}
@@ -169,7 +170,7 @@ module _ {Op : Type 0} (t : Encodings Op) where
       by_test false = refl
 
   -- a body after its head, none of whose elements is read
-  pub body_begins : (bytes : List ℕ) (len first count : ℕ) → len ≡ little_number 4 bytes → first ≡ little_number 8 (drop 4 bytes) → count ≡ little_number 4 (drop 12 bytes) → 16 ≤ len → len ≤ 8388608 → len ≤ length bytes
+  pub body_begins : (bytes : List ℕ) (len first count : ℕ) → len ≡ little_number 4 bytes → first ≡ little_number 8 (drop 4 bytes) → count ≡ little_number 4 (drop 12 bytes) → 16 ≤ len → len ≤ MOST_BODY_BYTES → len ≤ length bytes
       → read_body t bytes ≡ rest_of_body t first [] (len - 16) count (drop 16 bytes)
   body_begins bytes len first count len_is first_is count_is low high there =
       let first_same : little_number 8 (drop 4 (take len bytes)) ≡ first
@@ -195,7 +196,7 @@ module _ {Op : Type 0} (t : Encodings Op) where
   -- what the head of a body says that continues the durable content
   pub record HeadSays (now : Content Op) (bytes : List ℕ) (len first count : ℕ) : Type 0 where
     pub low : 16 ≤ len
-    pub high : len ≤ 8388608
+    pub high : len ≤ MOST_BODY_BYTES
     pub there : len ≤ length bytes
     pub goes : BodyMayFollow t.most now first count
 
@@ -205,9 +206,9 @@ module _ {Op : Type 0} (t : Encodings Op) where
       let o = opens file now x at bytes here e in
       let p = let_through (is_body_length (little_number 4 bytes) bytes) (option_map (λ body. (body, drop (little_number 4 bytes) bytes)) (body_of t (take (little_number 4 bytes) bytes))) (o.0, o.1) o.2 in
       let q = and_parts (nat_le 16 (little_number 4 bytes)) _ p.0 in
-      let r = and_parts (nat_le (little_number 4 bytes) 8388608) (nat_le (little_number 4 bytes) (length bytes)) q.1 in
+      let r = and_parts (nat_le (little_number 4 bytes) MOST_BODY_BYTES) (nat_le (little_number 4 bytes) (length bytes)) q.1 in
       let low : 16 ≤ len = omega (arith, leb-true 16 (little_number 4 bytes) q.0, len_is) in
-      let high : len ≤ 8388608 = omega (arith, leb-true (little_number 4 bytes) 8388608 r.0, len_is) in
+      let high : len ≤ MOST_BODY_BYTES = omega (arith, leb-true (little_number 4 bytes) MOST_BODY_BYTES r.0, len_is) in
       let there : len ≤ length bytes = omega (arith, leb-true (little_number 4 bytes) (length bytes) r.1, len_is) in
       let begun : rest_of_body t first [] (len - 16) count (drop 16 bytes) ≡ Some (o.0, o.1) = sym (body_begins bytes len first count len_is first_is count_is low high there) ∙ o.2 in
       option_and_then_some (finished first [] (drop (len - 16) (drop 16 bytes))) (read_elements t.read count (take (len - 16) (drop 16 bytes))) (o.0, o.1) begun (λ got read made.

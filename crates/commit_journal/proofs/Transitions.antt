@@ -16,6 +16,7 @@ use Rattle.crash_model.specs.Changes as law
 use Rattle.crash_model.specs.Promises.{Content, nothing, floor, top}
 use Rattle.change_codec.specs.Encoding.{element_at, Fits}
 use Rattle.change_codec.specs.ModelChanges.{TimedOp, timed_element, timed_elements}
+use Rattle.commit_journal.specs.declared.layout.TheConstants.{MOST_BODY_BYTES}
 use Rattle.commit_journal.specs.Encoding.{Encodings, decoded}
 use Rattle.commit_journal.specs.Store.{encodings_after, timed_at}
 use Rattle.commit_journal.specs.OnDisk.{with_elements}
@@ -118,7 +119,7 @@ module _ (header : List ℕ) (hives : ℕ) (le : hives ≤ 256) (file : List ℕ
     c = count_is ∙ number_front 12 4 bytes behind (omega (arith, long))
 
     -- a head
-    pub head_on : (start : ℕ) → start ≡ length es → 16 ≤ size → size ≤ 8388608 → size ≤ left
+    pub head_on : (start : ℕ) → start ≡ length es → 16 ≤ size → size ≤ MOST_BODY_BYTES → size ≤ left
         → in_partial_body t file now es (record { first = first; size = size; left = size - 16; count = count; start = start }) (drop 16 bytes ++ behind)
     head_on start is low high there =
         let rest : drop 16 (bytes ++ behind) ≡ drop 16 bytes ++ behind = drop-append-le 16 bytes behind long in
@@ -133,7 +134,7 @@ module _ (header : List ℕ) (hives : ℕ) (le : hives ≤ 256) (file : List ℕ
         subst (λ (l : List (law.Element TimedOp)). InBody t file (content_of now) now.gate size first l (size - 16) count (drop 16 bytes ++ behind)) (sym none)
         (subst (λ (l : List ℕ). InBody t file (content_of now) now.gate size first [] (size - 16) count l) rest body)
 
-    pub head_none : ((16 ≤ size) → (size ≤ 8388608) → (size ≤ left) → BodyMayFollow GREATEST_NUMBER (content_of now) first count → ⊥) → decoded t file ≡ None
+    pub head_none : ((16 ≤ size) → (size ≤ MOST_BODY_BYTES) → (size ≤ left) → BodyMayFollow GREATEST_NUMBER (content_of now) first count → ⊥) → decoded t file ≡ None
     head_none no_way = never (decoded t file) (λ x e.
         let h = head_says t file (content_of now) x now.gate (bytes ++ behind) size first count a b c here e in
         no_way h.low h.high (omega (arith, h.there, left_is, length-append bytes behind)) h.goes)
