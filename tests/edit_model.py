@@ -1,10 +1,13 @@
 """A hive's tree as random scripts change it, and the lines of these scripts: what tests/edits compares hives with."""
+from functools import cache
+
 import reader
 
 LENGTHS = [0, 1, 3, 4, 5, 8, 40, 300, 3_000, 16_344, 16_345, 40_000]
 WEIGHTS = [4, 4, 4, 8, 8, 8, 12, 6, 2, 1, 1, 1]
 
 
+@cache
 def folded(name):
     return tuple(ord(unit) - 32 if "a" <= unit <= "z" else ord(unit) for unit in name)
 
@@ -19,6 +22,7 @@ def spelled(name):
     return {"": "@", "@": "%0040"}.get(plain, plain)
 
 
+@cache
 def is_callable(name):
     """Whether a call may name it."""
     return all(" " <= unit <= "~" for unit in name)
@@ -59,6 +63,13 @@ class Node:
         yield path, self
         for key in self.keys.values():
             yield from key.paths(path + (key.name,))
+
+    def places(self):
+        """Each key that a call may name with its path, those above first."""
+        found = [((), self)]
+        for path, node in found:
+            found += [(path + (key.name,), key) for key in node.keys.values() if is_callable(key.name)]
+        return found
 
     def key(self, path):
         node = self
@@ -105,8 +116,7 @@ class Script:
 
     def operation(self):
         self.tick()
-        places = [(path, node) for path, node in self.root.paths() if all(map(is_callable, path))]
-        path, node = self.chances.choice(places)
+        path, node = self.chances.choice(self.root.places())
         what = self.chances.choices(["create", "delete", "set", "reset", "unset"], [6, 3, 6, 6, 3])[0]
         names = [text for text, _, _ in node.values.values() if is_callable(text)]
         if what == "create":
