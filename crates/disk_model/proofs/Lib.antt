@@ -6,6 +6,7 @@ pub mod HonestTears
 pub mod Leaves
 pub mod Moments
 pub mod Put
+pub mod Sectors
 pub mod Sound
 pub mod Steps
 pub mod Tears
