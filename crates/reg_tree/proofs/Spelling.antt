@@ -35,7 +35,7 @@ use Rattle.reg_tree.proofs.TreesAfter.{row-tree_after}
 -- Names that a call may name
 
 name_unit : (u : ℕ) → is_name_unit u ≡ true → u < 2 ^ 16
-name_unit u e = let p = and_parts (nat_le 32 u) (nat_le u 126) e in grind (arith, nat_tests)
+name_unit u e = grind (arith, nat_tests, e)
 
 name_units : (name : List ℕ) → list_all is_name_unit name ≡ true → AllByRecursion (λ u. u < 2 ^ 16) name
 name_units [] e = tt
