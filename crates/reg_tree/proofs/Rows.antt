@@ -4,7 +4,7 @@ use Rattle.std.specs.FinMap as finite
 use Rattle.std.specs.FinMap.{entries-from_sorted, get-from_sorted}
 use Rattle.reg_tree_parts.specs.Orders.{path_order}
 use Rattle.reg_tree_parts.specs.Nodes.{Entries, IsNode, row_at, names_below, entries_weight}
-use Rattle.reg_tree.specs.Maps.{TreeMap, row, subkeys, weight, IsTree}
+use Rattle.reg_tree.specs.Maps.{row, subkeys, weight, IsTree}
 
 module _ (entries : Entries) (node : IsNode entries) where
   -- its rows are those of the entries
@@ -26,7 +26,3 @@ module _ (entries : Entries) (node : IsNode entries) where
   -- and its weight
   pub weight_is : weight (finite.from_sorted {R = path_order} entries) ≡ entries_weight entries
   weight_is = ap entries_weight (entries-from_sorted path_order entries node.rises)
-
--- rows of the entries are those of the tree, by the value that it is seen as
-pub rows_of : (entries at : Entries) (tree : TreeMap) → IsNode entries → finite.from_sorted entries ≡ tree → at ≡ entries → (path : List (List ℕ)) → row_at at path ≡ row tree path
-rows_of entries at tree node view is path = ap (λ es. row_at es path) is ∙ sym (row_is entries node path) ∙ ap (λ t. row t path) view

@@ -12,7 +12,7 @@ use Rattle.reg_tree_parts.specs.Orders.{path_order}
 use Rattle.reg_tree_parts.specs.Nodes.{Entries, IsNode, row_at}
 use Rattle.reg_tree_parts.specs.Walks.{IsEdited}
 use Rattle.reg_tree_parts.proofs.Keys.{paths_total, paths_apart}
-use Rattle.reg_tree.specs.Maps.{TreeMap, row, IsTree}
+use Rattle.reg_tree.specs.Maps.{TreeMap, row}
 use Rattle.reg_tree.specs.Operations.{touched, row_edited}
 use Rattle.reg_tree.specs.Encodable.{IsEncodable, IsRooted}
 use Rattle.reg_tree.specs.Edits.{IsRewritten}
@@ -20,7 +20,7 @@ use Rattle.reg_tree.specs.Stamps.{stamped_at, stamps}
 use Rattle.reg_tree.proofs.Paths.{eq_is}
 use Rattle.reg_tree.proofs.Rows.{row_is}
 use Rattle.reg_tree.proofs.TreesAfter.{row-tree_of}
-use Rattle.reg_tree.proofs.TreesStay.{tree_of_rows, was_there, edited_rooted}
+use Rattle.reg_tree.proofs.TreesStay.{was_there}
 use Rattle.reg_tree.proofs.Spelling.{edited_too}
 use Rattle.reg_tree.proofs.Ways.{part_of_way, rewritten_is}
 
@@ -50,10 +50,6 @@ module _ (tree : TreeMap) (path : List (List ℕ)) (moment : ℕ) where
           let gone : row tree q ≡ None = ap (row tree) (eq_is q path e) ∙ none in
           ap (option_map (touched moment)) gone ∙ sym gone
       by_case q false e = refl
-
-  -- a stamped tree is a tree
-  pub stamped_stays : IsTree tree → IsTree (stamped_at tree path moment)
-  stamped_stays is = tree_of_rows _ (row_edited (λ key. key) tree path moment) row-stamped (edited_rooted tree is (λ key. key) (λ key. refl) path moment)
 
   -- that a hive file can encode, if it could before
   pub encodable_stamped : IsEncodable tree → IsEncodable (stamped_at tree path moment)

@@ -14,7 +14,7 @@ use Rattle.refusals.specs.declared.limits.TheConstants.{MOST_NEW_LEVELS}
 use Rattle.reg_tree_parts.specs.Orders.{path_order}
 use Rattle.reg_tree_parts.specs.Rows.{Row}
 use Rattle.reg_tree_parts.specs.ValueEdits.{values_with, values_without}
-use Rattle.reg_tree_parts.specs.Nodes.{Entries, row_at, names_below, begins_path, IsNode}
+use Rattle.reg_tree_parts.specs.Nodes.{Entries, row_at, names_below, begins_path}
 use Rattle.reg_tree_parts.specs.Walks.{IsNearest, IsReplaced, IsEdited, IsRefused}
 use Rattle.reg_tree.specs.Maps.{row, subkeys, missing}
 use Rattle.reg_tree.specs.Encodable.{IsRooted}
@@ -245,9 +245,6 @@ module _ (root : Entries) (rooted : IsRooted root) (op : Op) (moment : ℕ) wher
   pub written_rows : (made : Entries) (missing : ℕ) → IsEdited (makes op moment) root (walk_of op) (Some (made, missing))
       → (q : List (List ℕ)) → row_at made q ≡ row_after (finite.from_sorted {R = path_order} root) op moment q
   written_rows made missing is = rows_are root rooted op moment is.depth is.nearest is.near is.edits.0 made is.edits.1.0.0 is.edits.1.0.1 is.edits.1.1.0
-
-  pub written_node : (made : Entries) (missing : ℕ) → IsEdited (makes op moment) root (walk_of op) (Some (made, missing)) → IsNode made
-  written_node made missing is = is.edits.1.1.0.node
 
   pub written_count : (made : Entries) (missing : ℕ) → IsEdited (makes op moment) root (walk_of op) (Some (made, missing)) → counted op missing ≡ levels_of (finite.from_sorted {R = path_order} root) op
   written_count made missing is = ap (counted op) is.edits.1.1.1 ∙ counted_is root rooted op is.depth is.nearest is.near

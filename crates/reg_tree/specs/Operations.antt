@@ -31,10 +31,6 @@ spelled_path (DeleteValue hive path name) = path
 abbrev pub touched : ℕ → Row → Row
 touched moment key = record key { time = moment }
 
--- a row with other values, written at a moment
-abbrev pub with_values : (Row → Row) → ℕ → Row → Row
-with_values edit moment key = record (edit key) { time = moment }
-
 -- how many names of a path lead to the last key on its way that is there
 abbrev pub depth_there : TreeMap → List (List ℕ) → ℕ
 depth_there tree path = length path - length (missing tree path)
