@@ -62,13 +62,3 @@ module _ (old new : Index) (index_key : IndexKey) where
     numbered = was.numbered;
     hashed = subst (λ xs. Contains xs (text_hash (index_key_text claim), n)) (sym hashes) (pair_stays (insert_key pair_order old.hashes.keys hashed) (text_hash (index_key_text claim)) n ne (insert_keeps pair_order old.hashes.keys hashed (text_hash (index_key_text claim), n) was.hashed));
   }
-
--- if nothing changed, all is listed
-pub all_listed : (old new : Index) (number : ℕ) → new.index_keys.keys ≡ old.index_keys.keys → new.hashes.keys ≡ old.hashes.keys → KeepsOthers old new number
-all_listed old new number index_keys hashes n claim ne was = record {
-  index_key = was.index_key;
-  listed = subst (λ xs. Contains xs was.index_key) (sym index_keys) was.listed;
-  text = was.text;
-  numbered = was.numbered;
-  hashed = subst (λ xs. Contains xs (text_hash (index_key_text claim), n)) (sym hashes) was.hashed;
-}

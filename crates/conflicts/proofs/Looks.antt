@@ -181,10 +181,6 @@ covered next index owned kept are small asker claim numbers complete n k has t =
 
 -- Whether some claim passes a test
 
-none_passes : (p : HeldClaim → Bool) (held : List HeldClaim) → ((one : HeldClaim) → Contains held one → p one ≡ false) → list_any p held ≡ false
-none_passes p [] h = refl
-none_passes p (one ∷ held) h = ap (λ b. b || list_any p held) (h one (here one held)) ∙ none_passes p held (λ other c. h other (later one held other c))
-
 -- the claim of a number does
 pub found_one : (p : HeldClaim → Bool) (kept : List Numbered) (n : ℕ) → is_some_that p (look kept n) ≡ true → list_any p (claims_of kept) ≡ true
 found_one p [] n t = never t

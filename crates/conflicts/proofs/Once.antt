@@ -1,9 +1,9 @@
 -- A list of numbers, each once.
-use Rattle.std.proofs.Common.{◌≡◌, ◌⊎◌, inl, inr, ℕ, Bool, true, false, not, ◌||◌, cond, List, [], ◌∷◌, ◌++◌, map, length, take, get_or, ◌+◌, ◌<◌, Option, refl, sym, ◌∙◌, ap, subst, append-nil}
+use Rattle.std.proofs.Common.{◌≡◌, ◌⊎◌, inl, inr, ℕ, Bool, true, false, not, ◌||◌, cond, List, [], ◌∷◌, ◌++◌, map, ◌+◌, refl, sym, ◌∙◌, ap, subst, append-nil}
 use Rattle.std.specs.Prelude.{◌==◌, filter}
 use Rattle.std.specs.List.{list_any}
 use Rattle.std.proofs.lemmas.Bool.{eqb-true, eq-eqb}
-use Rattle.std.proofs.lemmas.List.{map-append, take_more}
+use Rattle.std.proofs.lemmas.List.{map-append}
 use Rattle.std.proofs.lemmas.List.Elements.{filter-append}
 use Rattle.std.proofs.lemmas.Map.Views.{any-filter_same}
 use Rattle.conflicts.proofs.Tests.{never}
@@ -90,14 +90,3 @@ module _ {A : Type 0} (number : A → ℕ) where
   pub listed_already : (xs : List A) (x : A) (b : Bool) → b ≡ list_any (λ y. number y == number x) xs → b ≡ true → (asked : Bool) → map number xs ≡ cond asked (with_number (map number xs) (number x)) (map number xs)
   listed_already xs x b e t true = listed_same xs x b e t
   listed_already xs x b e t false = refl
-
--- the holders among one claim more of a list
-holders_step : (items : List HeldClaim) (i : ℕ) (one : HeldClaim) (asker : Option ℕ) (claim : Claim) → i < length items → one ≡ get_or items i one
-    → holders_of (take (i + 1) items) asker claim ≡ cond (blocks asker claim one) (with_number (holders_of (take i items) asker claim) one.owner) (holders_of (take i items) asker claim)
-holders_step items i one asker claim lt is =
-    ap (λ hs. holders_of hs asker claim) (take_more items i one lt ∙ ap (λ h. take i items ++ h ∷ []) (sym is)) ∙ holders-more (take i items) one asker claim
-
-pub found_same : (items : List HeldClaim) (i : ℕ) (one : HeldClaim) (asker : Option ℕ) (claim : Claim) (old : List ℕ) (b : Bool) → i < length items → one ≡ get_or items i one
-    → b ≡ blocks asker claim one → b ≡ false → old ≡ holders_of (take i items) asker claim → old ≡ holders_of (take (i + 1) items) asker claim
-found_same items i one asker claim old b lt is e f was =
-    was ∙ ap (λ s. cond s (with_number (holders_of (take i items) asker claim) one.owner) (holders_of (take i items) asker claim)) (sym f ∙ e) ∙ sym (holders_step items i one asker claim lt is)
