@@ -6,7 +6,7 @@ use Rattle.std.proofs.lemmas.Bool.{and_from, lt-ltb, ltb-true, cases_lt}
 use Rattle.std.proofs.lemmas.List.{get_or_past}
 use Rattle.std.proofs.lemmas.Nat.{le_bytes_8}
 use Rattle.byteorder.specs.Endian.{little_number, little_bytes}
-use Rattle.byteorder.specs.Numbers.{little_number-reads_back, little_from-lt, length-bytes_low_first}
+use Rattle.byteorder.specs.Numbers.{little_number-reads_back, length-bytes_low_first}
 use Rattle.commit_outcomes.proofs.UnitNames.{at_all}
 
 pub number_back : (n : ℕ) → n < 2 ^ 64 → little_number 8 (little_bytes 8 n) ≡ n
@@ -36,6 +36,3 @@ pub bytes_back : (bs : List ℕ) → length bs ≡ 8 → list_all (λ b. nat_lt 
 bytes_back bs long small =
     let same : little_number 8 bs ≡ from_le_bytes w64 bs = omega arith in
     le_bytes_8 bs (little_number 8 bs) long (small_at bs small) same
-
-pub number_fits : (bs : List ℕ) → list_all (λ b. nat_lt b 256) bs ≡ true → little_number 8 bs < 2 ^ 64
-number_fits bs small = let lt = little_from-lt 0 8 bs (small_at bs small) in omega (arith, lt)
