@@ -4,6 +4,7 @@ use Rattle.std.specs.Prelude.{◌&&◌}
 use Rattle.std.specs.Bool.{MatchBool}
 use Rattle.std.proofs.lemmas.Bool.{cases_eq, eq-eqb, ne_eqb, le-leb, lt-leb, MatchBool-at_true, MatchBool-at_false}
 use Rattle.std.proofs.lemmas.List.{take-take}
+use Rattle.refusals.specs.declared.limits.TheConstants.{MOST_BINS_BYTES}
 use Rattle.refusals.specs.Answers.{RefusedFor}
 use Rattle.refusals.specs.declared.refusal.Refusal.{Refusal}
 use Rattle.base_block.specs.declared.block.BaseBlock.{BaseBlock}
@@ -15,6 +16,7 @@ use Rattle.dirt_log.specs.FileContents.{is_clean_file, PrimaryDecodesTo, LogRepa
 use Rattle.dirt_log.specs.LogEncoding.{bitmap_end, pages_at}
 use Rattle.dirt_log.specs.WholeLog.{LogIsWhole, IsCovered, block_of, pages_in, page_bytes_in, log_end, not_whole, repaired}
 use Rattle.dirt_log.specs.declared.reader.DirtLog.{DirtLog}
+use Rattle.hive_files.specs.declared.reader.TheConstants.{MOST_LOG_BYTES}
 use Rattle.hive_files.specs.Contents.{FilesHaveNone, PrimaryHasNone, LogContains, FilesContain, DecodesLog, LogCoversPrimary, HasBinsData, ShortFileRefused, IsHiveRefusal}
 use Rattle.hive_files.specs.Frames.{RefusalHasCause}
 use Rattle.hive_files.specs.declared.contents.HiveContents.{HiveContents}
@@ -25,7 +27,7 @@ pub told_of_log : (F S R : Type 0) (why : Refusal) → (S → R) → RefusedFor 
 told_of_log F S R why s by = ⊎_elim (λ not. inr (inr (not.0, s not.1))) (λ none. inl none) by
 
 -- no log of bins data within the limit is longer
-pub front_long : (file : List ℕ) → (block_of file).bins_size ≤ 67108864 → log_end file ≤ 67126272
+pub front_long : (file : List ℕ) → (block_of file).bins_size ≤ MOST_BINS_BYTES → log_end file ≤ MOST_LOG_BYTES
 front_long file small =
     let size = (block_of file).bins_size in
     let count = dirty_count (pages_in file) in
@@ -35,11 +37,11 @@ front_long file small =
     (cases_eq count 0)
 
 -- so a log that is whole, or whose longest front is, has its end within that front
-pub whole_front : (file : List ℕ) → block_of (take 67126272 file) ≡ block_of file → LogIsWhole (take 67126272 file) → log_end file ≤ 67126272
-whole_front file block whole = front_long file (subst (λ (b : BaseBlock). b.bins_size ≤ 67108864) block whole.block.0.within)
+pub whole_front : (file : List ℕ) → block_of (take MOST_LOG_BYTES file) ≡ block_of file → LogIsWhole (take MOST_LOG_BYTES file) → log_end file ≤ MOST_LOG_BYTES
+whole_front file block whole = front_long file (subst (λ (b : BaseBlock). b.bins_size ≤ MOST_BINS_BYTES) block whole.block.0.within)
 
 -- what a log reads as that is read by its front
-pub log_by_front : (file encoding : List ℕ) (log : DirtLog) → encoding ≡ take 67126272 file → block_of encoding ≡ block_of file → pages_in encoding ≡ pages_in file → LogIsWhole file
+pub log_by_front : (file encoding : List ℕ) (log : DirtLog) → encoding ≡ take MOST_LOG_BYTES file → block_of encoding ≡ block_of file → pages_in encoding ≡ pages_in file → LogIsWhole file
     → page_bytes_in encoding ≡ page_bytes_in file → log.base ≡ block_of encoding → log.vector ≡ pages_in encoding → log.pages.now ≡ page_bytes_in encoding → DecodesLog file log
 log_by_front file encoding log front block marked whole bytes base vector pages = record { whole = whole; base = base ∙ block; marked = vector ∙ marked; pages = pages ∙ bytes }
 

@@ -2,6 +2,7 @@
 use Rattle.std.specs.Prelude.{ℕ, ◌+◌, ◌/◌, ◌≤◌, cond, List, length, take, drop}
 use Rattle.std.specs.List.{AllByRecursion}
 use Rattle.disk_model.specs.FileState.{FileState}
+use Rattle.hive_files.specs.declared.reader.TheConstants.{MOST_LOG_BYTES}
 use Rattle.hive_files.specs.declared.contents.HiveContents.{HiveContents}
 
 -- each write that is on its way has at most 65,536 bytes
@@ -23,7 +24,7 @@ calls_of_part count = 1 + reads_of count
 
 -- the calls that read a log, and what the primary file has of bins data of a size
 abbrev pub calls_by_log : List ℕ → List ℕ → ℕ → ℕ
-calls_by_log primary log size = calls_of_part (length (take 67_126_272 log)) + calls_of_part (length (take size (drop 4096 primary)))
+calls_by_log primary log size = calls_of_part (length (take MOST_LOG_BYTES log)) + calls_of_part (length (take size (drop 4096 primary)))
 
 -- The calls that find what two files hold: the primary file's sync and its first sector. Then its bins data, if it is
 -- clean, and else the log's sync and what a log takes.

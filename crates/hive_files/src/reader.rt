@@ -19,11 +19,20 @@ use base_block::{BaseBlock, FileType};
 use dirt_log::DirtLog;
 use dirty_vector::DirtyVector;
 use disk_model::Disk;
+use refusals::limits::MOST_BINS_BYTES;
 use refusals::{Cause, Refusal};
 use std::alloc::Global;
 
+/// The most bins data, of which a log has each page.
+const MOST_PAGE_BYTES: u64 = MOST_BINS_BYTES as u64;
+
+/// The sectors of the longest log's letters and bitmap: 4 bytes, and a bit for each 512 bytes of bins data.
+const MOST_BITMAP_SECTORS: u64 = (4 + MOST_PAGE_BYTES / 4_096 + SECTOR_BYTES - 1) / SECTOR_BYTES;
+
 /// The bytes of the longest log that is whole: its first sector, letters and bitmap, in whole sectors, and each page.
-const MOST_LOG_BYTES: u64 = 67_126_272;
+const MOST_LOG_BYTES: u64 = SECTOR_BYTES + MOST_BITMAP_SECTORS * SECTOR_BYTES + MOST_PAGE_BYTES;
+
+const _: () = prove!(MOST_LOG_BYTES == 67_126_272);
 
 /// Finds what is in use in a hive's two files. The primary file is synced first. So is the log, unless the primary file
 /// is clean: then the log isn't looked at. Both are read in chunks of 65,536 bytes, in as few calls as that takes.
@@ -224,10 +233,10 @@ fn read_repaired<D: Disk>(alloc: Global, disk: &mut D, hive: u8) -> Result<HiveC
 fn read_log(alloc: Global, encoding: &[u8]) -> Result<DirtLog<'_>, Refusal>
     ensures used { IfOk result (λ log. IsLog log.base
         × (log.base.bins_size ≡ log.vector.bins_size)) }
-    ensures log { IfOk result (λ log. (file : List ℕ) → encoding.now ≡ take 67126272 file →
+    ensures log { IfOk result (λ log. (file : List ℕ) → encoding.now ≡ take MOST_LOG_BYTES file →
         DecodesLog file log) }
     ensures refused { IfErr result (RefusedFor not_whole ((file : List ℕ) →
-        encoding.now ≡ take 67126272 file → LogIsWhole file → ⊥)) }
+        encoding.now ≡ take MOST_LOG_BYTES file → LogIsWhole file → ⊥)) }
 {
     dirt_log::laws::log_prefix_decides();
     match dirt_log::read(alloc, encoding) {

@@ -6,6 +6,7 @@ use Rattle.disk_model.specs.FileState.{FileState, at_rest}
 use Rattle.disk_model.specs.StoreFiles.{primary_file, log_file}
 use Rattle.disk_model.proofs.Unwritten.{only_reads, no_change, sync_call, syncs_on}
 use Rattle.dirty_vector.specs.Pages.{clean_pages}
+use Rattle.hive_files.specs.declared.reader.TheConstants.{MOST_LOG_BYTES}
 use Rattle.hive_files.specs.Contents.{PrimaryHasNone, LogContains, LogCoversPrimary, HasBinsData, ShortFileRefused}
 use Rattle.hive_files.proofs.Founding.{sector_tells, short_has_none, clean_found, unclean_found, clean_has_none, unclean_has_none, told_on, log_told_on}
 use Rattle.hive_files.proofs.Frames.{ok_joined, ok_of_three}
@@ -149,7 +150,7 @@ returns-clause-calls g c = ok_joined c.find_repaired.result _ _ _ (λ found clea
     let there : (late (primary_file c.args.hive)).seen ≡ primary = ap (λ (f : ℕ). (late f).seen) (sym number) ∙ ap (λ (s : FileState). s.seen) (no_change c.in-Ok.ensures.reads c.primary_number-primary.result) ∙ shown in
     let apart : log_file c.args.hive ≢ c.primary_number-primary.result = λ same. omega (arith, same, number) in
     let behind : (late (log_file c.args.hive)).seen ≡ log = ap (λ (s : FileState). s.seen) (no_change c.in-Ok.ensures.reads (log_file c.args.hive) ∙ c.in_ok-sync.ensures.others (log_file c.args.hive) apart) in
-    let encoding = ap (λ (l : List ℕ). length (take 67126272 l)) behind in
+    let encoding = ap (λ (l : List ℕ). length (take MOST_LOG_BYTES l)) behind in
     let part = ap (λ (l : List ℕ). length (take found.block.bins_size (drop 4096 l))) there in
     let sector : length c.in-Ok.sector.items ≡ 512 = omega (arith, c.in-Ok.ensures.few, c.in-Some.ensures.some.1, ap (λ (l : List ℕ). length l) c.deref.ensures.value) in
     omega (arith, calls faithful, encoding, part, c.in-Ok.ensures.calls, c.sync.ensures.time.clock, sector, unclean_calls primary log found clean)) c.find_repaired.ensures.clean c.find_repaired.ensures.calls

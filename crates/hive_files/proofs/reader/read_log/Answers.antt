@@ -2,12 +2,13 @@ use Rattle.std.proofs.Common.{◌≡◌, ◌≤◌, ℕ, take, inl, inr, sym, ap
 use Rattle.base_block.specs.declared.block.BaseBlock.{BaseBlock}
 use Rattle.dirt_log.specs.WholeLog.{LogIsWhole, block_of, pages_in, page_bytes_in}
 use Rattle.dirt_log.specs.LogEncoding.{bitmap_end}
+use Rattle.hive_files.specs.declared.reader.TheConstants.{MOST_LOG_BYTES}
 use Rattle.hive_files.proofs.Founding.{front_long, whole_front}
 use Rattle.hive_files.proofs.reader.read_log.Goals as goal
 
 pub returns-in-Ok-clause-log : goal.returns-in-Ok-clause-log
 returns-in-Ok-clause-log c = λ file front.
-    let n : ℕ = 67126272 in
+    let n : ℕ = MOST_LOG_BYTES in
     let block : block_of (take n file) ≡ block_of file = c.log_prefix_decides.ensures.block file n (omega arith) in
     let whole : LogIsWhole (take n file) = subst LogIsWhole front c.in-Ok.ensures.whole in
     let end = whole_front file block whole in
@@ -21,5 +22,5 @@ returns-in-Ok-clause-log c = λ file front.
 
 pub returns-in-Err-clause-refused : goal.returns-in-Err-clause-refused
 returns-in-Err-clause-refused c = ⊎_elim
-    (λ not. inl (not.0, λ file front whole. not.1 (subst LogIsWhole (sym front) ((c.log_prefix_decides.ensures.whole file 67126272 (front_long file whole.block.0.within)).1 whole))))
+    (λ not. inl (not.0, λ file front whole. not.1 (subst LogIsWhole (sym front) ((c.log_prefix_decides.ensures.whole file MOST_LOG_BYTES (front_long file whole.block.0.within)).1 whole))))
     (λ none. inr none) c.in-Err.ensures.refused

@@ -3,13 +3,14 @@ use Rattle.std.proofs.lemmas.Result.{IfOk-weaker, IfErr-weaker}
 use Rattle.disk_model.specs.FileState.{FileState}
 use Rattle.disk_model.specs.StoreFiles.{primary_file, log_file}
 use Rattle.disk_model.proofs.Unwritten.{reads_on, no_change}
+use Rattle.hive_files.specs.declared.reader.TheConstants.{MOST_LOG_BYTES}
 use Rattle.hive_files.proofs.Founding.{told_of_log}
 use Rattle.hive_files.proofs.reader.read_repaired.Goals as goal
 
 pub returns-in-Err-read_log-clause-fails : goal.returns-in-Err-read_log-clause-fails
 returns-in-Err-read_log-clause-fails g c = told_of_log _ _ _ _ (λ none faithful logged.
     let log = (g.D.Disk.state_at c.args.disk.now (g.D.Disk.clock c.args.disk.now) (log_file c.args.hive)).seen in
-    none log (c.deref.ensures.value ∙ c.in-Ok.ensures.bytes faithful ∙ ap (λ (f : ℕ). take 67126272 (g.D.Disk.state_at c.args.disk.now (g.D.Disk.clock c.args.disk.now) f).seen) c.log_number.ensures) logged.whole)
+    none log (c.deref.ensures.value ∙ c.in-Ok.ensures.bytes faithful ∙ ap (λ (f : ℕ). take MOST_LOG_BYTES (g.D.Disk.state_at c.args.disk.now (g.D.Disk.clock c.args.disk.now) f).seen) c.log_number.ensures) logged.whole)
     c.in-Err-read_log.ensures.refused
 
 pub returns-clause-found : goal.returns-clause-found
@@ -21,7 +22,7 @@ returns-clause-found g c = IfOk-weaker c.repaired.result _ _ (λ found by faithf
     let size = c.in-Ok-read_log.log.vector.bins_size in
     let before = c.in-Ok-read_part.ensures.faithful faithful in
     by primary log
-    (c.in-Ok-read_log.ensures.log log (c.deref.ensures.value ∙ c.in-Ok.ensures.bytes before ∙ ap (λ (f : ℕ). take 67126272 (state f).seen) c.log_number.ensures))
+    (c.in-Ok-read_log.ensures.log log (c.deref.ensures.value ∙ c.in-Ok.ensures.bytes before ∙ ap (λ (f : ℕ). take MOST_LOG_BYTES (state f).seen) c.log_number.ensures))
     (c.in-Ok-read_part.ensures.bytes faithful ∙ ap (λ (n : ℕ). take n (drop 4096 (mid c.primary_number.result).seen)) c.bins_size-size.ensures.value
     ∙ ap (λ (f : ℕ). take size (drop 4096 (mid f).seen)) c.primary_number.ensures
     ∙ ap (λ (s : FileState). take size (drop 4096 s.seen)) (no_change c.in-Ok.ensures.reads (primary_file c.args.hive)))) c.repaired.ensures.found
@@ -35,7 +36,7 @@ returns-clause-fails g c = IfErr-weaker c.repaired.result _ _ (λ why by. told_o
     let size = c.in-Ok-read_log.log.vector.bins_size in
     let before = c.in-Ok-read_part.ensures.faithful faithful in
     none primary log
-    (c.in-Ok-read_log.ensures.log log (c.deref.ensures.value ∙ c.in-Ok.ensures.bytes before ∙ ap (λ (f : ℕ). take 67126272 (state f).seen) c.log_number.ensures))
+    (c.in-Ok-read_log.ensures.log log (c.deref.ensures.value ∙ c.in-Ok.ensures.bytes before ∙ ap (λ (f : ℕ). take MOST_LOG_BYTES (state f).seen) c.log_number.ensures))
     (c.in-Ok-read_part.ensures.bytes faithful ∙ ap (λ (n : ℕ). take n (drop 4096 (mid c.primary_number.result).seen)) c.bins_size-size.ensures.value
     ∙ ap (λ (f : ℕ). take size (drop 4096 (mid f).seen)) c.primary_number.ensures
     ∙ ap (λ (s : FileState). take size (drop 4096 s.seen)) (no_change c.in-Ok.ensures.reads (primary_file c.args.hive))) logged) by) c.repaired.ensures.fails
@@ -49,7 +50,7 @@ returns-clause-calls g c = IfOk-weaker c.repaired.result _ _ (λ found size fait
     let mid = g.D.Disk.state_at c.read_part.new.disk (g.D.Disk.clock c.read_part.new.disk) in
     let primary = (state (primary_file c.args.hive)).seen in
     let before = c.in-Ok-read_part.ensures.faithful faithful in
-    let encoding = c.in-Ok.ensures.bytes before ∙ ap (λ (f : ℕ). take 67126272 (state f).seen) c.log_number.ensures in
+    let encoding = c.in-Ok.ensures.bytes before ∙ ap (λ (f : ℕ). take MOST_LOG_BYTES (state f).seen) c.log_number.ensures in
     let bins =
     c.in-Ok-read_part.ensures.bytes faithful ∙ ap (λ (n : ℕ). take n (drop 4096 (mid c.primary_number.result).seen)) (c.bins_size-size.ensures.value ∙ sym size)
     ∙ ap (λ (f : ℕ). take found.block.bins_size (drop 4096 (mid f).seen)) c.primary_number.ensures
