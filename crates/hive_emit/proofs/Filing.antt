@@ -1,6 +1,5 @@
 -- Descriptors with their indexes, by a map; so that none is kept twice.
-use Rattle.std.proofs.Common.{◌≡◌, ◌⊎◌, inl, inr, ℕ, zero, suc, ◌+◌, ◌<◌, Bool, true, false, cond, List, [], ◌∷◌, ◌++◌, length, map, slice_get, refl, sym, ◌∙◌, ap, subst, arith, Option, Some, None}
-use Rattle.std.specs.Prelude.{slice_set}
+use Rattle.std.proofs.Common.{◌≡◌, ◌⊎◌, inl, inr, ℕ, zero, suc, ◌+◌, Bool, true, false, cond, List, [], ◌∷◌, ◌++◌, length, map, slice_get, refl, sym, ◌∙◌, ap, subst, arith, Option, Some, None}
 use Rattle.std.specs.Global.{Vec}
 use Rattle.std.specs.Ordering.{nat_cmp, is_eq, match_ordering}
 use Rattle.std.specs.Cmp.{tied_itself}
@@ -8,7 +7,6 @@ use Rattle.std.specs.Cmp.Lexicographic.{slice_cmp}
 use Rattle.std.specs.BTreeMap.{insert_entry}
 use Rattle.std.specs.declared.cmp.Ordering.{Ordering}
 use Rattle.std.specs.declared.cmp.Ordering.TheVariants.{Less, Equal, Greater}
-use Rattle.std.proofs.lemmas.Bool.{cases_eq}
 use Rattle.reg_tree_parts.proofs.Finds.{equal_of}
 use Rattle.reg_tree_parts.proofs.Keys.{names_total, names_apart}
 use Rattle.hive_tree_model.proofs.Basics.{some_same}
@@ -16,7 +14,6 @@ use Rattle.hive_tree_model.specs.Lists.{IsIn}
 use Rattle.hive_emit.specs.declared.security.SecurityEntry.{SecurityEntry}
 use Rattle.hive_emit.specs.EmittedKeys.{Has}
 use Rattle.hive_emit.specs.SecurityTables.{index_of, AreFiled, HasDescriptorAt, AreApart, tallies}
-use Rattle.hive_emit.proofs.SecurityTables.{set_here, set_there}
 
 abbrev pub order : Vec ℕ → Vec ℕ → Ordering
 order k j = slice_cmp nat_cmp k.items j.items
@@ -65,9 +62,6 @@ filed_there es cells place d filed there has =
     subst (λ (i : ℕ). HasDescriptorAt cells i d) same (record { security = has.security; is = has.is; same = has.same })
 
 -- cells that are filed stay so
-pub filed_none : (es : List (Vec ℕ × ℕ)) → AreFiled es []
-filed_none es i s e = absurd (let no : ⊥ = cc in no)
-
 pub filed_put : (es : List (Vec ℕ × ℕ)) (cells : List SecurityEntry) (k : Vec ℕ) (v : ℕ) (d : List ℕ) → k.items ≡ d → (Has cells d → ⊥) → AreFiled es cells → AreFiled (insert_entry order es k v) cells
 filed_put es cells k v d same fresh filed i s e = placed_other es k v s.descriptor (λ it. fresh (record { place = i; security = s; is = e; same = sym it ∙ same })) ∙ filed i s e
 
@@ -81,14 +75,6 @@ pub filed_push : (es : List (Vec ℕ × ℕ)) (cells : List SecurityEntry) (k : 
 filed_push es cells k v new same long fresh filed i s e = elim (got_push cells new i s e) [
   | inl f ↦ filed_put es cells k v new.descriptor same fresh filed i s f
   | inr f ↦ placed_here es k v s.descriptor (same ∙ ap (λ (x : SecurityEntry). x.descriptor) (sym f.1)) ∙ ap Some (long ∙ sym f.0)
-]
-
-pub filed_set : (es : List (Vec ℕ × ℕ)) (cells : List SecurityEntry) (place : ℕ) (old new : SecurityEntry) → place < length cells → slice_get cells place ≡ Some old → new.descriptor ≡ old.descriptor → AreFiled es cells → AreFiled es (slice_set cells place new)
-filed_set es cells place old new inside is same filed i s e = elim (cases_eq i place) [
-  | inl here ↦
-      let it : s ≡ new = some_same s new (sym e ∙ ap (slice_get (slice_set cells place new)) here ∙ set_here cells place new inside) in
-      ap (index_of es) (ap (λ (x : SecurityEntry). x.descriptor) it ∙ same) ∙ filed place old is ∙ ap Some (sym here)
-  | inr apart ↦ filed i s (sym (set_there cells place i new apart) ∙ e)
 ]
 
 -- and none of them has the descriptor of another

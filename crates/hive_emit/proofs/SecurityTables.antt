@@ -15,13 +15,8 @@ use Rattle.hive_emit.specs.CellWrites.{Makes, Puts}
 use Rattle.hive_emit.proofs.Makings.{made_then, made_none, all_push}
 use Rattle.hive_emit.proofs.ValueMaps.{take_next, all_at}
 use Rattle.hive_emit.proofs.KeyProofs.{all_parts, found_subkey, held_grown}
-use Rattle.hive_emit.specs.EmittedKeys.{Has, IsOffsetOf, IsCounted, AreCounted, SecurityIsWritten, KeepsSecurityCells}
+use Rattle.hive_emit.specs.EmittedKeys.{Has, IsCounted, AreCounted, SecurityIsWritten, KeepsSecurityCells}
 use Rattle.hive_emit.specs.SecurityTables.{HasDescriptorAt}
-
--- the offset of a cell that is kept at an index
-pub found_cell : (cells : List SecurityEntry) (place : ℕ) (a : SecurityEntry) (d : List ℕ) → a ≡ get_or cells place a → place < length cells → HasDescriptorAt cells place d → IsOffsetOf cells d a.at
-found_cell cells place a d a_is inside has = let there : slice_get cells place ≡ Some a = slice_get_read cells (length cells) place a refl inside a_is in
-    inr (record { place = place; security = a; is = there; same = ap (λ (s : SecurityEntry). s.descriptor) (some_same a has.security (sym there ∙ has.is)) ∙ has.same; here = refl })
 
 -- one that is written anew with the same descriptor
 pub set_here : (cells : List SecurityEntry) (place : ℕ) (new : SecurityEntry) → place < length cells → slice_get (slice_set cells place new) place ≡ Some new
@@ -51,9 +46,6 @@ has_at cells place a bytes d inside a_is bytes_are e = record { security = a; is
 
 pub at_has : (cells : List SecurityEntry) (place : ℕ) (a : SecurityEntry) (d : List ℕ) → place < length cells → a ≡ get_or cells place a → HasDescriptorAt cells place d → a.descriptor ≡ d
 at_has cells place a d inside a_is has = ap (λ (s : SecurityEntry). s.descriptor) (some_same a has.security (sym (slice_get_read cells (length cells) place a refl inside a_is) ∙ has.is)) ∙ has.same
-
-pub has_of : (cells : List SecurityEntry) (place : ℕ) (d : List ℕ) → HasDescriptorAt cells place d → Has cells d
-has_of cells place d has = record { place = place; security = has.security; is = has.is; same = has.same }
 
 -- counted keys stay so
 pub counted_kept : (old new : List SecurityEntry) (es : Entries) → ((d : List ℕ) → Has old d → Has new d) → AreCounted old es → AreCounted new es
