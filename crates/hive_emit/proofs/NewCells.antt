@@ -4,6 +4,7 @@ use Rattle.std.specs.Prelude.{slice_range}
 use Rattle.std.proofs.Math.Seq.{take-add, drop-drop}
 use Rattle.std.proofs.lemmas.Bool.{cases_eq, cases_lt}
 use Rattle.std.proofs.lemmas.Bool.Decides.{eqb_tells}
+use Rattle.refusals.specs.declared.limits.TheConstants.{MOST_BINS_BYTES}
 use Rattle.refusals.specs.declared.refusal.Refusal.{Refusal}
 use Rattle.refusals.specs.declared.refusal.Refusal.TheVariants as refusal
 use Rattle.hive_cells.specs.Tiles.{Tiles, BinStart, first_bin, next_bin, CellStart, first_cell, next_cell, IsCell, IsAllocatedCell, IsFreeCell, cell_size, cell_data, bin_size}
@@ -126,7 +127,7 @@ landed old new len at a front more r = elim a.source [
       let next : at + cell_size new at ≡ front + least_size len = omega (arith, here, exact) in (
         here,
         record {
-          limit = let limit : length old ≤ 67108864 = r.limit in let len : length new ≡ length old = h.2 in omega (arith, limit, len);
+          limit = let limit : length old ≤ MOST_BINS_BYTES = r.limit in let len : length new ≡ length old = h.2 in omega (arith, limit, len);
           free = subst (IsFreeCell new) next (a.leaves.rest less);
           long = let after : cell_size new (at + cell_size new at) ≡ cell_size new (front + least_size len) = ap (cell_size new) next in omega (arith, long, room, same, exact, rest, after);
           only = λ other free. elim (cases_lt other at) [
@@ -144,7 +145,7 @@ landed old new len at a front more r = elim a.source [
 pub stopped : (old : Bins) (len : ℕ) (why : Refusal) → RoomRefused old (least_size len) why → WriteRefused old.bytes (cell_cost len) why
 stopped old len refusal.NoMemory h = inl refl
 stopped old len refusal.TooLarge h = inr (λ r. elim h [
-  | inl over ↦ (let limit : length old.bytes ≤ 67108864 = r.1.limit in let o : 67108864 < length old.bytes = over in omega arith)
+  | inl over ↦ (let limit : length old.bytes ≤ MOST_BINS_BYTES = r.1.limit in let o : MOST_BINS_BYTES < length old.bytes = over in omega arith)
   | inr none ↦ none.0 (r.0, r.1.free, (let long : least_size len + 8 < cell_size old.bytes r.0 = r.1.long in omega arith))
 ])
 stopped old len refusal.NotFound h = absurd h
@@ -186,7 +187,7 @@ filled old new at encoding long w is = record {
       );
   len = w.within.len;
   room = λ front more r. record {
-    limit = let limit : length old ≤ 67108864 = r.limit in let len : length new ≡ length old = w.within.len in omega arith;
+    limit = let limit : length old ≤ MOST_BINS_BYTES = r.limit in let len : length new ≡ length old = w.within.len in omega arith;
     free = (w.free front).same.1 r.free;
     long = let size : cell_size new front ≡ cell_size old front = (w.free front).size r.free in let long : more + 8 < cell_size old front = r.long in omega arith;
     only = λ other free. r.only other ((w.free other).same.0 free);

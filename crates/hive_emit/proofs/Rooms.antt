@@ -1,6 +1,7 @@
 -- An image of one bin with one free cell, from a cell that was allocated in no data and freed.
-use Rattle.std.proofs.Common.{◌≡◌, inl, inr, ℕ, zero, suc, ◌+◌, ◌<◌, ◌≤◌, List, [], length, refl, sym, ◌∙◌, ap, subst, arith}
+use Rattle.std.proofs.Common.{◌≡◌, inl, inr, ℕ, zero, suc, ◌+◌, ◌-◌, ◌<◌, ◌≤◌, List, [], length, refl, sym, ◌∙◌, ap, subst, arith}
 use Rattle.std.proofs.lemmas.Bool.{cases_lt}
+use Rattle.refusals.specs.declared.limits.TheConstants.{MOST_BINS_BYTES}
 use Rattle.refusals.specs.declared.refusal.Refusal.{Refusal}
 use Rattle.refusals.specs.declared.refusal.Refusal.TheVariants as refusal
 use Rattle.refusals.specs.declared.refusal.Cause.TheVariants as cause
@@ -86,7 +87,7 @@ freed_whole b c len at from a f = elim a.source [
       }
 ]
 
-pub roomy_new : (b c : List ℕ) (len at from needed : ℕ) → needed + 8 ≤ len → len ≤ 67_108_828 → Allocates [] b len at → Frees b c at from → HasFreeRoomAt c 32 needed × (len + 36 ≤ length c)
+pub roomy_new : (b c : List ℕ) (len at from needed : ℕ) → needed + 8 ≤ len → len ≤ MOST_BINS_BYTES - 36 → Allocates [] b len at → Frees b c at from → HasFreeRoomAt c 32 needed × (len + 36 ≤ length c)
 roomy_new b c len at from needed enough most a f =
     let w : FreedWhole b c from (least_size len) = freed_whole b c len at from a f in
     let long : length c ≤ 32 + cell_size c 32 = w.long in
@@ -100,10 +101,10 @@ roomy_new b c len at from needed enough most a f =
       omega (arith, len_is),
     )
 
-pub placed_new : (len : ℕ) → len ≤ 67_108_828 → ¬ HasNoRoomFor [] (least_size len)
-placed_new len most h = elim h [ inl over ↦ omega (arith, over) | inr over ↦ (let o : 67_108_864 < 0 + least_bin (least_size len) = over.1 in omega (arith, o, most)) ]
+pub placed_new : (len : ℕ) → len ≤ MOST_BINS_BYTES - 36 → ¬ HasNoRoomFor [] (least_size len)
+placed_new len most h = elim h [ inl over ↦ omega (arith, over) | inr over ↦ (let o : MOST_BINS_BYTES < 0 + least_bin (least_size len) = over.1 in omega (arith, o, most)) ]
 
-pub limit_new : (b : List ℕ) (len at : ℕ) → len ≤ 67_108_828 → Allocates [] b len at → length b ≤ 67_108_864
+pub limit_new : (b : List ℕ) (len at : ℕ) → len ≤ MOST_BINS_BYTES - 36 → Allocates [] b len at → length b ≤ MOST_BINS_BYTES
 limit_new b len at most a = elim a.source [
   | inl found ↦ absurd (none_free 0 (at, found.0, omega arith))
   | inr added ↦ (let sum : length b ≡ 0 + least_bin (least_size len) = added.1.longer in omega (arith, sum, most))
@@ -143,7 +144,7 @@ not_opened refusal.JournalDamaged h = absurd h
 not_opened refusal.Unsupported h = absurd h
 not_opened refusal.Fixed h = absurd h
 
-pub not_placed : (old : Bins) (len : ℕ) (why : Refusal) → old.bytes ≡ [] → len ≤ 67_108_828 → RoomRefused old (least_size len) why → why ≡ refusal.NoMemory
+pub not_placed : (old : Bins) (len : ℕ) (why : Refusal) → old.bytes ≡ [] → len ≤ MOST_BINS_BYTES - 36 → RoomRefused old (least_size len) why → why ≡ refusal.NoMemory
 not_placed old len refusal.NoMemory none most h = refl
 not_placed old len refusal.TooLarge none most h = absurd (placed_new len most (subst (λ (bytes : List ℕ). HasNoRoomFor bytes (least_size len)) none h))
 not_placed old len (refusal.HiveDamaged hive c) none most h = absurd h
@@ -163,9 +164,9 @@ not_placed old len refusal.JournalDamaged none most h = absurd h
 not_placed old len refusal.Unsupported none most h = absurd h
 not_placed old len refusal.Fixed none most h = absurd h
 
-pub not_freed : (b : List ℕ) (at : ℕ) (why : Refusal) → length b ≤ 67_108_864 → IsAllocatedCell b at → FreeRefused b at why → why ≡ refusal.NoMemory
+pub not_freed : (b : List ℕ) (at : ℕ) (why : Refusal) → length b ≤ MOST_BINS_BYTES → IsAllocatedCell b at → FreeRefused b at why → why ≡ refusal.NoMemory
 not_freed b at refusal.NoMemory limit is h = absurd h
-not_freed b at refusal.TooLarge limit is h = absurd (let over : 67_108_864 < length b = h in omega (arith, over, limit))
+not_freed b at refusal.TooLarge limit is h = absurd (let over : MOST_BINS_BYTES < length b = h in omega (arith, over, limit))
 not_freed b at (refusal.HiveDamaged zero cause.BadOffset) limit is h = absurd (h.1 is)
 not_freed b at (refusal.HiveDamaged (suc n) c) limit is h = absurd h
 not_freed b at (refusal.HiveDamaged zero cause.Truncated) limit is h = absurd h

@@ -12,6 +12,7 @@ use Rattle.std.specs.declared.cmp.Ordering.TheVariants.{Less, Equal}
 use Rattle.std.proofs.lemmas.Nat.Bits.{and_high}
 use Rattle.std.proofs.lemmas.List.{length-map}
 use Rattle.std.proofs.lemmas.List.Sums.{sum_by-cons}
+use Rattle.refusals.specs.declared.limits.TheConstants.{MOST_WEIGHT}
 use Rattle.reg_names.specs.Names.{folded}
 use Rattle.reg_tree_parts.specs.declared.value.Value.{Value}
 use Rattle.reg_tree_parts.specs.Orders.{name_order, path_order}
@@ -84,7 +85,7 @@ count_all : (vs : List Value) → length vs ≤ sum_by value_weight vs
 count_all [] = omega arith
 count_all (v ∷ vs) = let sum : sum_by value_weight (v ∷ vs) ≡ value_weight v + sum_by value_weight vs = sum_by-cons value_weight v vs in omega (arith, sum, count_all vs)
 
-both_can : (es : List (List ℕ × Value)) → AllByRecursion (λ (e : List ℕ × Value). IsEncodableValue e.0 e.1) es → AllByRecursion (λ (v : Value). length v.«data» ≤ 16_777_216) (map (λ e. e.1) es) → AllByRecursion CanPut (map (λ e. e.1) es)
+both_can : (es : List (List ℕ × Value)) → AllByRecursion (λ (e : List ℕ × Value). IsEncodableValue e.0 e.1) es → AllByRecursion (λ (v : Value). length v.«data» ≤ MOST_WEIGHT) (map (λ e. e.1) es) → AllByRecursion CanPut (map (λ e. e.1) es)
 both_can [] h g = tt
 both_can (e ∷ es) h g = let few = g.0 in (value_can e.0 e.1 h.0 (omega (arith, few)), both_can es h.1 g.1)
 
@@ -97,13 +98,13 @@ found_in values q =
     ap (λ (m : ValueMap). finite.get m q) (same_entries_map values (finite.from_sorted (finite.entries values)) (sym (entries-from_sorted name_order (finite.entries values) (entries_sorted values))))
     ∙ get-from_sorted name_order (finite.entries values) q (entries_sorted values)
 
-values_can : (row : Row) → IsEncodableRow row → row_weight row ≤ 16_777_216 → CanPutAll row.values
+values_can : (row : Row) → IsEncodableRow row → row_weight row ≤ MOST_WEIGHT → CanPutAll row.values
 values_can row is few =
     let spelled : AllByRecursion (λ (e : List ℕ × Value). IsEncodableValue e.0 e.1) (finite.entries row.values) =
     all_found name_order (tied_itself names_total) names_apart (λ n v. IsEncodableValue n v) (finite.entries row.values) (entries_sorted row.values) (λ n v found. is.values n v (found_in row.values n ∙ found)) in
-    let sum : sum_by value_weight (finite.values row.values) ≤ 16_777_216 = omega arith in
+    let sum : sum_by value_weight (finite.values row.values) ≤ MOST_WEIGHT = omega arith in
     record {
-      each = both_can (finite.entries row.values) spelled (weigh_all (finite.values row.values) 16_777_216 sum);
+      each = both_can (finite.entries row.values) spelled (weigh_all (finite.values row.values) MOST_WEIGHT sum);
       filed = all_filed (finite.entries row.values) spelled;
       few = omega (arith, len-entries row.values, length-map (finite.entries row.values) (λ e. e.1), count_all (finite.values row.values), sum);
     }
@@ -112,7 +113,7 @@ values_can row is few =
 unmarked : (flags : ℕ) → bit_and flags 0x60 ≡ 0 → flags / 32 % 4 ≡ 0
 unmarked flags e = let is : flags / 32 % 4 * 2 ^ 5 ≡ 0 = sym (and_high flags 2 5) ∙ e in omega (arith, is)
 
-row_can : (path : List (List ℕ)) (row : Row) → IsEncodableAt path row → row_weight row ≤ 16_777_216 → CanPutKey path row
+row_can : (path : List (List ℕ)) (row : Row) → IsEncodableAt path row → row_weight row ≤ MOST_WEIGHT → CanPutKey path row
 row_can path row is few =
     let own = is.spelled in
     let clear : row.flags / 32 % 4 ≡ 0 = unmarked row.flags own.unmarked in
@@ -141,20 +142,20 @@ count_rows : (es : Entries) → 192 * length es ≤ entries_weight es
 count_rows [] = omega arith
 count_rows (e ∷ es) = let sum : entries_weight (e ∷ es) ≡ row_weight e.1 + entries_weight es = sum_by-cons (λ (e : List (List ℕ) × Row). row_weight e.1) e es in omega (arith, sum, count_rows es)
 
-rows_can : (es : Entries) → AllByRecursion (λ (e : List (List ℕ) × Row). IsEncodableAt e.0 e.1) es → AllByRecursion (λ (e : List (List ℕ) × Row). row_weight e.1 ≤ 16_777_216) es → CanPutKeys es
+rows_can : (es : Entries) → AllByRecursion (λ (e : List (List ℕ) × Row). IsEncodableAt e.0 e.1) es → AllByRecursion (λ (e : List (List ℕ) × Row). row_weight e.1 ≤ MOST_WEIGHT) es → CanPutKeys es
 rows_can [] h g = tt
 rows_can (e ∷ es) h g = (row_can e.0 e.1 h.0 g.0, rows_can es h.1 g.1)
 
-pub root_weight : (tree : TreeMap) (root : Entries) → IsNode root → tree ≡ finite.from_sorted root → weight tree ≤ 16_777_216 → entries_weight root ≤ 16_777_216
-root_weight tree root node same light = subst (λ es. entries_weight es ≤ 16_777_216) (entries-from_sorted path_order root node.rises) (subst (λ (t : TreeMap). weight t ≤ 16_777_216) same light)
+pub root_weight : (tree : TreeMap) (root : Entries) → IsNode root → tree ≡ finite.from_sorted root → weight tree ≤ MOST_WEIGHT → entries_weight root ≤ MOST_WEIGHT
+root_weight tree root node same light = subst (λ es. entries_weight es ≤ MOST_WEIGHT) (entries-from_sorted path_order root node.rises) (subst (λ (t : TreeMap). weight t ≤ MOST_WEIGHT) same light)
 
-pub tree_can : (tree : TreeMap) (root : Entries) → IsNode root → tree ≡ finite.from_sorted root → IsEncodable tree → weight tree ≤ 16_777_216 → CanPutKeys root
+pub tree_can : (tree : TreeMap) (root : Entries) → IsNode root → tree ≡ finite.from_sorted root → IsEncodable tree → weight tree ≤ MOST_WEIGHT → CanPutKeys root
 tree_can tree root node same encodable light =
     rows_can root
     (all_found path_order (tied_itself paths_total) paths_apart (λ p r. IsEncodableAt p r) root node.rises (λ p r found. encodable.rows p r (ap (λ (t : TreeMap). finite.get t p) same ∙ get-from_sorted path_order root p node.rises ∙ found)))
-    (weigh_rows root 16_777_216 (root_weight tree root node same light))
+    (weigh_rows root MOST_WEIGHT (root_weight tree root node same light))
 
-pub tree_few : (tree : TreeMap) (root : Entries) → IsNode root → tree ≡ finite.from_sorted root → weight tree ≤ 16_777_216 → length root < 2 ^ 24
+pub tree_few : (tree : TreeMap) (root : Entries) → IsNode root → tree ≡ finite.from_sorted root → weight tree ≤ MOST_WEIGHT → length root < 2 ^ 24
 tree_few tree root node same light = omega (arith, count_rows root, root_weight tree root node same light)
 
 -- what is known at the end

@@ -1,5 +1,6 @@
-use Rattle.std.proofs.Common.{◌≡◌, ◌+◌, ◌≤◌, List, [], length, ap, arith, sym, subst}
+use Rattle.std.proofs.Common.{◌≡◌, ◌+◌, ◌*◌, ◌≤◌, List, [], length, ap, arith, sym, subst}
 use Rattle.std.specs.FinMap as finite
+use Rattle.refusals.specs.declared.limits.TheConstants.{MOST_WEIGHT}
 use Rattle.reg_tree_parts.specs.Nodes.{Entries, IsNode}
 use Rattle.reg_tree.specs.Maps.{TreeMap, weight}
 use Rattle.hive_emit.specs.CellWrites.{HasFreeRoomAt, HasFreeRoom}
@@ -15,7 +16,7 @@ use Rattle.hive_emit.proofs.Ends.{formed_at_end}
 use Rattle.hive_emit.proofs.emitter.emit.Goals as goal
 
 -- what security cells and keys of a tree within the weight take
-taken : (tree : TreeMap) (root : Entries) (old counted : List SecurityEntry) → IsNode root → tree ≡ finite.from_sorted root → weight tree ≤ 16_777_216 → old ≡ [] → securities_cost counted ≤ securities_cost old + descriptors_cost root → securities_cost counted + keys_cost root ≤ 33_554_432
+taken : (tree : TreeMap) (root : Entries) (old counted : List SecurityEntry) → IsNode root → tree ≡ finite.from_sorted root → weight tree ≤ MOST_WEIGHT → old ≡ [] → securities_cost counted ≤ securities_cost old + descriptors_cost root → securities_cost counted + keys_cost root ≤ 2 * MOST_WEIGHT
 taken tree root old counted node same light none cost = omega (arith, root_weight tree root node same light, tree_light root, cost, ap securities_cost none)
 
 pub count_all-requires : goal.count_all-requires
@@ -28,7 +29,7 @@ cost-requires c =
 
 pub keys_cost-requires : goal.keys_cost-requires
 keys_cost-requires c =
-    let light : weight c.args.tree.now ≤ 16_777_216 = omega (arith, c.weight.ensures, c.if-weight-gt-MOST_WEIGHT.false) in
+    let light : weight c.args.tree.now ≤ MOST_WEIGHT = omega (arith, c.weight.ensures, c.if-weight-gt-MOST_WEIGHT.false) in
     let all = taken c.args.tree.now c.root-root.result.now c.new-securities.result c.count_all.new.self c.root-root.ensures.node c.root-root.ensures.same light c.new-securities.ensures c.in_ok-count_all.ensures.cost in
     record {
       can = tree_can c.args.tree.now c.root-root.result.now c.root-root.ensures.node c.root-root.ensures.same c.root-root.ensures.encodable light;
