@@ -10,7 +10,7 @@ use Rattle.hive_cells.specs.Tiles.{DataRefused, BinStart, first_bin, next_bin, C
 use Rattle.hive_cells.specs.Changes.{Allocates, Frees, HasNoRoomFor, RoomRefused, FreeRefused, least_size, least_bin}
 use Rattle.hive_cells.proofs.Region.{words_same}
 use Rattle.hive_emit.specs.CellWrites.{HasFreeRoomAt}
-use Rattle.hive_emit.proofs.NewCells.{end_within}
+use Rattle.hive_cells.proofs.Shown.{end_within}
 
 -- in no data nothing begins
 no_bin : (at : ℕ) → BinStart [] at → ⊥
