@@ -47,15 +47,15 @@ range_same xs ys from to i e l = elim (cases_lt (from + i) to) [
     past zs from to i h = get_or_past (slice_range zs from to) i 0 (let l = length-take (to - from) (drop from zs) in omega (arith, h, l))
 
 -- what a writing makes of a cell's data
-pub overlaid : (old new : List ℕ) (at from : ℕ) (text : List ℕ) → Tiles old → HasData old at (from + length text) → Writes old new at (at + 4 + from) (at + 4 + from + length text) → slice_range new (at + 4 + from) (at + 4 + from + length text) ≡ text →
-    Overlays (cell_data old at) (cell_data new at) from text
-overlaid old new at from text tiles has w is = record {
+pub overlaid : (old new : List ℕ) (at from : ℕ) (source : List ℕ) → Tiles old → HasData old at (from + length source) → Writes old new at (at + 4 + from) (at + 4 + from + length source) → slice_range new (at + 4 + from) (at + 4 + from + length source) ≡ source →
+    Overlays (cell_data old at) (cell_data new at) from source
+overlaid old new at from source tiles has w is = record {
   len = same_len;
   before = λ i h. step i (w.within.others (at + 4 + i) (inl (omega (arith, h))));
   after = λ i h. step i (w.within.others (at + 4 + i) (inr (omega (arith, h))));
   its = λ i h. range_index new (at + 4) (at + cell_size new at) (from + i) (omega (arith, h, has.1, size))
       ∙ ap (slice_index new) (omega arith)
-      ∙ sym (range_index new (at + 4 + from) (at + 4 + from + length text) i (omega (arith, h)))
+      ∙ sym (range_index new (at + 4 + from) (at + 4 + from + length source) i (omega (arith, h)))
       ∙ ap (λ (z : List ℕ). slice_index z i) is;
 }
   where
@@ -78,9 +78,9 @@ others_same : (old new : List ℕ) (before after : Cells) → Shows old before �
 others_same old new before after shows shown at others cell apart = same_at old new before after shows shown cell (others cell apart)
 
 module _ (old new : List ℕ) (before after : Cells) (shows : Shows old before) (shown : Shows new after) where
-  pub after_write : (at from : ℕ) (text : List ℕ) → Tiles old → HasData old at (from + length text) → Writes old new at (at + 4 + from) (at + 4 + from + length text) → slice_range new (at + 4 + from) (at + 4 + from + length text) ≡ text →
-      SameBut at before after × (before at ≡ Some (cell_data old at)) × (after at ≡ Some (cell_data new at)) × Overlays (cell_data old at) (cell_data new at) from text
-  after_write at from text tiles has w is = (others_same old new before after shows shown at w.others, shown_here old before shows at w.was, shown_here new after shown at w.begins, overlaid old new at from text tiles has w is)
+  pub after_write : (at from : ℕ) (source : List ℕ) → Tiles old → HasData old at (from + length source) → Writes old new at (at + 4 + from) (at + 4 + from + length source) → slice_range new (at + 4 + from) (at + 4 + from + length source) ≡ source →
+      SameBut at before after × (before at ≡ Some (cell_data old at)) × (after at ≡ Some (cell_data new at)) × Overlays (cell_data old at) (cell_data new at) from source
+  after_write at from source tiles has w is = (others_same old new before after shows shown at w.others, shown_here old before shows at w.was, shown_here new after shown at w.begins, overlaid old new at from source tiles has w is)
 
   pub after_alloc : (len offset : ℕ) → Allocates old new len offset → SameBut offset before after × (before offset ≡ None) × (after offset ≡ Some (cell_data new offset))
   after_alloc len offset a = (others_same old new before after shows shown offset a.others, shown_none old before shows offset a.fresh, shown_here new after shown offset a.begins)
@@ -88,27 +88,27 @@ module _ (old new : List ℕ) (before after : Cells) (shows : Shows old before) 
   pub after_free : (offset from : ℕ) → Frees old new offset from → SameBut offset before after × (before offset ≡ Some (cell_data old offset)) × (after offset ≡ None)
   after_free offset from f = (others_same old new before after shows shown offset f.others, shown_here old before shows offset f.was, shown_none new after shown offset f.gone)
 
--- the word of a text that is over data
-word_over : (old new text : List ℕ) (from n : ℕ) → Overlays old new from text → n + 3 < length text → u32_at new (from + n) ≡ u32_at text n
-word_over old new text from n o h = word_moved new text (from + n) n
+-- the word of bytes that are written over data
+word_over : (old new source : List ℕ) (from n : ℕ) → Overlays old new from source → n + 3 < length source → u32_at new (from + n) ≡ u32_at source n
+word_over old new source from n o h = word_moved new source (from + n) n
     (o.its n (omega (arith, h)))
     (ap (slice_index new) (omega arith) ∙ o.its (n + 1) (omega (arith, h)))
     (ap (slice_index new) (omega arith) ∙ o.its (n + 2) (omega (arith, h)))
     (ap (slice_index new) (omega arith) ∙ o.its (n + 3) h)
 
-pub time_over : (old new text : List ℕ) (moment : ℕ) → Overlays old new 4 text → length text ≡ 8 → u64_at text 0 ≡ moment → NodeTimeChanges old new moment
+pub time_over : (old new source : List ℕ) (moment : ℕ) → Overlays old new 4 source → length source ≡ 8 → u64_at source 0 ≡ moment → NodeTimeChanges old new moment
 unfolding u64_at
-time_over old new text moment o eight is = record {
+time_over old new source moment o eight is = record {
   len = o.len;
-  time_is = (λ i. word_over old new text 4 0 o (omega (arith, eight)) i + 0x1_0000_0000 * word_over old new text 4 4 o (omega (arith, eight)) i) ∙ is;
+  time_is = (λ i. word_over old new source 4 0 o (omega (arith, eight)) i + 0x1_0000_0000 * word_over old new source 4 4 o (omega (arith, eight)) i) ∙ is;
   before = λ i h. o.before i h;
   between = λ i h g. o.after i (omega (arith, h, eight));
   after = λ i h. o.after i (omega (arith, h, eight));
 }
 
-pub bounds_over : (old mid new text : List ℕ) (time from : ℕ) → NodeTimeChanges old mid time → Overlays mid new from text → 52 ≤ from → from + length text ≤ 68 → NodeTimeChanges old new time
+pub bounds_over : (old mid new source : List ℕ) (time from : ℕ) → NodeTimeChanges old mid time → Overlays mid new from source → 52 ≤ from → from + length source ≤ 68 → NodeTimeChanges old new time
 unfolding u64_at
-bounds_over old mid new text time from t o low high = record {
+bounds_over old mid new source time from t o low high = record {
   len = (let a : length new ≡ length mid = o.len in let b : length mid ≡ length old = t.len in a ∙ b);
   time_is = (λ i. word_stay 4 (omega (arith, low)) i + 0x1_0000_0000 * word_stay 8 (omega (arith, low)) i) ∙ t.time_is;
   before = λ i h. o.before i (omega (arith, h, low)) ∙ t.before i h;
@@ -119,14 +119,14 @@ bounds_over old mid new text time from t o low high = record {
     word_stay : (n : ℕ) → n + 3 < from → u32_at new n ≡ u32_at mid n
     word_stay n h = word_moved new mid n n (o.before n (omega (arith, h))) (o.before (n + 1) (omega (arith, h))) (o.before (n + 2) (omega (arith, h))) (o.before (n + 3) h)
 
-pub lists_over : (old new text : List ℕ) (from : ℕ) → Overlays old new from text → ((4 ≤ from) × (from + length text ≤ 44)) ⊎ ((52 ≤ from) × (from + length text ≤ 72)) → NodeListsChange old new
-lists_over old new text from o (inl h) = record {
+pub lists_over : (old new source : List ℕ) (from : ℕ) → Overlays old new from source → ((4 ≤ from) × (from + length source ≤ 44)) ⊎ ((52 ≤ from) × (from + length source ≤ 72)) → NodeListsChange old new
+lists_over old new source from o (inl h) = record {
   len = o.len;
   before = λ i g. o.before i (omega (arith, g, h.0));
   cells = λ i low high. o.after i (omega (arith, low, h.1));
   after = λ i g. o.after i (omega (arith, g, h.1));
 }
-lists_over old new text from o (inr h) = record {
+lists_over old new source from o (inr h) = record {
   len = o.len;
   before = λ i g. o.before i (omega (arith, g, h.0));
   cells = λ i low high. o.before i (omega (arith, high, h.0));
@@ -141,24 +141,24 @@ lists_on old mid new a b = record {
   after = λ i h. b.after i h ∙ a.after i h;
 }
 
-pub fields_over : (old new text : List ℕ) → Overlays old new 4 text → length text ≡ 12 → ValueFieldsChange old new (u32_at text 8) × (u32_at new 4 ≡ u32_at text 0) × (u32_at new 8 ≡ u32_at text 4)
-fields_over old new text o twelve = (
+pub fields_over : (old new source : List ℕ) → Overlays old new 4 source → length source ≡ 12 → ValueFieldsChange old new (u32_at source 8) × (u32_at new 4 ≡ u32_at source 0) × (u32_at new 8 ≡ u32_at source 4)
+fields_over old new source o twelve = (
   record {
     len = o.len;
-    kind_is = word_over old new text 4 8 o (omega (arith, twelve));
+    kind_is = word_over old new source 4 8 o (omega (arith, twelve));
     before = λ i h. o.before i h;
     after = λ i h. o.after i (omega (arith, h, twelve));
   },
-  word_over old new text 4 0 o (omega (arith, twelve)),
-  word_over old new text 4 4 o (omega (arith, twelve)),
+  word_over old new source 4 0 o (omega (arith, twelve)),
+  word_over old new source 4 4 o (omega (arith, twelve)),
 )
 
-pub small_over : (old new text its : List ℕ) → Overlays old new 4 text → length text ≡ 12 → 20 ≤ length old → length its ≤ 4 → ((i : ℕ) → i < length its → slice_index text (4 + i) ≡ slice_index its i) → slice_range new 8 (8 + length its) ≡ its
-small_over old new text its o twelve long few bytes = ext_get_or 0 (slice_range new 8 (8 + length its)) its same_len (λ i h.
+pub small_over : (old new source its : List ℕ) → Overlays old new 4 source → length source ≡ 12 → 20 ≤ length old → length its ≤ 4 → ((i : ℕ) → i < length its → slice_index source (4 + i) ≡ slice_index its i) → slice_range new 8 (8 + length its) ≡ its
+small_over old new source its o twelve long few same = ext_get_or 0 (slice_range new 8 (8 + length its)) its same_len (λ i h.
     range_index new 8 (8 + length its) i (omega (arith, (let l : i < length its = subst (λ (n : ℕ). i < n) same_len h in l)))
     ∙ ap (slice_index new) (omega arith)
     ∙ o.its (4 + i) (let l : i < length its = subst (λ (n : ℕ). i < n) same_len h in omega (arith, l, few, twelve))
-    ∙ bytes i (subst (λ (n : ℕ). i < n) same_len h))
+    ∙ same i (subst (λ (n : ℕ). i < n) same_len h))
   where
     same_len : length (slice_range new 8 (8 + length its)) ≡ length its
     same_len =
@@ -167,15 +167,15 @@ small_over old new text its o twelve long few bytes = ext_get_or 0 (slice_range 
         let l : length new ≡ length old = o.len in
         omega (arith, a, b, l, long, few)
 
--- data that begin with a text which is over them
-pub begins_over : (old new text : List ℕ) → Overlays old new 0 text → length text ≤ length old → new ≡ text ++ drop (length text) new
-begins_over old new text o few = sym (take-append-drop (length text) new) ∙ ap (λ (z : List ℕ). z ++ drop (length text) new) front
+-- data that begin with bytes which are written over them
+pub begins_over : (old new source : List ℕ) → Overlays old new 0 source → length source ≤ length old → new ≡ source ++ drop (length source) new
+begins_over old new source o few = sym (take-append-drop (length source) new) ∙ ap (λ (z : List ℕ). z ++ drop (length source) new) front
   where
-    long : length (take (length text) new) ≡ length text
-    long = let a = length-take (length text) new in let l : length new ≡ length old = o.len in omega (arith, a, l, few)
+    long : length (take (length source) new) ≡ length source
+    long = let a = length-take (length source) new in let l : length new ≡ length old = o.len in omega (arith, a, l, few)
 
-    front : take (length text) new ≡ text
-    front = ext_get_or 0 (take (length text) new) text long (λ i h. let less : i < length text = subst (λ (n : ℕ). i < n) long h in get_or-take (length text) new i 0 less ∙ ap (slice_index new) (omega arith) ∙ o.its i less)
+    front : take (length source) new ≡ source
+    front = ext_get_or 0 (take (length source) new) source long (λ i h. let less : i < length source = subst (λ (n : ℕ). i < n) long h in get_or-take (length source) new i 0 less ∙ ap (slice_index new) (omega arith) ∙ o.its i less)
 
 -- room in cells
 room_stays : (old new : List ℕ) (cell len : ℕ) → StaysAt old new cell → HasData old cell len → HasData new cell len

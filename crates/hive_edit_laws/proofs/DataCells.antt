@@ -128,11 +128,11 @@ module _ (bytes : List ℕ) (root minor : ℕ) (tree : TreeMap) (path : List (Li
   pub found_there : (cell : ℕ) → IsIn cell (key ∷ value_list bytes key ∷ at ∷ its_cells) → IsAllocatedCell bytes cell
   found_there = found_cells.there
 
-pub prefix_own : (cells : Cells) (size to : ℕ) (own lent text : List ℕ) → Gives (cell_prefix size to) cells own lent text → own ≡ to ∷ []
-prefix_own cells size to own lent text h =
-    let k = look_of to _ cells own lent text h in
-    let a = rule_of _ _ _ cells k.own_next lent text k.next in
-    k.own_is ∙ ap (λ (z : List ℕ). to ∷ z) (done_of _ cells k.own_next lent text a.1).0
+pub prefix_own : (cells : Cells) (size to : ℕ) (own lent value_bytes : List ℕ) → Gives (cell_prefix size to) cells own lent value_bytes → own ≡ to ∷ []
+prefix_own cells size to own lent value_bytes h =
+    let k = look_of to _ cells own lent value_bytes h in
+    let a = rule_of _ _ _ cells k.own_next lent value_bytes k.next in
+    k.own_is ∙ ap (λ (z : List ℕ). to ∷ z) (done_of _ cells k.own_next lent value_bytes a.1).0
 
 -- each segment has one cell
 segments_own : (cells : Cells) (left : ℕ) (offsets : List ℕ) (own lent : List ℕ) (pieces : List (List ℕ)) → Gives (each (λ (s : ℕ × ℕ). cell_prefix s.0 s.1) (segment_sizes left offsets)) cells own lent pieces → own ≡ offsets
@@ -159,66 +159,66 @@ segments_own cells left (at ∷ next ∷ rest) own lent pieces h =
         t.own_is ∙ ap (λ (z : List ℕ). t.own_first ++ z) e.0 ∙ append-nil t.own_first ∙ later t.own_first t.lent_first t.x t.first
 
 -- big data have their record, their list and their segments
-pub big_own : (bytes : List ℕ) (cells : Cells) → Shows bytes cells → (size to : ℕ) (own lent text : List ℕ) → Gives (big_data size to) cells own lent text →
+pub big_own : (bytes : List ℕ) (cells : Cells) → Shows bytes cells → (size to : ℕ) (own lent value_bytes : List ℕ) → Gives (big_data size to) cells own lent value_bytes →
     (own ≡ to ∷ u32_at (cell_data bytes to) 4 ∷ words_from (cell_data bytes (u32_at (cell_data bytes to) 4)) 0 4 (segments_of size))
-big_own bytes cells shows size to own lent text h = first (look_of to _ cells own lent text h)
+big_own bytes cells shows size to own lent value_bytes h = first (look_of to _ cells own lent value_bytes h)
   where
-    second : (o l : List ℕ) (list_at : ℕ) → LookStep list_at (λ list. rule (nat_le (4 * segments_of size) (length list)) cause.BadRecord ⟫ λ _. each (λ (s : ℕ × ℕ). cell_prefix s.0 s.1) (segment_sizes size (words_from list 0 4 (segments_of size))) ⟫ λ pieces. done (flat_map (λ (p : List ℕ). p) pieces)) cells o l text → o ≡ list_at ∷ words_from (cell_data bytes list_at) 0 4 (segments_of size)
+    second : (o l : List ℕ) (list_at : ℕ) → LookStep list_at (λ list. rule (nat_le (4 * segments_of size) (length list)) cause.BadRecord ⟫ λ _. each (λ (s : ℕ × ℕ). cell_prefix s.0 s.1) (segment_sizes size (words_from list 0 4 (segments_of size))) ⟫ λ pieces. done (flat_map (λ (p : List ℕ). p) pieces)) cells o l value_bytes → o ≡ list_at ∷ words_from (cell_data bytes list_at) 0 4 (segments_of size)
     second o l list_at k =
-        let a = rule_of _ _ _ cells k.own_next l text k.next in
-        let s = split_of (each (λ (s : ℕ × ℕ). cell_prefix s.0 s.1) (segment_sizes size (words_from k.bytes 0 4 (segments_of size)))) _ cells k.own_next l text a.1 in
-        let d = done_of _ cells s.own_next s.lent_next text s.next in
+        let a = rule_of _ _ _ cells k.own_next l value_bytes k.next in
+        let s = split_of (each (λ (s : ℕ × ℕ). cell_prefix s.0 s.1) (segment_sizes size (words_from k.bytes 0 4 (segments_of size)))) _ cells k.own_next l value_bytes a.1 in
+        let d = done_of _ cells s.own_next s.lent_next value_bytes s.next in
         k.own_is ∙ ap (λ (z : List ℕ). list_at ∷ z) (s.own_is ∙ ap (λ (z : List ℕ). s.own_first ++ z) d.0 ∙ append-nil s.own_first ∙ segments_own cells size (words_from k.bytes 0 4 (segments_of size)) s.own_first s.lent_first s.x s.first
         ∙ ap (λ (z : List ℕ). words_from z 0 4 (segments_of size)) (shown_some bytes cells shows list_at k.bytes k.here).1)
 
-    first : LookStep to (λ b. rule (begins_with b 0x6264 8) cause.BadRecord ⟫ λ _. rule (u16_at b 2 == segments_of size) cause.BadRecord ⟫ λ _. look (u32_at b 4) ⟫ λ list. rule (nat_le (4 * segments_of size) (length list)) cause.BadRecord ⟫ λ _. each (λ (s : ℕ × ℕ). cell_prefix s.0 s.1) (segment_sizes size (words_from list 0 4 (segments_of size))) ⟫ λ pieces. done (flat_map (λ (p : List ℕ). p) pieces)) cells own lent text → own ≡ to ∷ u32_at (cell_data bytes to) 4 ∷ words_from (cell_data bytes (u32_at (cell_data bytes to) 4)) 0 4 (segments_of size)
+    first : LookStep to (λ b. rule (begins_with b 0x6264 8) cause.BadRecord ⟫ λ _. rule (u16_at b 2 == segments_of size) cause.BadRecord ⟫ λ _. look (u32_at b 4) ⟫ λ list. rule (nat_le (4 * segments_of size) (length list)) cause.BadRecord ⟫ λ _. each (λ (s : ℕ × ℕ). cell_prefix s.0 s.1) (segment_sizes size (words_from list 0 4 (segments_of size))) ⟫ λ pieces. done (flat_map (λ (p : List ℕ). p) pieces)) cells own lent value_bytes → own ≡ to ∷ u32_at (cell_data bytes to) 4 ∷ words_from (cell_data bytes (u32_at (cell_data bytes to) 4)) 0 4 (segments_of size)
     first k =
-        let a = rule_of _ _ _ cells k.own_next lent text k.next in
-        let b = rule_of _ _ _ cells k.own_next lent text a.1 in
+        let a = rule_of _ _ _ cells k.own_next lent value_bytes k.next in
+        let b = rule_of _ _ _ cells k.own_next lent value_bytes a.1 in
         let is : k.bytes ≡ cell_data bytes to = (shown_some bytes cells shows to k.bytes k.here).1 in
-        k.own_is ∙ ap (λ (z : List ℕ). to ∷ z) (second k.own_next lent (u32_at k.bytes 4) (look_of (u32_at k.bytes 4) _ cells k.own_next lent text b.1))
+        k.own_is ∙ ap (λ (z : List ℕ). to ∷ z) (second k.own_next lent (u32_at k.bytes 4) (look_of (u32_at k.bytes 4) _ cells k.own_next lent value_bytes b.1))
         ∙ ap (λ (z : List ℕ). to ∷ u32_at z 4 ∷ words_from (cell_data bytes (u32_at z 4)) 0 4 (segments_of size)) is
 
 -- which cells data have, by the size that their record says
-module _ (split : Bool) (bytes : List ℕ) (cells : Cells) (shows : Shows bytes cells) (fields own lent text : List ℕ) (h : Gives (data_of split (u32_at fields 4) fields) cells own lent text) where
+module _ (split : Bool) (bytes : List ℕ) (cells : Cells) (shows : Shows bytes cells) (fields own lent value_bytes : List ℕ) (h : Gives (data_of split (u32_at fields 4) fields) cells own lent value_bytes) where
   pub none_outside : 2 ^ 31 ≤ u32_at fields 4 → own ≡ []
-  none_outside big = elim (choice_of (nat_le (2 ^ 31) (u32_at fields 4)) _ _ cells own lent text h) [
-    | inl g ↦ (done_of _ cells own lent text (rule_of _ _ _ cells own lent text g.1).1).0
+  none_outside big = elim (choice_of (nat_le (2 ^ 31) (u32_at fields 4)) _ _ cells own lent value_bytes h) [
+    | inl g ↦ (done_of _ cells own lent value_bytes (rule_of _ _ _ cells own lent value_bytes g.1).1).0
     | inr g ↦ clash (nat_le (2 ^ 31) (u32_at fields 4)) (le-leb (2 ^ 31) (u32_at fields 4) big) g.0
   ]
 
-  outside : u32_at fields 4 < 2 ^ 31 → Gives (choice (u32_at fields 4 == 0) (done []) (choice split (choice (nat_lt segment_bytes (u32_at fields 4)) (big_data (u32_at fields 4) (u32_at fields 8)) (cell_prefix (u32_at fields 4) (u32_at fields 8))) (cell_prefix (u32_at fields 4) (u32_at fields 8)))) cells own lent text
-  outside less = elim (choice_of (nat_le (2 ^ 31) (u32_at fields 4)) _ _ cells own lent text h) [
+  outside : u32_at fields 4 < 2 ^ 31 → Gives (choice (u32_at fields 4 == 0) (done []) (choice split (choice (nat_lt segment_bytes (u32_at fields 4)) (big_data (u32_at fields 4) (u32_at fields 8)) (cell_prefix (u32_at fields 4) (u32_at fields 8))) (cell_prefix (u32_at fields 4) (u32_at fields 8)))) cells own lent value_bytes
+  outside less = elim (choice_of (nat_le (2 ^ 31) (u32_at fields 4)) _ _ cells own lent value_bytes h) [
     | inl g ↦ clash (nat_le (2 ^ 31) (u32_at fields 4)) g.0 (lt-leb (2 ^ 31) (u32_at fields 4) less)
     | inr g ↦ g.1
   ]
 
   pub none_empty : u32_at fields 4 ≡ 0 → own ≡ []
-  none_empty size = elim (choice_of (u32_at fields 4 == 0) _ _ cells own lent text (outside (omega (arith, size)))) [
-    | inl g ↦ (done_of [] cells own lent text g.1).0
+  none_empty size = elim (choice_of (u32_at fields 4 == 0) _ _ cells own lent value_bytes (outside (omega (arith, size)))) [
+    | inl g ↦ (done_of [] cells own lent value_bytes g.1).0
     | inr g ↦ elim (eqb_tells (u32_at fields 4) 0) [ inl k ↦ clash (u32_at fields 4 == 0) k.0 g.0 | inr k ↦ absurd (k.1 size) ]
   ]
 
-  some : u32_at fields 4 < 2 ^ 31 → 0 < u32_at fields 4 → Gives (choice split (choice (nat_lt segment_bytes (u32_at fields 4)) (big_data (u32_at fields 4) (u32_at fields 8)) (cell_prefix (u32_at fields 4) (u32_at fields 8))) (cell_prefix (u32_at fields 4) (u32_at fields 8))) cells own lent text
-  some less more = elim (choice_of (u32_at fields 4 == 0) _ _ cells own lent text (outside less)) [
+  some : u32_at fields 4 < 2 ^ 31 → 0 < u32_at fields 4 → Gives (choice split (choice (nat_lt segment_bytes (u32_at fields 4)) (big_data (u32_at fields 4) (u32_at fields 8)) (cell_prefix (u32_at fields 4) (u32_at fields 8))) (cell_prefix (u32_at fields 4) (u32_at fields 8))) cells own lent value_bytes
+  some less more = elim (choice_of (u32_at fields 4 == 0) _ _ cells own lent value_bytes (outside less)) [
     | inl g ↦ elim (eqb_tells (u32_at fields 4) 0) [ inl k ↦ absurd (let e : u32_at fields 4 ≡ 0 = k.1 in omega (arith, more, e)) | inr k ↦ clash (u32_at fields 4 == 0) g.0 k.0 ]
     | inr g ↦ g.1
   ]
 
   pub one_cell : 0 < u32_at fields 4 → u32_at fields 4 < 2 ^ 31 → (split ≡ true → u32_at fields 4 ≤ 16_344) → own ≡ u32_at fields 8 ∷ []
-  one_cell more less few = elim (choice_of split _ _ cells own lent text (some less more)) [
-    | inl g ↦ elim (choice_of (nat_lt segment_bytes (u32_at fields 4)) _ _ cells own lent text g.1) [
+  one_cell more less few = elim (choice_of split _ _ cells own lent value_bytes (some less more)) [
+    | inl g ↦ elim (choice_of (nat_lt segment_bytes (u32_at fields 4)) _ _ cells own lent value_bytes g.1) [
       | inl k ↦ clash (nat_lt segment_bytes (u32_at fields 4)) k.0 (le-ltb 16_344 (u32_at fields 4) (few g.0))
-      | inr k ↦ prefix_own cells (u32_at fields 4) (u32_at fields 8) own lent text k.1
+      | inr k ↦ prefix_own cells (u32_at fields 4) (u32_at fields 8) own lent value_bytes k.1
     ]
-    | inr g ↦ prefix_own cells (u32_at fields 4) (u32_at fields 8) own lent text g.1
+    | inr g ↦ prefix_own cells (u32_at fields 4) (u32_at fields 8) own lent value_bytes g.1
   ]
 
   pub many_cells : split ≡ true → 16_344 < u32_at fields 4 → u32_at fields 4 < 2 ^ 31 →
       own ≡ u32_at fields 8 ∷ u32_at (cell_data bytes (u32_at fields 8)) 4 ∷ words_from (cell_data bytes (u32_at (cell_data bytes (u32_at fields 8)) 4)) 0 4 (segments_of (u32_at fields 4))
-  many_cells splitting many less = elim (choice_of split _ _ cells own lent text (some less (omega (arith, many)))) [
-    | inl g ↦ elim (choice_of (nat_lt segment_bytes (u32_at fields 4)) _ _ cells own lent text g.1) [
-      | inl k ↦ big_own bytes cells shows (u32_at fields 4) (u32_at fields 8) own lent text k.1
+  many_cells splitting many less = elim (choice_of split _ _ cells own lent value_bytes (some less (omega (arith, many)))) [
+    | inl g ↦ elim (choice_of (nat_lt segment_bytes (u32_at fields 4)) _ _ cells own lent value_bytes g.1) [
+      | inl k ↦ big_own bytes cells shows (u32_at fields 4) (u32_at fields 8) own lent value_bytes k.1
       | inr k ↦ clash (nat_lt segment_bytes (u32_at fields 4)) (lt-ltb 16_344 (u32_at fields 4) many) k.0
     ]
     | inr g ↦ clash split splitting g.0

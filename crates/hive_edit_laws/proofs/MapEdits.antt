@@ -82,19 +82,19 @@ find_with (u ∷ us) ws v apart q =
     (λ t. ap (λ n. eq_by_cmp name_order n (folded v.name)) (same_is q (folded u.name) t) ∙ (any_dropped (folded u.name) us ws v (not_true (list_any (eq_by_cmp name_order (folded u.name)) (names (us ++ v ∷ ws))) (first_of (not (list_any (eq_by_cmp name_order (folded u.name)) (names (us ++ v ∷ ws)))) (all_apart (names (us ++ v ∷ ws))) apart))).1)
 
 -- with one value more
-pub map_with : (us ws : List Value) (name : List ℕ) (kind : ℕ) (text : List ℕ) → finite.get (map_of (us ++ ws)) (folded name) ≡ None → all_apart (names (us ++ (record { name = name; kind = kind; «data» = text }) ∷ ws)) ≡ true →
-    map_of (us ++ (record { name = name; kind = kind; «data» = text }) ∷ ws) ≡ values_with (map_of (us ++ ws)) name kind text
-map_with us ws name kind text none apart = same_map names_total names_apart _ _ (λ q.
+pub map_with : (us ws : List Value) (name : List ℕ) (kind : ℕ) (value_bytes : List ℕ) → finite.get (map_of (us ++ ws)) (folded name) ≡ None → all_apart (names (us ++ (record { name = name; kind = kind; «data» = value_bytes }) ∷ ws)) ≡ true →
+    map_of (us ++ (record { name = name; kind = kind; «data» = value_bytes }) ∷ ws) ≡ values_with (map_of (us ++ ws)) name kind value_bytes
+map_with us ws name kind value_bytes none apart = same_map names_total names_apart _ _ (λ q.
     get-from_entries names_total (entries (us ++ v ∷ ws)) q
     ∙ find_with us ws v apart q
     ∙ (λ i. cond (eq_by_cmp name_order q (folded name)) (Some (spelled i)) (sym (get-from_entries names_total (entries (us ++ ws)) q) i))
-    ∙ sym (get-insert names_total (map_of (us ++ ws)) (folded name) (record { name = spelled_name (finite.get (map_of (us ++ ws)) (folded name)) name; kind = kind; «data» = text }) q))
+    ∙ sym (get-insert names_total (map_of (us ++ ws)) (folded name) (record { name = spelled_name (finite.get (map_of (us ++ ws)) (folded name)) name; kind = kind; «data» = value_bytes }) q))
   where
     v : Value
-    v = record { name = name; kind = kind; «data» = text }
+    v = record { name = name; kind = kind; «data» = value_bytes }
 
-    spelled : v ≡ record { name = spelled_name (finite.get (map_of (us ++ ws)) (folded name)) name; kind = kind; «data» = text }
-    spelled = ap (λ (o : Option Value). record { name = spelled_name o name; kind = kind; «data» = text }) (sym none)
+    spelled : v ≡ record { name = spelled_name (finite.get (map_of (us ++ ws)) (folded name)) name; kind = kind; «data» = value_bytes }
+    spelled = ap (λ (o : Option Value). record { name = spelled_name o name; kind = kind; «data» = value_bytes }) (sym none)
 
 pub find_none_of : (us ws : List Value) (n : List ℕ) → finite.get (map_of (us ++ ws)) n ≡ None → find name_order n (entries (us ++ ws)) ≡ None
 find_none_of us ws n e = sym (get-from_entries names_total (entries (us ++ ws)) n) ∙ e

@@ -60,9 +60,9 @@ module _ (old new : List ℕ) (time : ℕ) (t : NodeTimeChanges old new time) wh
   pub word_stays : (n : ℕ) → 12 ≤ n → n + 3 < 52 → u32_at new n ≡ u32_at old n
   word_stays n h g = word_same old new n (t.between n h (omega (arith, g))) (t.between (n + 1) (omega (arith, h)) (omega (arith, g))) (t.between (n + 2) (omega (arith, h)) (omega (arith, g))) (t.between (n + 3) (omega (arith, h)) g)
 
-module _ (split : Bool) (key at kind : ℕ) (text : List ℕ) (moment : ℕ) (name : List ℕ) (before after : Cells) (parts : KeyParts Row) (s : Steps split key before parts) (once : Once parts.own) (there : (cell : ℕ) → IsIn cell parts.own → IsSome (before cell))
+module _ (split : Bool) (key at kind : ℕ) (value_bytes : List ℕ) (moment : ℕ) (name : List ℕ) (before after : Cells) (parts : KeyParts Row) (s : Steps split key before parts) (once : Once parts.own) (there : (cell : ℕ) → IsIn cell parts.own → IsSome (before cell))
     (list_bytes first rest : List ℕ) (list_is : before (u32_at s.node 40) ≡ Some list_bytes) (listed : words_from list_bytes 0 4 (u32_at s.node 36) ≡ first ++ at ∷ rest)
-    (own lent : List ℕ) (value : Value) (reads : Gives (value_at split at) before own lent value) (named : folded value.name ≡ folded name) (c : ValueChanges split before after key at kind text moment) where
+    (own lent : List ℕ) (value : Value) (reads : Gives (value_at split at) before own lent value) (named : folded value.name ≡ folded name) (c : ValueChanges split before after key at kind value_bytes moment) where
   same_node : c.old_node ≡ s.node
   same_node = some_same c.old_node s.node (sym c.old_node_is ∙ s.here)
 
@@ -85,14 +85,14 @@ module _ (split : Bool) (key at kind : ℕ) (text : List ℕ) (moment : ℕ) (na
   none_lent = sym (ap (λ (z : Read ValueMap). z.lent) (s.valued).reads) ∙ none_values split (u32_at s.node 36) (u32_at s.node 40) before
 
   abbrev now : List ℕ → Value
-  now n = record { name = n; kind = kind; «data» = text }
+  now n = record { name = n; kind = kind; «data» = value_bytes }
 
   module _ (h : ValueSwap split (u32_at s.node 36) (u32_at s.node 40) at before after s.vo s.vl (parts.row).values) where
     its_lent_none : h.its_lent ≡ []
     its_lent_none = none_in h.its_lent (λ cell i. subst (λ (z : List ℕ). IsIn cell z) none_lent (h.lent_within cell i))
 
     new_value : (h.its_own ≡ at ∷ data_cells split before c.old_record) × Gives (value_at split at) after (at ∷ c.own) [] (now h.was.name)
-    new_value = value_again split at before after h.its_own h.its_lent h.was c.old_record c.new_record c.own text kind c.old_record_is c.new_record_is c.record_fields c.reads h.one
+    new_value = value_again split at before after h.its_own h.its_lent h.was c.old_record c.new_record c.own value_bytes kind c.old_record_is c.new_record_is c.record_fields c.reads h.one
 
     -- the cells of the value are among those of the values
     its_in : (cell : ℕ) → IsIn cell h.its_own → IsIn cell s.vo
@@ -117,14 +117,14 @@ module _ (split : Bool) (key at kind : ℕ) (text : List ℕ) (moment : ℕ) (na
         once_vo (now h.was.name) (at ∷ c.own) refl
         (subst (λ (z : List ℕ). Gives (value_at split at) after (at ∷ c.own) z (now h.was.name)) (sym its_lent_none) new_value.1)
 
-    values_are : map_of (h.front ++ now h.was.name ∷ h.back) ≡ values_with (parts.row).values name kind text
-    values_are = map_swap h.front h.was h.back name kind text (ap (λ (v : Value). folded v.name) (gives_one (value_at split at) before h.its_own h.its_lent own lent h.was value h.one reads) ∙ named) h.apart
-        ∙ ap (λ (vs : ValueMap). values_with vs name kind text) (sym h.are)
+    values_are : map_of (h.front ++ now h.was.name ∷ h.back) ≡ values_with (parts.row).values name kind value_bytes
+    values_are = map_swap h.front h.was h.back name kind value_bytes (ap (λ (v : Value). folded v.name) (gives_one (value_at split at) before h.its_own h.its_lent own lent h.was value h.one reads) ∙ named) h.apart
+        ∙ ap (λ (vs : ValueMap). values_with vs name kind value_bytes) (sym h.are)
 
     words : (n : ℕ) → 12 ≤ n → n + 3 < 52 → u32_at c.new_node n ≡ u32_at s.node n
     words n a b = word_stays c.old_node c.new_node moment c.node_fields n a b ∙ ap (λ (z : List ℕ). u32_at z n) same_node
 
-    reads_now : Gives (values_at split (u32_at c.new_node 36) (u32_at c.new_node 40)) after new_own [] (values_with (parts.row).values name kind text)
+    reads_now : Gives (values_at split (u32_at c.new_node 36) (u32_at c.new_node 40)) after new_own [] (values_with (parts.row).values name kind value_bytes)
     reads_now = record {
       reads = (λ i. values_at split (words 36 (omega arith) (omega arith) i) (words 40 (omega arith) (omega arith) i) after) ∙ again.reads ∙ (λ i. record { own = new_own; lent = none_lent i; says = Ok (values_are i) });
     }
@@ -168,7 +168,7 @@ module _ (split : Bool) (key at kind : ℕ) (text : List ℕ) (moment : ℕ) (na
           | inr l ↦ inr l
         ]
 
-    by_change : ValuesChange split before after key (values_with (parts.row).values name kind text) moment
+    by_change : ValuesChange split before after key (values_with (parts.row).values name kind value_bytes) moment
     by_change = record {
       old_node = c.old_node;
       old_is = c.old_node_is;
@@ -185,17 +185,17 @@ module _ (split : Bool) (key at kind : ℕ) (text : List ℕ) (moment : ℕ) (na
       stays = λ cell some nk out. c.stays cell some nk (λ e. out (in_values cell (its_in cell (subst (λ (z : ℕ). IsIn z h.its_own) (sym e) at_in)))) (λ j. out (in_values cell (its_in cell (data_in cell j))));
     }
 
-  pub change : ValuesChange split before after key (values_with (parts.row).values name kind text) moment
+  pub change : ValuesChange split before after key (values_with (parts.row).values name kind value_bytes) moment
   change = by_change (value_swap split (u32_at s.node 36) (u32_at s.node 40) at before after s.vo s.vl (parts.row).values list_bytes first rest list_is listed s.valued)
 
-pub value_changes : (bytes : List ℕ) (root minor : ℕ) (tree : TreeMap) (path : List (List ℕ)) (name : List ℕ) (key index at kind : ℕ) (text : List ℕ) (moment : ℕ) (f : ValueFound bytes root minor tree path (folded name) key index at) (after : Cells) → ValueChanges (splits minor) f.in_key.cells after key at kind text moment →
-    ValuesChange (splits minor) f.in_key.cells after key (values_with f.in_key.place.parts.row.values name kind text) moment
-value_changes bytes root minor tree path name key index at kind text moment f after c = by (steps_found bytes root minor tree path key f.in_key) (at_its_index (words_from f.list 0 4 (u32_at f.node 36)) index at f.listed)
+pub value_changes : (bytes : List ℕ) (root minor : ℕ) (tree : TreeMap) (path : List (List ℕ)) (name : List ℕ) (key index at kind : ℕ) (value_bytes : List ℕ) (moment : ℕ) (f : ValueFound bytes root minor tree path (folded name) key index at) (after : Cells) → ValueChanges (splits minor) f.in_key.cells after key at kind value_bytes moment →
+    ValuesChange (splits minor) f.in_key.cells after key (values_with f.in_key.place.parts.row.values name kind value_bytes) moment
+value_changes bytes root minor tree path name key index at kind value_bytes moment f after c = by (steps_found bytes root minor tree path key f.in_key) (at_its_index (words_from f.list 0 4 (u32_at f.node 36)) index at f.listed)
   where
-    by : Steps (splits minor) key f.in_key.cells f.in_key.place.parts → AtIndex (words_from f.list 0 4 (u32_at f.node 36)) index at → ValuesChange (splits minor) f.in_key.cells after key (values_with f.in_key.place.parts.row.values name kind text) moment
+    by : Steps (splits minor) key f.in_key.cells f.in_key.place.parts → AtIndex (words_from f.list 0 4 (u32_at f.node 36)) index at → ValuesChange (splits minor) f.in_key.cells after key (values_with f.in_key.place.parts.row.values name kind value_bytes) moment
     by s p =
         let same : f.node ≡ s.node = some_same f.node s.node (sym f.node_is ∙ s.here) in
-        change (splits minor) key at kind text moment name f.in_key.cells after f.in_key.place.parts s
+        change (splits minor) key at kind value_bytes moment name f.in_key.cells after f.in_key.place.parts s
         (once_front f.in_key.place.parts.own (own_cells f.in_key.place.below) (whole_found bytes root minor tree path key f.in_key).once)
         (λ cell i. keys_there (splits minor) f.in_key.cells key f.in_key.place.parts (read_found bytes root minor tree path key f.in_key) cell (in_front cell f.in_key.place.parts.own f.in_key.place.parts.lent i))
         f.list p.first p.rest

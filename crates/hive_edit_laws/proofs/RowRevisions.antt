@@ -124,11 +124,11 @@ edited_so bytes root minor tree path key f edit moment q = elim (decided (eq_by_
       ∙ sym (no_if (eq_by_cmp path_order q path) (option_map (λ (k : Row). touched moment (record k { values = edit f.place.parts.row.values })) (row tree q)) (row tree q) n)
 ]
 
-pub set_encodes : (old_bytes new_bytes : List ℕ) (root minor : ℕ) (tree : TreeMap) (hive : ℕ) (spelled : List (List ℕ)) (name : List ℕ) (kind : ℕ) (text : List ℕ) (key : ℕ) (moment : ℕ) (f : KeyFound old_bytes root minor tree (folded_path spelled) key) → Tiles new_bytes → (after : Cells) → Shows new_bytes after →
-    ValuesChange (splits minor) f.cells after key (values_with f.place.parts.row.values name kind text) moment → BinsEncodeTree new_bytes root minor (tree_after tree (SetValue hive spelled name kind text) moment)
-set_encodes old_bytes new_bytes root minor tree hive spelled name kind text key moment f tiles after shown c =
-    values_encode old_bytes new_bytes root minor tree (folded_path spelled) key (values_with f.place.parts.row.values name kind text) moment f tiles after shown c (tree_after tree (SetValue hive spelled name kind text) moment)
-    (λ q. row-tree_after tree (SetValue hive spelled name kind text) moment q ∙ edited_so old_bytes root minor tree (folded_path spelled) key f (λ (vs : ValueMap). values_with vs name kind text) moment q)
+pub set_encodes : (old_bytes new_bytes : List ℕ) (root minor : ℕ) (tree : TreeMap) (hive : ℕ) (spelled : List (List ℕ)) (name : List ℕ) (kind : ℕ) (value_bytes : List ℕ) (key : ℕ) (moment : ℕ) (f : KeyFound old_bytes root minor tree (folded_path spelled) key) → Tiles new_bytes → (after : Cells) → Shows new_bytes after →
+    ValuesChange (splits minor) f.cells after key (values_with f.place.parts.row.values name kind value_bytes) moment → BinsEncodeTree new_bytes root minor (tree_after tree (SetValue hive spelled name kind value_bytes) moment)
+set_encodes old_bytes new_bytes root minor tree hive spelled name kind value_bytes key moment f tiles after shown c =
+    values_encode old_bytes new_bytes root minor tree (folded_path spelled) key (values_with f.place.parts.row.values name kind value_bytes) moment f tiles after shown c (tree_after tree (SetValue hive spelled name kind value_bytes) moment)
+    (λ q. row-tree_after tree (SetValue hive spelled name kind value_bytes) moment q ∙ edited_so old_bytes root minor tree (folded_path spelled) key f (λ (vs : ValueMap). values_with vs name kind value_bytes) moment q)
 
 pub deleted_encodes : (old_bytes new_bytes : List ℕ) (root minor : ℕ) (tree : TreeMap) (hive : ℕ) (spelled : List (List ℕ)) (name : List ℕ) (key : ℕ) (moment : ℕ) (f : KeyFound old_bytes root minor tree (folded_path spelled) key) → Tiles new_bytes → (after : Cells) → Shows new_bytes after →
     ValuesChange (splits minor) f.cells after key (values_without f.place.parts.row.values name) moment → BinsEncodeTree new_bytes root minor (tree_after tree (DeleteValue hive spelled name) moment)

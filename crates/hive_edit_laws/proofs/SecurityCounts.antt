@@ -61,13 +61,13 @@ module _ (before after : Cells) where
           let b = rule_of _ _ _ before own l.lent_next d a.1 in
           let z = done_of _ before own l.lent_next d b.1 in
           let size : u32_at r.0 16 ≡ u32_at l.bytes 16 = word_same l.bytes r.0 16 (c.after 16 (omega arith)) (c.after 17 (omega arith)) (c.after 18 (omega arith)) (c.after 19 (omega arith)) in
-          let text : slice_range r.0 20 (20 + u32_at r.0 16) ≡ d = ap (λ n. slice_range r.0 20 (20 + n)) size ∙ tail_same l.bytes r.0 20 (20 + u32_at l.bytes 16) c.len (λ i g. c.after i (omega (arith, g))) ∙ z.2 in
+          let source : slice_range r.0 20 (20 + u32_at r.0 16) ≡ d = ap (λ n. slice_range r.0 20 (20 + n)) size ∙ tail_same l.bytes r.0 20 (20 + u32_at l.bytes 16) c.len (λ i g. c.after i (omega (arith, g))) ∙ z.2 in
           record {
             reads = (gives_no (done []) (at == nil_offset) some
                 (gives_on _ (gives_lent at after r.0 r.1)
                 (gives_on _ (gives_rule (begins_with r.0 0x6b73 20) _ after (begins_same l.bytes r.0 0x6b73 20 c.len (half_same l.bytes r.0 0 (c.before 0 (omega arith)) (c.before 1 (omega arith))) ∙ a.0))
                 (gives_on _ (gives_rule (nat_le (20 + u32_at r.0 16) (length r.0)) _ after ((λ i. nat_le (20 + size i) (c.len i)) ∙ b.0))
-                (gives_same text (gives_done (slice_range r.0 20 (20 + u32_at r.0 16)) after)))))).reads ∙ (λ i. record { own = sym z.0 i; lent = (ap (λ (q : List ℕ). at ∷ q) (sym z.1) ∙ sym l.lent_is) i; says = Ok d });
+                (gives_same source (gives_done (slice_range r.0 20 (20 + u32_at r.0 16)) after)))))).reads ∙ (λ i. record { own = sym z.0 i; lent = (ap (λ (q : List ℕ). at ∷ q) (sym z.1) ∙ sym l.lent_is) i; says = Ok d });
           }
 
   -- a key whose own cells stay, and whose security cell is new but for links and count, reads as before

@@ -45,10 +45,10 @@ gap ws zero x = record { first = []; rest = ws; were = refl; are = refl }
 gap [] (suc i) x = record { first = []; rest = []; were = refl; are = refl }
 gap (w ∷ ws) (suc i) x = let g = gap ws i x in record { first = w ∷ g.first; rest = g.rest; were = ap (λ (zs : List ℕ). w ∷ zs) g.were; are = ap (λ (zs : List ℕ). w ∷ zs) g.are }
 
-module _ (split : Bool) (key at index moment : ℕ) (name : List ℕ) (kind : ℕ) (text : List ℕ) (before after : Cells) (parts : KeyParts Row) (s : Steps split key before parts) (once : Once parts.own) (there : (cell : ℕ) → IsIn cell parts.own → IsSome (before cell))
-    (absent : finite.get (parts.row).values (folded name) ≡ None) (c : AddsValue split before after key at index (record { name = name; kind = kind; «data» = text }) moment) where
+module _ (split : Bool) (key at index moment : ℕ) (name : List ℕ) (kind : ℕ) (value_bytes : List ℕ) (before after : Cells) (parts : KeyParts Row) (s : Steps split key before parts) (once : Once parts.own) (there : (cell : ℕ) → IsIn cell parts.own → IsSome (before cell))
+    (absent : finite.get (parts.row).values (folded name) ≡ None) (c : AddsValue split before after key at index (record { name = name; kind = kind; «data» = value_bytes }) moment) where
   abbrev value : Value
-  value = record { name = name; kind = kind; «data» = text }
+  value = record { name = name; kind = kind; «data» = value_bytes }
 
   same_node : c.old_node ≡ s.node
   same_node = some_same c.old_node s.node (sym c.old_is ∙ s.here)
@@ -125,8 +125,8 @@ module _ (split : Bool) (key at index moment : ℕ) (name : List ℕ) (kind : �
     abbrev new_own : List ℕ
     new_own = u32_at c.new_node 40 ∷ (h.own_u ++ (c.own ++ h.own_w))
 
-    values_are : map_of (h.us ++ value ∷ h.ws) ≡ values_with (parts.row).values name kind text
-    values_are = map_with h.us h.ws name kind text absent_so apart_now ∙ ap (λ (m : ValueMap). values_with m name kind text) (ap map_of (sym were) ∙ sym r.are)
+    values_are : map_of (h.us ++ value ∷ h.ws) ≡ values_with (parts.row).values name kind value_bytes
+    values_are = map_with h.us h.ws name kind value_bytes absent_so apart_now ∙ ap (λ (m : ValueMap). values_with m name kind value_bytes) (ap map_of (sym were) ∙ sym r.are)
 
     some : u32_at c.new_node 36 ≢ 0
     some e = (let k : u32_at c.new_node 36 ≡ suc (u32_at c.old_node 36) = c.count in absurd (omega (arith, e, k)))
@@ -134,7 +134,7 @@ module _ (split : Bool) (key at index moment : ℕ) (name : List ℕ) (kind : �
     long_now : 4 * u32_at c.new_node 36 ≤ length c.new_list
     long_now = subst (λ (n : ℕ). 4 * n ≤ length c.new_list) (sym c.count) c.long
 
-    read_now : Gives (values_at split (u32_at c.new_node 36) (u32_at c.new_node 40)) after new_own [] (values_with (parts.row).values name kind text)
+    read_now : Gives (values_at split (u32_at c.new_node 36) (u32_at c.new_node 40)) after new_own [] (values_with (parts.row).values name kind value_bytes)
     read_now = record {
       reads = (values_some split after (u32_at c.new_node 36) (u32_at c.new_node 40) c.new_list (h.own_u ++ (c.own ++ h.own_w)) (h.lent_u ++ h.lent_w) (h.us ++ value ∷ h.ws) some c.new_list_is long_now
           (subst (λ (ws : List ℕ). Gives (each (value_at split) ws) after (h.own_u ++ (c.own ++ h.own_w)) (h.lent_u ++ h.lent_w) (h.us ++ value ∷ h.ws)) (sym words) all_now) apart_now).reads
@@ -182,7 +182,7 @@ module _ (split : Bool) (key at index moment : ℕ) (name : List ℕ) (kind : �
       ]
     ]
 
-    by_parts : ValuesChange split before after key (values_with (parts.row).values name kind text) moment
+    by_parts : ValuesChange split before after key (values_with (parts.row).values name kind value_bytes) moment
     by_parts = record {
       old_node = c.old_node;
       old_is = c.old_is;
@@ -199,14 +199,14 @@ module _ (split : Bool) (key at index moment : ℕ) (name : List ℕ) (kind : �
       stays = λ cell is nk out. c.stays cell is nk (λ j. out (in_values cell (list_in cell j)));
     }
 
-  pub change : ValuesChange split before after key (values_with (parts.row).values name kind text) moment
+  pub change : ValuesChange split before after key (values_with (parts.row).values name kind value_bytes) moment
   change = let g = gap (words_from c.old_list 0 4 (u32_at s.node 36)) index at in
       by_parts read g (halves (value_at split) before g.first g.rest read.its_own read.its_lent read.its (subst (λ (ws : List ℕ). Gives (each (value_at split) ws) before read.its_own read.its_lent read.its) g.were read.reads))
 
-pub addition : (bytes : List ℕ) (root minor : ℕ) (tree : TreeMap) (path : List (List ℕ)) (name : List ℕ) (key at index kind : ℕ) (text : List ℕ) (moment : ℕ) (f : KeyFound bytes root minor tree path key) (after : Cells) → finite.get f.place.parts.row.values (folded name) ≡ None → AddsValue (splits minor) f.cells after key at index (record { name = name; kind = kind; «data» = text }) moment →
-    ValuesChange (splits minor) f.cells after key (values_with f.place.parts.row.values name kind text) moment
-addition bytes root minor tree path name key at index kind text moment f after absent c =
-    change (splits minor) key at index moment name kind text f.cells after f.place.parts (steps_found bytes root minor tree path key f)
+pub addition : (bytes : List ℕ) (root minor : ℕ) (tree : TreeMap) (path : List (List ℕ)) (name : List ℕ) (key at index kind : ℕ) (value_bytes : List ℕ) (moment : ℕ) (f : KeyFound bytes root minor tree path key) (after : Cells) → finite.get f.place.parts.row.values (folded name) ≡ None → AddsValue (splits minor) f.cells after key at index (record { name = name; kind = kind; «data» = value_bytes }) moment →
+    ValuesChange (splits minor) f.cells after key (values_with f.place.parts.row.values name kind value_bytes) moment
+addition bytes root minor tree path name key at index kind value_bytes moment f after absent c =
+    change (splits minor) key at index moment name kind value_bytes f.cells after f.place.parts (steps_found bytes root minor tree path key f)
     (once_front f.place.parts.own (own_cells f.place.below) (whole_found bytes root minor tree path key f).once)
     (λ cell i. keys_there (splits minor) f.cells key f.place.parts (read_found bytes root minor tree path key f) cell (in_front cell f.place.parts.own f.place.parts.lent i))
     absent c

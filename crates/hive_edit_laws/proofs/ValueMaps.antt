@@ -59,19 +59,19 @@ find_swap (f ∷ front) was now back e apart q =
     ∙ two_tests (eq_by_cmp name_order q (folded f.name)) (eq_by_cmp name_order q (folded was.name)) f now (find name_order q (map (λ (v : Value). (folded v.name, v)) (front ++ was ∷ back)))
     (λ t. ap (λ n. eq_by_cmp name_order n (folded was.name)) (same_is q (folded f.name) t) ∙ front_apart f front was back apart)
 
-pub map_swap : (front : List Value) (was : Value) (back : List Value) (name : List ℕ) (kind : ℕ) (text : List ℕ) → folded was.name ≡ folded name → all_apart (map (λ (v : Value). folded v.name) (front ++ was ∷ back)) ≡ true →
-    map_of (front ++ (record { name = was.name; kind = kind; «data» = text }) ∷ back) ≡ values_with (map_of (front ++ was ∷ back)) name kind text
-map_swap front was back name kind text e apart = same_map names_total names_apart _ _ (λ q.
+pub map_swap : (front : List Value) (was : Value) (back : List Value) (name : List ℕ) (kind : ℕ) (value_bytes : List ℕ) → folded was.name ≡ folded name → all_apart (map (λ (v : Value). folded v.name) (front ++ was ∷ back)) ≡ true →
+    map_of (front ++ (record { name = was.name; kind = kind; «data» = value_bytes }) ∷ back) ≡ values_with (map_of (front ++ was ∷ back)) name kind value_bytes
+map_swap front was back name kind value_bytes e apart = same_map names_total names_apart _ _ (λ q.
     get-from_entries names_total (map (λ (v : Value). (folded v.name, v)) (front ++ now ∷ back)) q
     ∙ find_swap front was now back refl apart q
     ∙ (λ i. cond (eq_by_cmp name_order q (e i)) (Some (spelled i)) (sym (get-from_entries names_total (map (λ (v : Value). (folded v.name, v)) (front ++ was ∷ back)) q) i))
-    ∙ sym (get-insert names_total (map_of (front ++ was ∷ back)) (folded name) (record { name = spelled_name (finite.get (map_of (front ++ was ∷ back)) (folded name)) name; kind = kind; «data» = text }) q))
+    ∙ sym (get-insert names_total (map_of (front ++ was ∷ back)) (folded name) (record { name = spelled_name (finite.get (map_of (front ++ was ∷ back)) (folded name)) name; kind = kind; «data» = value_bytes }) q))
   where
     now : Value
-    now = record { name = was.name; kind = kind; «data» = text }
+    now = record { name = was.name; kind = kind; «data» = value_bytes }
 
     there : finite.get (map_of (front ++ was ∷ back)) (folded name) ≡ Some was
     there = ap (finite.get (map_of (front ++ was ∷ back))) (sym e) ∙ get-from_entries names_total (map (λ (v : Value). (folded v.name, v)) (front ++ was ∷ back)) (folded was.name) ∙ found_here front was back apart
 
-    spelled : now ≡ record { name = spelled_name (finite.get (map_of (front ++ was ∷ back)) (folded name)) name; kind = kind; «data» = text }
-    spelled = ap (λ (o : Option Value). record { name = spelled_name o name; kind = kind; «data» = text }) (sym there)
+    spelled : now ≡ record { name = spelled_name (finite.get (map_of (front ++ was ∷ back)) (folded name)) name; kind = kind; «data» = value_bytes }
+    spelled = ap (λ (o : Option Value). record { name = spelled_name o name; kind = kind; «data» = value_bytes }) (sym there)

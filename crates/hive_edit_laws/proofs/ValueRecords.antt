@@ -58,10 +58,10 @@ local_value split at = local_bind (local_look _) (λ bytes. local_bind (local_ru
 
 -- A value whose record is new but for its name, whatever its data were and are. It has the name, the new type, and the
 -- data that are read as the record now says.
-pub value_again : (split : Bool) (at : ℕ) (before after : Cells) (own lent : List ℕ) (was : Value) (old new its_own text : List ℕ) (kind : ℕ) → before at ≡ Some old → after at ≡ Some new → ValueFieldsChange old new kind →
-    Gives (data_of split (u32_at new 4) new) after its_own [] text → Gives (value_at split at) before own lent was →
-    (own ≡ at ∷ data_cells split before old) × Gives (value_at split at) after (at ∷ its_own) [] (record { name = was.name; kind = kind; «data» = text })
-value_again split at before after own lent was old new its_own text kind here there r its h =
+pub value_again : (split : Bool) (at : ℕ) (before after : Cells) (own lent : List ℕ) (was : Value) (old new its_own value_bytes : List ℕ) (kind : ℕ) → before at ≡ Some old → after at ≡ Some new → ValueFieldsChange old new kind →
+    Gives (data_of split (u32_at new 4) new) after its_own [] value_bytes → Gives (value_at split at) before own lent was →
+    (own ≡ at ∷ data_cells split before old) × Gives (value_at split at) after (at ∷ its_own) [] (record { name = was.name; kind = kind; «data» = value_bytes })
+value_again split at before after own lent was old new its_own value_bytes kind here there r its h =
     let l = look_of at _ before own lent was h in
     let same_old : l.bytes ≡ old = some_same l.bytes old (sym l.here ∙ here) in
     let g = by l.own_next (subst (λ (z : List ℕ). Gives (from z) before l.own_next lent was) same_old l.next) in
@@ -86,7 +86,7 @@ value_again split at before after own lent was old new its_own text kind here th
     name_bytes : slice_range new 20 (20 + u16_at new 2) ≡ slice_range old 20 (20 + u16_at old 2)
     name_bytes = ap (λ n. slice_range new 20 (20 + n)) two ∙ tail_same old new 20 (20 + u16_at old 2) r.len (λ i g. r.after i (omega (arith, g)))
 
-    by : (rest : List ℕ) → Gives (from old) before rest lent was → (rest ≡ data_cells split before old) × Gives (value_at split at) after (at ∷ its_own) [] (record { name = was.name; kind = kind; «data» = text })
+    by : (rest : List ℕ) → Gives (from old) before rest lent was → (rest ≡ data_cells split before old) × Gives (value_at split at) after (at ∷ its_own) [] (record { name = was.name; kind = kind; «data» = value_bytes })
     by rest g =
         let a = rule_of _ _ _ before rest lent was g in
         let b = rule_of _ _ _ before rest lent was a.1 in
@@ -100,7 +100,7 @@ value_again split at before after own lent was old new its_own text kind here th
               (gives_on _ (gives_rule (begins_with new 0x6b76 20) _ after (begins_same old new 0x6b76 20 r.len letters ∙ a.0))
               (gives_on _ (gives_rule (nat_le (20 + u16_at new 2) (length new)) _ after ((λ i. nat_le (20 + two i) (r.len i)) ∙ b.0))
               (gives_on _ (named c.own_first c.lent_first c.x c.first name_none.0 name_none.1 name_is)
-              (gives_same (λ i. record { name = was.name; kind = r.kind_is i; «data» = text }) (gives_last (λ its_data. record { name = was.name; kind = u32_at new 12; «data» = its_data }) its))))),
+              (gives_same (λ i. record { name = was.name; kind = r.kind_is i; «data» = value_bytes }) (gives_last (λ its_data. record { name = was.name; kind = u32_at new 12; «data» = its_data }) its))))),
         )
       where
         named : (o l : List ℕ) (x : List ℕ) → Gives (name_in (has_flag 1 (u16_at old 16)) (slice_range old 20 (20 + u16_at old 2))) before o l x → o ≡ [] → l ≡ [] → x ≡ was.name →
@@ -112,25 +112,25 @@ value_again split at before after own lent was old new its_own text kind here th
             record { reads = (λ i. name_in (has_flag 1 (flag i)) (name_bytes i) after) ∙ none.reads }
 
 -- data in the record
-pub in_record : (split : Bool) (cells : Cells) (fields text : List ℕ) → u32_at fields 4 ≡ 2 ^ 31 + length text → length text ≤ 4 → slice_range fields 8 (8 + length text) ≡ text → Gives (data_of split (u32_at fields 4) fields) cells [] [] text
-in_record split cells fields text size few text_is = subst (λ (n : ℕ). Gives (data_of split n fields) cells [] [] text) (sym size)
-    (gives_yes _ (leb (2 ^ 31) (2 ^ 31 + length text)) (le-leb (2 ^ 31) (2 ^ 31 + length text) (omega arith))
-    (gives_on _ (gives_rule (leb (2 ^ 31 + length text - 2 ^ 31) 4) _ cells (le-leb (2 ^ 31 + length text - 2 ^ 31) 4 (omega (arith, few))))
-    (gives_same (ap (λ n. slice_range fields 8 (8 + n)) (omega arith) ∙ text_is) (gives_done (slice_range fields 8 (8 + (2 ^ 31 + length text - 2 ^ 31))) cells))))
+pub in_record : (split : Bool) (cells : Cells) (fields value_bytes : List ℕ) → u32_at fields 4 ≡ 2 ^ 31 + length value_bytes → length value_bytes ≤ 4 → slice_range fields 8 (8 + length value_bytes) ≡ value_bytes → Gives (data_of split (u32_at fields 4) fields) cells [] [] value_bytes
+in_record split cells fields value_bytes size few bytes_are = subst (λ (n : ℕ). Gives (data_of split n fields) cells [] [] value_bytes) (sym size)
+    (gives_yes _ (leb (2 ^ 31) (2 ^ 31 + length value_bytes)) (le-leb (2 ^ 31) (2 ^ 31 + length value_bytes) (omega arith))
+    (gives_on _ (gives_rule (leb (2 ^ 31 + length value_bytes - 2 ^ 31) 4) _ cells (le-leb (2 ^ 31 + length value_bytes - 2 ^ 31) 4 (omega (arith, few))))
+    (gives_same (ap (λ n. slice_range fields 8 (8 + n)) (omega arith) ∙ bytes_are) (gives_done (slice_range fields 8 (8 + (2 ^ 31 + length value_bytes - 2 ^ 31))) cells))))
 
 -- data in one cell
-pub in_cell : (split : Bool) (cells : Cells) (fields text more : List ℕ) (to : ℕ) → u32_at fields 4 ≡ length text → u32_at fields 8 ≡ to → 0 < length text → length text < 2 ^ 31 → (split ≡ true → length text ≤ 16_344) → cells to ≡ Some (text ++ more) →
-    Gives (data_of split (u32_at fields 4) fields) cells (to ∷ []) [] text
-in_cell split cells fields text more to size place some few one here = subst (λ (n : ℕ). Gives (data_of split n fields) cells (to ∷ []) [] text) (sym size)
-    (gives_no _ (leb (2 ^ 31) (length text)) (lt-leb (2 ^ 31) (length text) few)
-    (gives_no _ (eqb (length text) 0) (ne_eqb (length text) 0 (λ e. omega (arith, some, e)))
+pub in_cell : (split : Bool) (cells : Cells) (fields value_bytes more : List ℕ) (to : ℕ) → u32_at fields 4 ≡ length value_bytes → u32_at fields 8 ≡ to → 0 < length value_bytes → length value_bytes < 2 ^ 31 → (split ≡ true → length value_bytes ≤ 16_344) → cells to ≡ Some (value_bytes ++ more) →
+    Gives (data_of split (u32_at fields 4) fields) cells (to ∷ []) [] value_bytes
+in_cell split cells fields value_bytes more to size place some few one here = subst (λ (n : ℕ). Gives (data_of split n fields) cells (to ∷ []) [] value_bytes) (sym size)
+    (gives_no _ (leb (2 ^ 31) (length value_bytes)) (lt-leb (2 ^ 31) (length value_bytes) few)
+    (gives_no _ (eqb (length value_bytes) 0) (ne_eqb (length value_bytes) 0 (λ e. omega (arith, some, e)))
     (by split one)))
   where
-    prefix_now : Gives (cell_prefix (length text) (u32_at fields 8)) cells (to ∷ []) [] text
-    prefix_now = subst (λ (n : ℕ). Gives (cell_prefix (length text) n) cells (to ∷ []) [] text) (sym place) (piece_back cells to text (more, here))
+    prefix_now : Gives (cell_prefix (length value_bytes) (u32_at fields 8)) cells (to ∷ []) [] value_bytes
+    prefix_now = subst (λ (n : ℕ). Gives (cell_prefix (length value_bytes) n) cells (to ∷ []) [] value_bytes) (sym place) (piece_back cells to value_bytes (more, here))
 
-    by : (b : Bool) → (b ≡ true → length text ≤ 16_344) → Gives (choice b (choice (ltb 16_344 (length text)) (big_data (length text) (u32_at fields 8)) (cell_prefix (length text) (u32_at fields 8))) (cell_prefix (length text) (u32_at fields 8))) cells (to ∷ []) [] text
-    by true one = gives_yes _ true refl (gives_no _ (ltb 16_344 (length text)) (le-ltb 16_344 (length text) (one refl)) prefix_now)
+    by : (b : Bool) → (b ≡ true → length value_bytes ≤ 16_344) → Gives (choice b (choice (ltb 16_344 (length value_bytes)) (big_data (length value_bytes) (u32_at fields 8)) (cell_prefix (length value_bytes) (u32_at fields 8))) (cell_prefix (length value_bytes) (u32_at fields 8))) cells (to ∷ []) [] value_bytes
+    by true one = gives_yes _ true refl (gives_no _ (ltb 16_344 (length value_bytes)) (le-ltb 16_344 (length value_bytes) (one refl)) prefix_now)
     by false one = gives_no _ false refl prefix_now
 
 -- no data
@@ -138,8 +138,8 @@ pub no_data : (split : Bool) (cells : Cells) (fields : List ℕ) → u32_at fiel
 no_data split cells fields size = subst (λ (n : ℕ). Gives (data_of split n fields) cells [] [] []) (sym size) (gives_no _ false refl (gives_yes _ true refl (gives_done [] cells)))
 
 -- data in segments
-pub in_segments : (cells : Cells) (fields own text : List ℕ) → u32_at fields 4 ≡ length text → 16_344 < length text → length text < 2 ^ 31 → Gives (big_data (length text) (u32_at fields 8)) cells own [] text → Gives (data_of true (u32_at fields 4) fields) cells own [] text
-in_segments cells fields own text size many less big = subst (λ (n : ℕ). Gives (data_of true n fields) cells own [] text) (sym size)
-    (gives_no _ (leb (2 ^ 31) (length text)) (lt-leb (2 ^ 31) (length text) less)
-    (gives_no _ (eqb (length text) 0) (ne_eqb (length text) 0 (λ e. omega (arith, many, e)))
-    (gives_yes _ true refl (gives_yes _ (ltb 16_344 (length text)) (lt-ltb 16_344 (length text) many) big))))
+pub in_segments : (cells : Cells) (fields own value_bytes : List ℕ) → u32_at fields 4 ≡ length value_bytes → 16_344 < length value_bytes → length value_bytes < 2 ^ 31 → Gives (big_data (length value_bytes) (u32_at fields 8)) cells own [] value_bytes → Gives (data_of true (u32_at fields 4) fields) cells own [] value_bytes
+in_segments cells fields own value_bytes size many less big = subst (λ (n : ℕ). Gives (data_of true n fields) cells own [] value_bytes) (sym size)
+    (gives_no _ (leb (2 ^ 31) (length value_bytes)) (lt-leb (2 ^ 31) (length value_bytes) less)
+    (gives_no _ (eqb (length value_bytes) 0) (ne_eqb (length value_bytes) 0 (λ e. omega (arith, many, e)))
+    (gives_yes _ true refl (gives_yes _ (ltb 16_344 (length value_bytes)) (lt-ltb 16_344 (length value_bytes) many) big))))

@@ -44,7 +44,7 @@ pub record ValuesChange (split : Bool) (before after : Cells) (key : ℕ) (value
 -- `takes`: a cell of the new data was a cell of the old data, or no cell.
 -- `stays`: a cell that was there, and is neither node nor record nor a cell of the old data, stays. The cells of the old
 -- data that are none of the new may have been freed.
-pub record ValueChanges (split : Bool) (before after : Cells) (key at kind : ℕ) (text : List ℕ) (moment : ℕ) : Type 0 where
+pub record ValueChanges (split : Bool) (before after : Cells) (key at kind : ℕ) (value_bytes : List ℕ) (moment : ℕ) : Type 0 where
   pub old_node : List ℕ
   pub old_node_is : before key ≡ Some old_node
   pub new_node : List ℕ
@@ -56,7 +56,7 @@ pub record ValueChanges (split : Bool) (before after : Cells) (key at kind : ℕ
   pub new_record_is : after at ≡ Some new_record
   pub record_fields : ValueFieldsChange old_record new_record kind
   pub own : List ℕ
-  pub reads : Gives (data_of split (u32_at new_record 4) new_record) after own [] text
+  pub reads : Gives (data_of split (u32_at new_record 4) new_record) after own [] value_bytes
   pub once : Once own
   pub takes : (cell : ℕ) → IsIn cell own → IsIn cell (data_cells split before old_record) ⊎ (before cell ≡ None)
   pub stays : (cell : ℕ) → IsSome (before cell) → cell ≢ key → cell ≢ at → (IsIn cell (data_cells split before old_record) → ⊥) → after cell ≡ before cell

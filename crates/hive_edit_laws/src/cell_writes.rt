@@ -23,13 +23,13 @@ pub fn cells_after()
     ensures stay { (old new : List ℕ) (before after : Cells) → Shows old before → Shows new after →
         (at : ℕ) → StaysAt old new at → after at ≡ before at }
     ensures written { (old new : List ℕ) (before after : Cells) → Shows old before →
-        Shows new after → (at from : ℕ) (text : List ℕ) → Tiles old →
-        HasData old at (from + length text) →
-        Writes old new at (at + 4 + from) (at + 4 + from + length text) →
-        slice_range new (at + 4 + from) (at + 4 + from + length text) ≡ text →
+        Shows new after → (at from : ℕ) (source : List ℕ) → Tiles old →
+        HasData old at (from + length source) →
+        Writes old new at (at + 4 + from) (at + 4 + from + length source) →
+        slice_range new (at + 4 + from) (at + 4 + from + length source) ≡ source →
         SameBut at before after × (before at ≡ Some (cell_data old at))
         × (after at ≡ Some (cell_data new at))
-        × Overlays (cell_data old at) (cell_data new at) from text }
+        × Overlays (cell_data old at) (cell_data new at) from source }
     ensures allocated { (old new : List ℕ) (before after : Cells) → Shows old before →
         Shows new after → (len offset : ℕ) → Allocates old new len offset →
         SameBut offset before after × (before offset ≡ None)
@@ -66,13 +66,13 @@ pub fn rooms_after()
 /// - `bounds`: bytes 52 to 67 may be written too.
 /// - `lists`, `lists_on`: bytes that are none of flags, security cell, class and name; one write after another.
 pub fn nodes_after()
-    ensures time { (old new text : List ℕ) (time : ℕ) → Overlays old new 4 text →
-        length text ≡ 8 → u64_at text 0 ≡ time → NodeTimeChanges old new time }
-    ensures bounds { (old mid new text : List ℕ) (time from : ℕ) → NodeTimeChanges old mid time →
-        Overlays mid new from text → 52 ≤ from → from + length text ≤ 68 →
+    ensures time { (old new source : List ℕ) (time : ℕ) → Overlays old new 4 source →
+        length source ≡ 8 → u64_at source 0 ≡ time → NodeTimeChanges old new time }
+    ensures bounds { (old mid new source : List ℕ) (time from : ℕ) → NodeTimeChanges old mid time →
+        Overlays mid new from source → 52 ≤ from → from + length source ≤ 68 →
         NodeTimeChanges old new time }
-    ensures lists { (old new text : List ℕ) (from : ℕ) → Overlays old new from text →
-        ((4 ≤ from) × (from + length text ≤ 44)) ⊎ ((52 ≤ from) × (from + length text ≤ 72)) →
+    ensures lists { (old new source : List ℕ) (from : ℕ) → Overlays old new from source →
+        ((4 ≤ from) × (from + length source ≤ 44)) ⊎ ((52 ≤ from) × (from + length source ≤ 72)) →
         NodeListsChange old new }
     ensures lists_on { (old mid new : List ℕ) → NodeListsChange old mid →
         NodeListsChange mid new → NodeListsChange old new }
@@ -84,15 +84,15 @@ pub fn nodes_after()
 /// - `small`: data in the data field.
 /// - `begins`: data at the beginning of a cell.
 pub fn values_after()
-    ensures fields { (old new text : List ℕ) → Overlays old new 4 text → length text ≡ 12 →
-        ValueFieldsChange old new (u32_at text 8) × (u32_at new 4 ≡ u32_at text 0)
-        × (u32_at new 8 ≡ u32_at text 4) }
-    ensures small { (old new text its : List ℕ) → Overlays old new 4 text → length text ≡ 12 →
+    ensures fields { (old new source : List ℕ) → Overlays old new 4 source → length source ≡ 12 →
+        ValueFieldsChange old new (u32_at source 8) × (u32_at new 4 ≡ u32_at source 0)
+        × (u32_at new 8 ≡ u32_at source 4) }
+    ensures small { (old new source its : List ℕ) → Overlays old new 4 source → length source ≡ 12 →
         20 ≤ length old → length its ≤ 4 → ((i : ℕ) → i < length its →
-        slice_index text (4 + i) ≡ slice_index its i) →
+        slice_index source (4 + i) ≡ slice_index its i) →
         slice_range new 8 (8 + length its) ≡ its }
-    ensures begins { (old new text : List ℕ) → Overlays old new 0 text →
-        length text ≤ length old → new ≡ text ++ drop (length text) new }
+    ensures begins { (old new source : List ℕ) → Overlays old new 0 source →
+        length source ≤ length old → new ≡ source ++ drop (length source) new }
 {}
 
 /// How long the data are of a record that keeps its own rules.
@@ -109,31 +109,31 @@ pub fn records_are_long()
         × (4 + stride_of bytes * u16_at bytes 2 ≤ length bytes) }
 {}
 
-/// Elements of a list after a text was written over it, in place or into another cell that has the elements before it.
+/// Elements of a list after bytes were written over it, in place or into another cell that has the elements before it.
 ///
-/// - `more`: the text is an element, then the old elements from an index on.
-/// - `fewer`: the text is the old elements after an index.
+/// - `more`: the bytes are an element, then the old elements from an index on.
+/// - `fewer`: the bytes are the old elements after an index.
 /// - `more_kept`, `fewer_kept`: another write, which is before the elements.
 pub fn elements_after()
-    ensures more { (old mid new text : List ℕ) (from stride count index word : ℕ) → 4 ≤ stride →
+    ensures more { (old mid new source : List ℕ) (from stride count index word : ℕ) → 4 ≤ stride →
         index ≤ count → ((j : ℕ) → from ≤ j → j < from + stride * index →
         slice_index mid j ≡ slice_index old j) →
-        Overlays mid new (from + stride * index) text →
-        length text ≡ stride + stride * (count - index) → u32_at text 0 ≡ word → ((j : ℕ) →
-        j < stride * (count - index) → slice_index text (stride + j)
+        Overlays mid new (from + stride * index) source →
+        length source ≡ stride + stride * (count - index) → u32_at source 0 ≡ word → ((j : ℕ) →
+        j < stride * (count - index) → slice_index source (stride + j)
         ≡ slice_index old (from + stride * index + j)) →
         ShiftsIn old new from stride count index word }
-    ensures fewer { (old mid new text : List ℕ) (from stride count index : ℕ) → 4 ≤ stride →
+    ensures fewer { (old mid new source : List ℕ) (from stride count index : ℕ) → 4 ≤ stride →
         index ≤ count → ((j : ℕ) → from ≤ j → j < from + stride * index →
         slice_index mid j ≡ slice_index old j) →
-        Overlays mid new (from + stride * index) text →
-        length text ≡ stride * (count - index) → ((j : ℕ) → j < stride * (count - index) →
-        slice_index text j ≡ slice_index old (from + stride * index + stride + j)) →
+        Overlays mid new (from + stride * index) source →
+        length source ≡ stride * (count - index) → ((j : ℕ) → j < stride * (count - index) →
+        slice_index source j ≡ slice_index old (from + stride * index + stride + j)) →
         ShiftsOut old new from stride count index }
-    ensures more_kept { (old mid new text : List ℕ) (at from stride count index word : ℕ) →
-        ShiftsIn old mid from stride count index word → Overlays mid new at text →
-        at + length text ≤ from → ShiftsIn old new from stride count index word }
-    ensures fewer_kept { (old mid new text : List ℕ) (at from stride count index : ℕ) →
-        ShiftsOut old mid from stride count index → Overlays mid new at text →
-        at + length text ≤ from → ShiftsOut old new from stride count index }
+    ensures more_kept { (old mid new source : List ℕ) (at from stride count index word : ℕ) →
+        ShiftsIn old mid from stride count index word → Overlays mid new at source →
+        at + length source ≤ from → ShiftsIn old new from stride count index word }
+    ensures fewer_kept { (old mid new source : List ℕ) (at from stride count index : ℕ) →
+        ShiftsOut old mid from stride count index → Overlays mid new at source →
+        at + length source ≤ from → ShiftsOut old new from stride count index }
 {}

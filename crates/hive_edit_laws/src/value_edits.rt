@@ -29,11 +29,11 @@ pub fn values_change()
         row edited q ≡ row_edited (λ (key : Row). record key { values = values }) tree path moment q) →
         BinsEncodeTree new root minor edited }
     ensures set { (old new : List ℕ) (root minor : ℕ) (tree : TreeMap) (hive : ℕ)
-        (path : List (List ℕ)) (name : List ℕ) (kind : ℕ) (text : List ℕ) (key moment : ℕ)
+        (path : List (List ℕ)) (name : List ℕ) (kind : ℕ) (value_bytes : List ℕ) (key moment : ℕ)
         (before after : Cells) → (found : KeyFound old root minor tree (folded_path path) key) →
         Shows old before → Tiles new → Shows new after → ValuesChange (splits minor) before after key
-        (values_with found.place.parts.row.values name kind text) moment →
-        BinsEncodeTree new root minor (tree_after tree (SetValue hive path name kind text) moment) }
+        (values_with found.place.parts.row.values name kind value_bytes) moment →
+        BinsEncodeTree new root minor (tree_after tree (SetValue hive path name kind value_bytes) moment) }
     ensures deleted { (old new : List ℕ) (root minor : ℕ) (tree : TreeMap) (hive : ℕ)
         (path : List (List ℕ)) (name : List ℕ) (key moment : ℕ) (before after : Cells) →
         (found : KeyFound old root minor tree (folded_path path) key) → Shows old before →
@@ -48,19 +48,19 @@ pub fn values_change()
 /// - `values`: the key's values are the old ones with this one set.
 pub fn value_changes()
     ensures values { (old : List ℕ) (root minor : ℕ) (tree : TreeMap) (path : List (List ℕ))
-        (name : List ℕ) (key index at kind : ℕ) (text : List ℕ) (moment : ℕ)
+        (name : List ℕ) (key index at kind : ℕ) (value_bytes : List ℕ) (moment : ℕ)
         (before after : Cells) →
         (found : ValueFound old root minor tree path (folded name) key index at) →
-        Shows old before → ValueChanges (splits minor) before after key at kind text moment →
+        Shows old before → ValueChanges (splits minor) before after key at kind value_bytes moment →
         ValuesChange (splits minor) before after key
-        (values_with found.in_key.place.parts.row.values name kind text) moment }
+        (values_with found.in_key.place.parts.row.values name kind value_bytes) moment }
     ensures set { (old new : List ℕ) (root minor : ℕ) (tree : TreeMap) (hive : ℕ)
-        (path : List (List ℕ)) (name : List ℕ) (key index at kind : ℕ) (text : List ℕ)
+        (path : List (List ℕ)) (name : List ℕ) (key index at kind : ℕ) (value_bytes : List ℕ)
         (moment : ℕ) (before after : Cells) →
         ValueFound old root minor tree (folded_path path) (folded name) key index at →
         Shows old before → Tiles new → Shows new after →
-        ValueChanges (splits minor) before after key at kind text moment →
-        BinsEncodeTree new root minor (tree_after tree (SetValue hive path name kind text) moment) }
+        ValueChanges (splits minor) before after key at kind value_bytes moment →
+        BinsEncodeTree new root minor (tree_after tree (SetValue hive path name kind value_bytes) moment) }
 {}
 
 /// What a value's record says of its data.
@@ -70,21 +70,21 @@ pub fn value_changes()
 /// - `none`: no data.
 /// - `segments`: big data, of which their db says how they are read.
 pub fn data_are_read()
-    ensures in_record { (split : Bool) (cells : Cells) (fields text : List ℕ) →
-        u32_at fields 4 ≡ 2 ^ 31 + length text → length text ≤ 4 →
-        slice_range fields 8 (8 + length text) ≡ text →
-        Gives (data_of split (u32_at fields 4) fields) cells [] [] text }
-    ensures in_cell { (split : Bool) (cells : Cells) (fields text more : List ℕ) (to : ℕ) →
-        u32_at fields 4 ≡ length text → u32_at fields 8 ≡ to → 0 < length text →
-        length text < 2 ^ 31 → (split ≡ true → length text ≤ 16_344) →
-        cells to ≡ Some (text ++ more) →
-        Gives (data_of split (u32_at fields 4) fields) cells (to ∷ []) [] text }
+    ensures in_record { (split : Bool) (cells : Cells) (fields value_bytes : List ℕ) →
+        u32_at fields 4 ≡ 2 ^ 31 + length value_bytes → length value_bytes ≤ 4 →
+        slice_range fields 8 (8 + length value_bytes) ≡ value_bytes →
+        Gives (data_of split (u32_at fields 4) fields) cells [] [] value_bytes }
+    ensures in_cell { (split : Bool) (cells : Cells) (fields value_bytes more : List ℕ) (to : ℕ) →
+        u32_at fields 4 ≡ length value_bytes → u32_at fields 8 ≡ to → 0 < length value_bytes →
+        length value_bytes < 2 ^ 31 → (split ≡ true → length value_bytes ≤ 16_344) →
+        cells to ≡ Some (value_bytes ++ more) →
+        Gives (data_of split (u32_at fields 4) fields) cells (to ∷ []) [] value_bytes }
     ensures none { (split : Bool) (cells : Cells) (fields : List ℕ) → u32_at fields 4 ≡ 0 →
         Gives (data_of split (u32_at fields 4) fields) cells [] [] [] }
-    ensures segments { (cells : Cells) (fields own text : List ℕ) →
-        u32_at fields 4 ≡ length text → 16_344 < length text → length text < 2 ^ 31 →
-        Gives (big_data (length text) (u32_at fields 8)) cells own [] text →
-        Gives (data_of true (u32_at fields 4) fields) cells own [] text }
+    ensures segments { (cells : Cells) (fields own value_bytes : List ℕ) →
+        u32_at fields 4 ≡ length value_bytes → 16_344 < length value_bytes → length value_bytes < 2 ^ 31 →
+        Gives (big_data (length value_bytes) (u32_at fields 8)) cells own [] value_bytes →
+        Gives (data_of true (u32_at fields 4) fields) cells own [] value_bytes }
 {}
 
 /// Which cells data have that were read, by the size in their record.
@@ -94,21 +94,21 @@ pub fn data_are_read()
 /// - `segments`: a db, its list, and a cell for each segment.
 pub fn data_have_cells()
     ensures in_record { (split : Bool) (bytes : List ℕ) (cells : Cells) → Shows bytes cells →
-        (fields own lent text : List ℕ) →
-        Gives (data_of split (u32_at fields 4) fields) cells own lent text →
+        (fields own lent value_bytes : List ℕ) →
+        Gives (data_of split (u32_at fields 4) fields) cells own lent value_bytes →
         2 ^ 31 ≤ u32_at fields 4 → own ≡ [] }
     ensures empty { (split : Bool) (bytes : List ℕ) (cells : Cells) → Shows bytes cells →
-        (fields own lent text : List ℕ) →
-        Gives (data_of split (u32_at fields 4) fields) cells own lent text →
+        (fields own lent value_bytes : List ℕ) →
+        Gives (data_of split (u32_at fields 4) fields) cells own lent value_bytes →
         u32_at fields 4 ≡ 0 → own ≡ [] }
     ensures cell { (split : Bool) (bytes : List ℕ) (cells : Cells) → Shows bytes cells →
-        (fields own lent text : List ℕ) →
-        Gives (data_of split (u32_at fields 4) fields) cells own lent text →
+        (fields own lent value_bytes : List ℕ) →
+        Gives (data_of split (u32_at fields 4) fields) cells own lent value_bytes →
         0 < u32_at fields 4 → u32_at fields 4 < 2 ^ 31 →
         (split ≡ true → u32_at fields 4 ≤ 16_344) → own ≡ u32_at fields 8 ∷ [] }
     ensures segments { (split : Bool) (bytes : List ℕ) (cells : Cells) → Shows bytes cells →
-        (fields own lent text : List ℕ) →
-        Gives (data_of split (u32_at fields 4) fields) cells own lent text →
+        (fields own lent value_bytes : List ℕ) →
+        Gives (data_of split (u32_at fields 4) fields) cells own lent value_bytes →
         split ≡ true → 16_344 < u32_at fields 4 → u32_at fields 4 < 2 ^ 31 →
         own ≡ u32_at fields 8 ∷ u32_at (cell_data bytes (u32_at fields 8)) 4 ∷ words_from
         (cell_data bytes (u32_at (cell_data bytes (u32_at fields 8)) 4)) 0 4

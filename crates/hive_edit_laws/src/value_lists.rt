@@ -38,22 +38,22 @@ pub fn words_shift()
 /// - `values`: the key's values are the old ones with this one.
 pub fn value_is_added()
     ensures values { (old : List ℕ) (root minor : ℕ) (tree : TreeMap) (path : List (List ℕ))
-        (name : List ℕ) (key at index kind : ℕ) (text : List ℕ) (moment : ℕ)
+        (name : List ℕ) (key at index kind : ℕ) (value_bytes : List ℕ) (moment : ℕ)
         (before after : Cells) → (found : KeyFound old root minor tree path key) →
         Shows old before → finite.get found.place.parts.row.values (folded name) ≡ None →
         AddsValue (splits minor) before after key at index
-        (record { name = name; kind = kind; «data» = text }) moment →
+        (record { name = name; kind = kind; «data» = value_bytes }) moment →
         ValuesChange (splits minor) before after key
-        (values_with found.place.parts.row.values name kind text) moment }
+        (values_with found.place.parts.row.values name kind value_bytes) moment }
     ensures set { (old new : List ℕ) (root minor : ℕ) (tree : TreeMap) (hive : ℕ)
-        (path : List (List ℕ)) (name : List ℕ) (key at index kind : ℕ) (text : List ℕ)
+        (path : List (List ℕ)) (name : List ℕ) (key at index kind : ℕ) (value_bytes : List ℕ)
         (moment : ℕ) (before after : Cells) →
         (found : KeyFound old root minor tree (folded_path path) key) → Shows old before →
         Tiles new → Shows new after →
         finite.get found.place.parts.row.values (folded name) ≡ None →
         AddsValue (splits minor) before after key at index
-        (record { name = name; kind = kind; «data» = text }) moment →
-        BinsEncodeTree new root minor (tree_after tree (SetValue hive path name kind text) moment) }
+        (record { name = name; kind = kind; «data» = value_bytes }) moment →
+        BinsEncodeTree new root minor (tree_after tree (SetValue hive path name kind value_bytes) moment) }
 {}
 
 /// A value that was found is taken from its key. Then the data encode the tree after that operation.

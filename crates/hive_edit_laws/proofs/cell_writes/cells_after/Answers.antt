@@ -6,7 +6,7 @@ pub returns-clause-stay : goal.returns-clause-stay
 returns-clause-stay c = λ old new before after shows shown at stays. same_at old new before after shows shown at stays
 
 pub returns-clause-written : goal.returns-clause-written
-returns-clause-written c = λ old new before after shows shown at from text tiles has writes is. after_write old new before after shows shown at from text tiles has writes is
+returns-clause-written c = λ old new before after shows shown at from source tiles has writes is. after_write old new before after shows shown at from source tiles has writes is
 
 pub returns-clause-allocated : goal.returns-clause-allocated
 returns-clause-allocated c = λ old new before after shows shown len offset a. after_alloc old new before after shows shown len offset a

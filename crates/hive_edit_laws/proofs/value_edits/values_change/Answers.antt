@@ -12,8 +12,8 @@ returns-clause-rows c = λ old new root minor tree edited path key values moment
     (subst (λ (z : Cells). ValuesChange (splits minor) z after key values moment) (same_cells old before found.cells shows found.shows) change) edited rows
 
 pub returns-clause-set : goal.returns-clause-set
-returns-clause-set c = λ old new root minor tree hive path name kind text key moment before after found shows tiles shown change. set_encodes old new root minor tree hive path name kind text key moment found tiles after shown
-    (subst (λ (z : Cells). ValuesChange (splits minor) z after key (values_with found.place.parts.row.values name kind text) moment) (same_cells old before found.cells shows found.shows) change)
+returns-clause-set c = λ old new root minor tree hive path name kind value_bytes key moment before after found shows tiles shown change. set_encodes old new root minor tree hive path name kind value_bytes key moment found tiles after shown
+    (subst (λ (z : Cells). ValuesChange (splits minor) z after key (values_with found.place.parts.row.values name kind value_bytes) moment) (same_cells old before found.cells shows found.shows) change)
 
 pub returns-clause-deleted : goal.returns-clause-deleted
 returns-clause-deleted c = λ old new root minor tree hive path name key moment before after found shows tiles shown change. deleted_encodes old new root minor tree hive path name key moment found tiles after shown
