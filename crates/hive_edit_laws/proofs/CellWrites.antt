@@ -3,19 +3,16 @@ use Rattle.std.proofs.Common.{◌≡◌, ◌≢◌, ◌⊎◌, inl, inr, ℕ, �
 use Rattle.std.proofs.lemmas.List.{ext_get_or, get_or-drop, get_or-take, get_or_past, take-append-drop}
 use Rattle.std.proofs.lemmas.Bool.{cases_lt, cases_eq}
 use Rattle.hive_tree_model.specs.Cells.{SameBut}
-use Rattle.hive_cells.specs.Tiles.{Tiles, CellStart, first_cell, next_cell, IsCell, IsAllocatedCell, cell_size, cell_data, bin_size, u32_at}
+use Rattle.hive_cells.specs.Tiles.{Tiles, IsCell, IsAllocatedCell, cell_size, cell_data, u32_at}
 use Rattle.hive_cells.specs.Bins.{Cells, Shows}
 use Rattle.hive_cells.specs.Changes.{OthersStay, StaysAt, Writes, Allocates, Frees, least_size}
 use Rattle.hive_records.specs.Numbers.{u64_at}
+use Rattle.hive_cells.proofs.Shown.{end_within}
 use Rattle.hive_records.proofs.Images.{same_at}
 use Rattle.hive_edit_laws.specs.RecordEdits.{NodeTimeChanges, NodeListsChange, ValueFieldsChange}
 use Rattle.hive_savepoint.specs.Puts.{HasData, Overlays}
 use Rattle.hive_edit_laws.proofs.CellsShown.{shown_here, shown_none}
 use Rattle.hive_edit_laws.proofs.SameBytes.{word_moved}
-
-end_within : (bytes : List ℕ) (end at : ℕ) → CellStart bytes end at → end ≤ length bytes
-end_within bytes end _ (first_cell bin at start is ends begins) = let w : bin + bin_size bytes bin ≤ length bytes = is.within in omega (arith, w, ends)
-end_within bytes end _ (next_cell from at start is next within) = end_within bytes end from start
 
 pub cell_end : (bytes : List ℕ) (at : ℕ) → Tiles bytes → IsAllocatedCell bytes at → at + cell_size bytes at ≤ length bytes
 cell_end bytes at tiles found =
