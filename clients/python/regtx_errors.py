@@ -1,0 +1,165 @@
+"""What is raised by the client of regtx: `regtx.py` has all of it."""
+from __future__ import annotations
+
+import re
+import uuid
+from typing import Dict, Optional, Type
+
+# how much of a line an error shows: the data of a value may have a million bytes
+SHOWN = 120
+
+
+def shown(text: str) -> str:
+    return text if len(text) <= SHOWN else f"{text[:SHOWN]}.."
+
+
+class RegtxError(Exception):
+    """What goes wrong with a store, or with a run on it."""
+
+
+class Refused(RegtxError):
+    """A line was refused; or the opening of a store, or the work at the end of a run, if `line` is None.
+
+    `reply` is the whole refusal, such as `E15 HiveDamaged 0 BadRecord`, `code` is `E15`, and `name` is `HiveDamaged`.
+    """
+
+    def __init__(self, reply: str, line: Optional[str] = None):
+        super().__init__(reply, line)
+        self.reply, self.line = reply, line
+        self.code, self.name = reply.split(" ")[:2]
+
+    def __str__(self) -> str:
+        return self.reply if self.line is None else f"{self.reply}: {shown(self.line)}"
+
+
+class NoMemory(Refused):
+    """E1: the system gave no memory."""
+
+
+class NotFound(Refused):
+    """E2: there is no such hive, key or value."""
+
+
+class HasSubkeys(Refused):
+    """E3: a key with subkeys is to be deleted."""
+
+
+class BadName(Refused):
+    """E4: a name of the path is empty or too long, or a name isn't printable ASCII."""
+
+
+class TooLarge(Refused):
+    """E6: a value, a hive or a transaction passes its limit."""
+
+
+class Conflict(Refused):
+    """E7: another active transaction writes the same key, its values, or a key above or below it."""
+
+
+class NotActive(Refused):
+    """E8: the transaction was rolled back by a write alone, which conflicts with it."""
+
+
+class HistoryFull(Refused):
+    """E12: the run has made 1,048,576 changes since it began, or since `Store.fold`."""
+
+
+class DiskFault(Refused):
+    """E13: the system refused to read, write or sync a file. Nothing more is written in this run."""
+
+
+class Faulted(Refused):
+    """E14: the same, earlier in this run."""
+
+
+class HiveDamaged(Refused):
+    """E15: a file isn't a clean hive, or isn't one of this store."""
+
+
+class JournalDamaged(Refused):
+    """E16: the folder has no store, or its journal is damaged."""
+
+
+class Unsupported(Refused):
+    """E17: the store keeps no outcomes (`Store.upgrade` makes one that does), or a hive has what isn't read."""
+
+
+_REFUSALS: Dict[str, Type[Refused]] = {kind.__name__: kind for kind in Refused.__subclasses__()}
+_REFUSAL = re.compile(r"E[0-9]+ ([A-Za-z]+)( .*)?")
+
+
+def refusal(reply: str, line: Optional[str] = None) -> Optional[Refused]:
+    """The error of a reply that is a refusal, else None."""
+    told = _REFUSAL.fullmatch(reply)
+    return _REFUSALS.get(told[1], Refused)(reply, line) if told else None
+
+
+class CommandFailed(RegtxError):
+    """The program did something else than it was asked. `printed` is what it printed, `status` its exit status."""
+
+    def __init__(self, printed: str, status: int):
+        super().__init__(printed, status)
+        self.printed, self.status = printed, status
+
+    def __str__(self) -> str:
+        return f"{shown(self.printed) or 'nothing was printed'} ({ending(self.status)})"
+
+
+class CannotOpen(CommandFailed):
+    """The store is in use by another program, or its folder can't be opened."""
+
+
+class RunEnded(RegtxError):
+    """The run has ended, or can't be used any more.
+
+    `line` is the line that was sent and not answered, if there is one; `status` the exit status of the program, negative after a
+    signal, or None if it isn't known.
+    """
+
+    def __init__(self, why: str, line: Optional[str] = None, status: Optional[int] = None):
+        super().__init__(why, line, status)
+        self.line, self.status = line, status
+
+    def __str__(self) -> str:
+        return self.args[0]
+
+
+class CommitUnknown(RegtxError):
+    """Whether a transaction has committed isn't known: ask `kept(unit)` of another `Store`, opened after this one is closed.
+
+    Its `__cause__` says why: the run ended before the reply came, or a file couldn't be written.
+    """
+
+    def __init__(self, unit: uuid.UUID):
+        super().__init__(unit)
+        self.unit = unit
+
+    def __str__(self) -> str:
+        return f"whether {self.unit} has committed isn't known: ask kept() in another run"
+
+
+class ScopeEnded(RegtxError):
+    """A transaction was used after its commit or its rollback, a session after its end, or one of them after a fold."""
+
+
+class DecodeError(RegtxError, ValueError):
+    """The bytes of a value aren't of its type."""
+
+
+def ending(status: int) -> str:
+    return f"signal {-status}" if status < 0 else f"status {status}"
+
+
+def last(printed: str) -> str:
+    lines = printed.splitlines()
+    return f", and printed: {shown(lines[-1])}" if lines else ""
+
+
+def failure(printed: str, status: int) -> RegtxError:
+    """The error of what was printed beside replies, and of the status."""
+    refused = refusal(printed.splitlines()[-1]) if printed else None
+    if refused and status == 1:
+        return refused
+    if status < 0:
+        return RunEnded(f"the program ended by {ending(status)}{last(printed)}", None, status)
+    return (CannotOpen if printed == "cannot open store" else CommandFailed)(printed, status)

@@ -1,0 +1,162 @@
+"""A run of the program, and its commands."""
+from __future__ import annotations
+
+import itertools
+import os
+import re
+import subprocess
+import threading
+import uuid
+from typing import Callable, List, Optional, Set, Tuple, Union
+
+from regtx_errors import RunEnded, ending, failure, last, refusal, shown
+
+Folder = Union[str, "os.PathLike[str]"]
+# the greatest numbers that lines and the program's words can carry
+MOST_MOMENT, MOST_WAIT = 0xffff_ffff_ffff_ffff, 86_400
+
+
+class Run:
+    """A run of the program, to which one line is sent at a time."""
+
+    NUMBER = re.compile(r"(?:created [0-9]+ )?accepted ([0-9]+)|(?:opened|committed|flushed|folded) ([0-9]+)")
+
+    def __init__(self, program: Folder, folder: Folder, wait: int, clock: Callable[[], int]):
+        # a process group of its own: Ctrl-C is for the caller, who can still roll back and close then
+        self._child = subprocess.Popen([*_command(program, wait), "run", os.path.abspath(folder), "/dev/stdin"],
+                                       stdin=subprocess.PIPE, stdout=subprocess.PIPE, start_new_session=True)
+        # one thread at a time has the pipe, and what is sent before a line for its sake
+        self.lock = threading.RLock()
+        # the session and the moment that the program has; -1 if that isn't known
+        self._clock, self._moment, self._session = clock, 0, 0
+        # why no line can be sent any more
+        self._over: Optional[str] = None
+        self._was_refused = self._is_interrupted = self._is_closed = False
+        # of sessions and of labels, none of which is used again
+        self.numbers = itertools.count(1)
+        self.number, self.folds = 0, 0
+        # units of work whose commit was sent, and may be there or not
+        self.unknown: Set[uuid.UUID] = set()
+        self._open()
+
+    def _open(self) -> None:
+        """Reads the line that says that the store is open."""
+        try:
+            reply = self._child.stdout.readline().decode(errors="replace")
+            if reply.startswith("opened "):
+                self._note(reply.rstrip("\n"))
+                return
+        except BaseException:
+            # it may wait for the store, and wouldn't see the end of its lines
+            self._child.kill()
+            self._end()
+            raise
+        rest, status = self._end()
+        raise failure((reply + rest).rstrip("\n"), status)
+
+    def ask(self, line: str, session: Optional[int] = None, check: Callable[[], None] = lambda: None, writes: bool = False) -> str:
+        """The reply to a line, sent in this session if it needs one, at the moment of now if it writes. A refusal is raised.
+
+        The check raises if the session has ended, before anything is sent.
+        """
+        with self.lock:
+            check()
+            if session is not None:
+                self.enter(session)
+            if writes:
+                self._set_moment(self._clock())
+            return self._send(line)
+
+    def enter(self, session: int) -> None:
+        """Makes a session the current one, and opens it if it isn't open."""
+        if session != self._session:
+            self._session = -1
+            self._send(f"session {session}")
+            self._session = session
+
+    def _set_moment(self, moment: int) -> None:
+        if not 0 <= moment <= MOST_MOMENT:
+            raise ValueError(f"a moment is a number of 64 bits, and not {moment}")
+        if moment != self._moment:
+            self._moment = -1
+            self._send(f"at {moment}")
+            self._moment = moment
+
+    def fold(self) -> None:
+        with self.lock:
+            self._send("fold")
+            self.folds += 1
+
+    def _send(self, line: str) -> str:
+        if self._over is not None:
+            raise RunEnded(self._over)
+        try:
+            reply = self._exchange(line)
+        except BaseException:
+            # such as KeyboardInterrupt: the reply would be taken for that to the next line
+            self._is_interrupted, self._over = True, "the run was interrupted within a line: close it, and open the store again"
+            raise
+        if not reply.endswith("\n") or reply.startswith("line "):
+            rest, status = self._end()
+            self._over = f"the run ended by {ending(status)}{last(reply + rest)}"
+            raise RunEnded(f"{self._over}, before it answered: {shown(line)}", line, status)
+        reply = reply[:-1]
+        refused = refusal(reply, line)
+        if refused:
+            self._was_refused = True
+            raise refused
+        self._note(reply)
+        return reply
+
+    def _exchange(self, line: str) -> str:
+        """The reply with its LF; what there is of it if the run ends."""
+        try:
+            self._child.stdin.write(f"{line}\n".encode("ascii"))
+            self._child.stdin.flush()
+        except BrokenPipeError:
+            return ""
+        return self._child.stdout.readline().decode(errors="replace")
+
+    def _note(self, reply: str) -> None:
+        told = self.NUMBER.fullmatch(reply)
+        if told:
+            self.number = max(self.number, int(told[1] or told[2]))
+
+    def _end(self) -> Tuple[str, int]:
+        """Ends the script; what is printed after that, and the status."""
+        try:
+            self._child.stdin.close()
+        except BrokenPipeError:
+            pass
+        rest = self._child.stdout.read().decode(errors="replace")
+        self._child.stdout.close()
+        return rest, self._child.wait()
+
+    def close(self) -> None:
+        """Ends the run, once. Raises if it ended before, or if its last lines or its status say more than the replies did."""
+        with self.lock:
+            if self._is_closed:
+                return
+            over, self._over, self._is_closed = self._over, "the store is closed", True
+            if self._child.returncode is not None:
+                raise RunEnded(over or "the run ended", None, self._child.returncode)
+            rest, status = self._end()
+            lines, wanted = rest.splitlines(), [int(self._was_refused)]
+            if self._is_interrupted:
+                # the first line may be the reply to the line within which it was; a failure at the end is one of these
+                lines, wanted = [line for line in lines if line.startswith(("E1 ", "E13 ", "E14 "))], [0, 1]
+            if lines or status not in wanted:
+                raise failure("\n".join(lines), status)
+
+
+def _command(program: Folder, wait: int) -> List[str]:
+    if not isinstance(wait, int) or not 0 <= wait <= MOST_WAIT:
+        raise ValueError(f"wait is a whole number of seconds, 0 to {MOST_WAIT:,}, and not {wait!r}")
+    return [os.fspath(program), *(["wait", str(wait)] if wait else [])]
+
+
+def carry_out(program: Folder, *words: str) -> None:
+    ended = subprocess.run([os.fspath(program), *words], stdin=subprocess.DEVNULL, stdout=subprocess.PIPE)
+    printed = ended.stdout.decode(errors="replace").rstrip("\n")
+    if (printed, ended.returncode) != ("ok", 0):
+        raise failure(printed, ended.returncode)
