@@ -19,8 +19,8 @@ from typing import Callable, List, Optional, Sequence
 
 from regtx_errors import (  # noqa: F401
     BadName, CannotOpen, CommandFailed, CommitUnknown, Conflict, DecodeError, DiskFault, Faulted, HasSubkeys, HistoryFull,
-    HiveDamaged, JournalDamaged, NoMemory, NotActive, NotFound, Refused, RegtxError, RunEnded, ScopeEnded, TooLarge,
-    Unsupported)
+    HiveDamaged, JournalDamaged, NoMemory, NotActive, NotFound, OtherProcess, Refused, RegtxError, RunEnded, ScopeEnded,
+    TooLarge, Unsupported)
 from regtx_names import KeyInfo, key_path, key_word, moment_now, read_name, unit_word, value_name_word
 from regtx_run import Folder, Run, carry_out
 from regtx_values import Kind, Value
@@ -167,6 +167,7 @@ class Session(_InSession):
 
     def __init__(self, run: Run, number: int):
         super().__init__(run, number)
+        run.check_process()
         with run.lock:
             self._fold, self._is_open = run.folds, True
             run.enter(number)

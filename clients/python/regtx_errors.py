@@ -138,6 +138,13 @@ class CommitUnknown(RegtxError):
         return f"whether {self.unit} has committed isn't known: ask kept() in another run"
 
 
+class OtherProcess(RegtxError):
+    """A store, or what is of it, was used in another process than the one that opened it, such as after a fork. Nothing was sent."""
+
+    def __str__(self) -> str:
+        return "the store was opened in another process: open one here"
+
+
 class ScopeEnded(RegtxError):
     """A transaction was used after its commit or its rollback, a session after its end, or one of them after a fold."""
 

@@ -7,9 +7,10 @@ import re
 import subprocess
 import threading
 import uuid
+import weakref
 from typing import Callable, List, Optional, Set, Tuple, Union
 
-from regtx_errors import RunEnded, ending, failure, last, refusal, shown
+from regtx_errors import OtherProcess, RunEnded, ending, failure, last, refusal, shown
 
 Folder = Union[str, "os.PathLike[str]"]
 # the greatest numbers that lines and the program's words can carry
@@ -25,6 +26,8 @@ class Run:
         # a process group of its own: Ctrl-C is for the caller, who can still roll back and close then
         self._child = subprocess.Popen([*_command(program, wait), "run", os.path.abspath(folder), "/dev/stdin"],
                                        stdin=subprocess.PIPE, stdout=subprocess.PIPE, start_new_session=True)
+        self._process = os.getpid()
+        _RUNS.add(self)
         # one thread at a time has the pipe, and what is sent before a line for its sake
         self.lock = threading.RLock()
         # the session and the moment that the program has; -1 if that isn't known
@@ -54,11 +57,25 @@ class Run:
         rest, status = self._end()
         raise failure((reply + rest).rstrip("\n"), status)
 
+    def check_process(self) -> None:
+        """Raises in another process than the one that began the run: replies would go to whoever reads first."""
+        if os.getpid() != self._process:
+            raise OtherProcess()
+
+    def leave(self) -> None:
+        """After a fork: closes this process's copies of the pipes, since a run doesn't end while anyone may still write to it.
+
+        What is in their buffers is the maker's, and isn't sent from here.
+        """
+        for pipe in (self._child.stdin, self._child.stdout):
+            pipe.raw.close()
+
     def ask(self, line: str, session: Optional[int] = None, check: Callable[[], None] = lambda: None, writes: bool = False) -> str:
         """The reply to a line, sent in this session if it needs one, at the moment of now if it writes. A refusal is raised.
 
         The check raises if the session has ended, before anything is sent.
         """
+        self.check_process()
         with self.lock:
             check()
             if session is not None:
@@ -83,6 +100,7 @@ class Run:
             self._moment = moment
 
     def fold(self) -> None:
+        self.check_process()
         with self.lock:
             self._send("fold")
             self.folds += 1
@@ -124,16 +142,15 @@ class Run:
 
     def _end(self) -> Tuple[str, int]:
         """Ends the script; what is printed after that, and the status."""
-        try:
-            self._child.stdin.close()
-        except BrokenPipeError:
-            pass
-        rest = self._child.stdout.read().decode(errors="replace")
-        self._child.stdout.close()
-        return rest, self._child.wait()
+        return _finish(self._child)
 
     def close(self) -> None:
-        """Ends the run, once. Raises if it ended before, or if its last lines or its status say more than the replies did."""
+        """Ends the run, once. Raises if it ended before, or if its last lines or its status say more than the replies did.
+
+        In another process it does nothing: the run goes on.
+        """
+        if os.getpid() != self._process:
+            return
         with self.lock:
             if self._is_closed:
                 return
@@ -147,6 +164,27 @@ class Run:
                 lines, wanted = [line for line in lines if line.startswith(("E1 ", "E13 ", "E14 "))], [0, 1]
             if lines or status not in wanted:
                 raise failure("\n".join(lines), status)
+
+
+def _finish(child: "subprocess.Popen[bytes]") -> Tuple[str, int]:
+    try:
+        child.stdin.close()
+    except BrokenPipeError:
+        pass
+    rest = child.stdout.read().decode(errors="replace")
+    child.stdout.close()
+    return rest, child.wait()
+
+
+_RUNS: "weakref.WeakSet[Run]" = weakref.WeakSet()
+
+
+def _leave_all() -> None:
+    for run in list(_RUNS):
+        run.leave()
+
+
+os.register_at_fork(after_in_child=_leave_all)
 
 
 def _command(program: Folder, wait: int) -> List[str]:
