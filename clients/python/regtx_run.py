@@ -28,6 +28,7 @@ class Run:
                                        stdin=subprocess.PIPE, stdout=subprocess.PIPE, start_new_session=True)
         self._process = os.getpid()
         _RUNS.add(self)
+        weakref.finalize(self, _drop, self._child, self._process)
         # one thread at a time has the pipe, and what is sent before a line for its sake
         self.lock = threading.RLock()
         # the session and the moment that the program has; -1 if that isn't known
@@ -174,6 +175,12 @@ def _finish(child: "subprocess.Popen[bytes]") -> Tuple[str, int]:
     rest = child.stdout.read().decode(errors="replace")
     child.stdout.close()
     return rest, child.wait()
+
+
+def _drop(child: "subprocess.Popen[bytes]", process: int) -> None:
+    """Ends a run that nobody can close any more, and waits for that: its store is free then, and no zombie is left."""
+    if child.returncode is None and os.getpid() == process:
+        _finish(child)
 
 
 _RUNS: "weakref.WeakSet[Run]" = weakref.WeakSet()
