@@ -15,13 +15,13 @@ from __future__ import annotations
 
 import os
 import uuid
-from typing import Callable, List, Optional, Sequence
+from typing import List, Optional, Sequence
 
 from regtx_errors import (  # noqa: F401
     BadName, CannotOpen, CommandFailed, CommitUnknown, Conflict, DecodeError, DiskFault, Faulted, HasSubkeys, HistoryFull,
     HiveDamaged, JournalDamaged, NoMemory, NotActive, NotFound, OtherProcess, Refused, RegtxError, RunEnded, ScopeEnded,
     TooLarge, Unsupported)
-from regtx_names import KeyInfo, key_path, key_word, moment_now, read_name, unit_word, value_name_word
+from regtx_names import KeyInfo, key_path, key_word, moment_of, read_name, unit_word, value_name_word
 from regtx_run import Folder, Run, carry_out
 from regtx_values import Kind, Value
 
@@ -200,14 +200,14 @@ class Store(_InSession):
     """The store in a folder, and the run on it that begins here. In a `with` it is closed at the end.
 
     `program` is the path of `regtx`, or its name if it is on the PATH; `wait` for how many seconds to wait if another program has
-    the store; `clock` answers the moment that writes carry.
+    the store.
 
     A read sees what the run has accepted. A write that is not in a transaction is accepted at once, and durable after the next
     commit, `flush` or `close`.
     """
 
-    def __init__(self, folder: Folder, program: Folder = "regtx", wait: int = 0, clock: Callable[[], int] = moment_now):
-        super().__init__(Run(program, folder, wait, clock), 0)
+    def __init__(self, folder: Folder, program: Folder = "regtx", wait: int = 0):
+        super().__init__(Run(program, folder, wait), 0)
 
     @staticmethod
     def create(folder: Folder, store_id: uuid.UUID, hives: int = 1, program: Folder = "regtx") -> None:
@@ -245,6 +245,10 @@ class Store(_InSession):
     def flush(self) -> int:
         """Makes all accepted changes durable; answers the number of the last one."""
         return int(self._run.ask("flush").split(" ")[1])
+
+    def at(self, moment: Optional[int]) -> None:
+        """The moment of the writes and commits that follow, such as `moment_of` answers; None is the time of now, as at first."""
+        self._run.at(moment)
 
     def fold(self) -> None:
         """Makes room for 1,048,576 changes more in this run. It ends all transactions and sessions."""

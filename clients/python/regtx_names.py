@@ -65,9 +65,14 @@ def key_path(hive: int, *names: str) -> str:
     return f"{int(hive)}:" + "\\".join(names)
 
 
+def moment_of(when: datetime) -> int:
+    """A time as the registry counts it: 100 nanoseconds since 1601. A time without a zone is one of this machine's."""
+    return (when.astimezone(timezone.utc) - YEAR_1601) // timedelta(microseconds=1) * 10
+
+
 def moment_now() -> int:
-    """The time of now, as the registry counts it: 100 nanoseconds since 1601."""
-    return time.time_ns() // 100 + MOMENT_1970
+    """The millisecond of now, as the registry counts it."""
+    return time.time_ns() // 1_000_000 * 10_000 + MOMENT_1970
 
 
 @dataclass(frozen=True)

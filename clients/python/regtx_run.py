@@ -11,6 +11,7 @@ import weakref
 from typing import Callable, List, Optional, Set, Tuple, Union
 
 from regtx_errors import OtherProcess, RunEnded, ending, failure, last, refusal, shown
+from regtx_names import moment_now
 
 Folder = Union[str, "os.PathLike[str]"]
 # the greatest numbers that lines and the program's words can carry
@@ -22,7 +23,7 @@ class Run:
 
     NUMBER = re.compile(r"(?:created [0-9]+ )?accepted ([0-9]+)|(?:opened|committed|flushed|folded) ([0-9]+)")
 
-    def __init__(self, program: Folder, folder: Folder, wait: int, clock: Callable[[], int]):
+    def __init__(self, program: Folder, folder: Folder, wait: int):
         # a process group of its own: Ctrl-C is for the caller, who can still roll back and close then
         self._child = subprocess.Popen([*_command(program, wait), "run", os.path.abspath(folder), "/dev/stdin"],
                                        stdin=subprocess.PIPE, stdout=subprocess.PIPE, start_new_session=True)
@@ -31,8 +32,9 @@ class Run:
         weakref.finalize(self, _drop, self._child, self._process)
         # one thread at a time has the pipe, and what is sent before a line for its sake
         self.lock = threading.RLock()
-        # the session and the moment that the program has; -1 if that isn't known
-        self._clock, self._moment, self._session = clock, 0, 0
+        # the session and the moment that the program has; -1 if that isn't known. The moment that was chosen, if one was
+        self._session, self._moment = 0, 0
+        self._chosen: Optional[int] = None
         # why no line can be sent any more
         self._over: Optional[str] = None
         self._was_refused = self._is_interrupted = self._is_closed = False
@@ -82,7 +84,7 @@ class Run:
             if session is not None:
                 self.enter(session)
             if writes:
-                self._set_moment(self._clock())
+                self._set_moment(moment_now() if self._chosen is None else self._chosen)
             return self._send(line)
 
     def enter(self, session: int) -> None:
@@ -92,9 +94,15 @@ class Run:
             self._send(f"session {session}")
             self._session = session
 
-    def _set_moment(self, moment: int) -> None:
-        if not 0 <= moment <= MOST_MOMENT:
+    def at(self, moment: Optional[int]) -> None:
+        """Chooses the moment of later writes; None is the time of now."""
+        if moment is not None and not 0 <= moment <= MOST_MOMENT:
             raise ValueError(f"a moment is a number of 64 bits, and not {moment}")
+        self.check_process()
+        with self.lock:
+            self._chosen = moment
+
+    def _set_moment(self, moment: int) -> None:
         if moment != self._moment:
             self._moment = -1
             self._send(f"at {moment}")
