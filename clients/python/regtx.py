@@ -14,12 +14,13 @@ that of the default value.
 from __future__ import annotations
 
 import os
+import time
 import uuid
-from typing import List, Optional, Sequence
+from typing import Callable, List, Optional, Sequence, Tuple
 
 from regtx_errors import (  # noqa: F401
-    BadName, CannotOpen, CommandFailed, CommitUnknown, Conflict, DecodeError, DiskFault, Faulted, HasSubkeys, HistoryFull,
-    HiveDamaged, JournalDamaged, NoMemory, NotActive, NotFound, OtherProcess, Refused, RegtxError, RunEnded, ScopeEnded,
+    BadName, CannotMake, CannotOpen, CommandFailed, CommitUnknown, Conflict, DecodeError, DiskFault, Faulted, HasSubkeys,
+    HistoryFull, HiveDamaged, JournalDamaged, NoMemory, NotActive, NotFound, OtherProcess, Refused, RegtxError, RunEnded, ScopeEnded,
     TooLarge, Unsupported)
 from regtx_names import KeyInfo, key_path, key_word, moment_of, read_name, unit_word, value_name_word
 from regtx_run import Folder, Run, carry_out
@@ -69,6 +70,30 @@ class _Requests:
         """The names of the key's values, in the same order."""
         return [read_name(word) for word in self._ask(f"values {key_word(key)}").split(" ")[2:]]
 
+    def items(self, key: str) -> List[Tuple[str, Value]]:
+        """The key's values, each with its name before it, in the order of `value_names`."""
+        return [(name, self.get_value(key, name)) for name in self.value_names(key)]
+
+    def walk(self, key: str) -> List[str]:
+        """The key and all keys below it, each before those below it, siblings in the order of `subkeys`."""
+        found, left = [], [key]
+        while left:
+            each = left.pop()
+            found.append(each)
+            above = f"{each}\\" if each.partition(":")[2] else each
+            left += [above + name for name in reversed(self.subkeys(each))]
+        return found
+
+    def delete_tree(self, key: str) -> int:
+        """Deletes the key with all below it, in one transaction; answers how many keys were deleted.
+
+        In a transaction that is begun already, a refusal may come after some of them: roll it back then.
+        """
+        keys = self.walk(key)
+        for each in reversed(keys):
+            self.delete_key(each)
+        return len(keys)
+
     def key_info(self, key: str) -> KeyInfo:
         """How many subkeys and values the key has, and when it was written last."""
         return KeyInfo(*map(int, self._ask(f"info {key_word(key)}").split(" ")[1:]))
@@ -89,6 +114,28 @@ class _InSession(_Requests):
     def transaction(self, unit: Optional[uuid.UUID] = None) -> Transaction:
         """Begins a transaction for this unit of work, or for a new one; a scope that commits at its end, or rolls back."""
         return Transaction(self, uuid.uuid4() if unit is None else unit)
+
+    def delete_tree(self, key: str) -> int:
+        with self.transaction() as t:
+            return t.delete_tree(key)
+
+    def transact(self, work: Callable[[Transaction], object], unit: Optional[uuid.UUID] = None, tries: int = 10) -> int:
+        """Carries out work in a transaction, and commits; answers the number of the change, 0 if there were no writes.
+
+        If another writer is in the way (`Conflict`, `NotActive`), all of it is rolled back and tried again, so many times in all. It
+        waits a millisecond before the second time, and then twice as long each time, a tenth of a second at most.
+        """
+        for done in range(1, tries):
+            try:
+                return self._transact(work, unit)
+            except (Conflict, NotActive):
+                time.sleep(min(0.0005 * 2 ** done, 0.1))
+        return self._transact(work, unit)
+
+    def _transact(self, work: Callable[[Transaction], object], unit: Optional[uuid.UUID]) -> int:
+        with self.transaction(unit) as t:
+            work(t)
+        return t.number
 
 
 class Transaction(_Requests):
@@ -132,6 +179,11 @@ class Transaction(_Requests):
         finally:
             self._free()
         return self.number
+
+    def is_active(self) -> bool:
+        """Whether it is active: a write alone that conflicts with it rolls it back."""
+        self._check()
+        return self._session._ask(f"outcome {self._label}") == "active"
 
     def rollback(self) -> None:
         """Drops the transaction's writes."""
@@ -225,6 +277,11 @@ class Store(_InSession):
         carry_out(program, "upgrade", os.path.abspath(old), os.path.abspath(new))
 
     @property
+    def opened_at(self) -> int:
+        """The number of the store's last change when it was opened."""
+        return self._run.opened_at
+
+    @property
     def number(self) -> int:
         """The number of the last change that a reply has told of."""
         return self._run.number
@@ -250,9 +307,9 @@ class Store(_InSession):
         """The moment of the writes and commits that follow, such as `moment_of` answers; None is the time of now, as at first."""
         self._run.at(moment)
 
-    def fold(self) -> None:
-        """Makes room for 1,048,576 changes more in this run. It ends all transactions and sessions."""
-        self._run.fold()
+    def fold(self) -> int:
+        """Makes room for 1,048,576 changes more in this run; answers the last one's number. It ends all transactions and sessions."""
+        return self._run.fold()
 
     def session(self) -> Session:
         """Opens a session; a scope that ends it. At most 31 are open at once."""

@@ -109,6 +109,10 @@ class CannotOpen(CommandFailed):
     """The store is in use by another program, or its folder can't be opened."""
 
 
+class CannotMake(CommandFailed):
+    """The folder has a store, is in use by another program, or can't be made."""
+
+
 class RunEnded(RegtxError):
     """The run has ended, or can't be used any more.
 
@@ -169,4 +173,4 @@ def failure(printed: str, status: int) -> RegtxError:
         return refused
     if status < 0:
         return RunEnded(f"the program ended by {ending(status)}{last(printed)}", None, status)
-    return (CannotOpen if printed == "cannot open store" else CommandFailed)(printed, status)
+    return {"cannot open store": CannotOpen, "cannot make store": CannotMake}.get(printed, CommandFailed)(printed, status)

@@ -40,7 +40,7 @@ class Run:
         self._was_refused = self._is_interrupted = self._is_closed = False
         # of sessions and of labels, none of which is used again
         self.numbers = itertools.count(1)
-        self.number, self.folds = 0, 0
+        self.number = self.opened_at = self.folds = 0
         # units of work whose commit was sent, and may be there or not
         self.unknown: Set[uuid.UUID] = set()
         self._open()
@@ -51,6 +51,7 @@ class Run:
             reply = self._child.stdout.readline().decode(errors="replace")
             if reply.startswith("opened "):
                 self._note(reply.rstrip("\n"))
+                self.opened_at = self.number
                 return
         except BaseException:
             # it may wait for the store, and wouldn't see the end of its lines
@@ -108,11 +109,12 @@ class Run:
             self._send(f"at {moment}")
             self._moment = moment
 
-    def fold(self) -> None:
+    def fold(self) -> int:
         self.check_process()
         with self.lock:
-            self._send("fold")
+            reply = self._send("fold")
             self.folds += 1
+            return int(reply.split(" ")[1])
 
     def _send(self, line: str) -> str:
         if self._over is not None:
