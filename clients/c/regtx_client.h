@@ -46,9 +46,10 @@ enum {
 };
 #endif
 
+/* Failures of this client. regtx.h has none of these numbers, so one switch may have all codes. */
 enum {
     /* the run ended early: close the store, and open it again */
-    REGTX_ENDED = 100,
+    REGTX_ENDED = 200,
     /* the commit may be done or not: ask regtx_kept in a new run */
     REGTX_COMMIT_UNKNOWN,
     /* the folder is in use, isn't a folder, or can't be opened */

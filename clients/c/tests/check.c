@@ -165,6 +165,7 @@ int main(int words, char *word[])
     test_requests();
     test_transactions();
     test_runs();
+    test_codes();
     printf("%d passed, %d failed\n", passed, failed);
     return failed ? 1 : 0;
 }

@@ -49,5 +49,6 @@ void test_names(void);
 void test_requests(void);
 void test_transactions(void);
 void test_runs(void);
+void test_codes(void);
 
 #endif
