@@ -1,5 +1,5 @@
 /* A run of the program: its process, the lines that it is sent, and its replies. */
-#define _POSIX_C_SOURCE 200809L
+#define _GNU_SOURCE /* pipe2 */
 
 #include "regtx_run.h"
 
@@ -21,14 +21,26 @@ extern char **environ;
 /* the longest line without names and data */
 enum { SHORT_LINE = 96 };
 
-/* A pipe that later programs of the caller don't get. */
+/* A pipe that other programs of the caller don't get. */
 static int make_pipe(int ends[2])
 {
-    if (pipe(ends) != 0)
-        return REGTX_IO;
-    fcntl(ends[0], F_SETFD, FD_CLOEXEC);
-    fcntl(ends[1], F_SETFD, FD_CLOEXEC);
-    return REGTX_OK;
+    return pipe2(ends, O_CLOEXEC) == 0 ? REGTX_OK : REGTX_IO;
+}
+
+/* In a process group of its own, since Ctrl-C is for the caller, who can still flush and close. */
+static int spawn_by(posix_spawn_file_actions_t *actions, regtx_store *store, char *const words[])
+{
+    posix_spawnattr_t how;
+    int failed = posix_spawnattr_init(&how);
+    if (failed)
+        return failed;
+    failed = posix_spawnattr_setflags(&how, POSIX_SPAWN_SETPGROUP);
+    if (failed == 0)
+        failed = posix_spawnattr_setpgroup(&how, 0);
+    if (failed == 0)
+        failed = posix_spawnp(&store->child, words[0], actions, &how, words, environ);
+    posix_spawnattr_destroy(&how);
+    return failed;
 }
 
 static int spawn(regtx_store *store, char *const words[], int input, int output)
@@ -40,7 +52,7 @@ static int spawn(regtx_store *store, char *const words[], int input, int output)
         if (failed == 0)
             failed = posix_spawn_file_actions_adddup2(&actions, output, STDOUT_FILENO);
         if (failed == 0)
-            failed = posix_spawnp(&store->child, words[0], &actions, NULL, words, environ);
+            failed = spawn_by(&actions, store, words);
         posix_spawn_file_actions_destroy(&actions);
     }
     errno = failed;

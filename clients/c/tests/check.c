@@ -166,6 +166,7 @@ int main(int words, char *word[])
     test_transactions();
     test_runs();
     test_codes();
+    test_processes();
     printf("%d passed, %d failed\n", passed, failed);
     return failed ? 1 : 0;
 }

@@ -50,5 +50,6 @@ void test_requests(void);
 void test_transactions(void);
 void test_runs(void);
 void test_codes(void);
+void test_processes(void);
 
 #endif
