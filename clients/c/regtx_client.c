@@ -136,8 +136,9 @@ static int release(regtx_store *store, regtx_tx tx)
 /* Whether a commit that is answered so was surely not done. */
 static bool is_surely_refused(int code)
 {
-    return code > REGTX_OK && code <= REGTX_FIXED && code != REGTX_NO_MEMORY
-           && code != REGTX_DISK_FAULT && code != REGTX_FAULTED;
+    return code == REGTX_OTHER_PROCESS
+           || (code > REGTX_OK && code <= REGTX_FIXED && code != REGTX_NO_MEMORY
+               && code != REGTX_DISK_FAULT && code != REGTX_FAULTED);
 }
 
 int regtx_commit(regtx_store *store, regtx_tx tx, uint64_t *number)

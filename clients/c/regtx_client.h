@@ -3,7 +3,7 @@
  *
  * Every call answers a code: REGTX_OK, a refusal of the store, or a failure of this client. A
  * refusal changes nothing. Beside those that a call names, each may answer REGTX_NO_MEMORY,
- * REGTX_ENDED, REGTX_CLIENT_MEMORY, REGTX_IO and REGTX_REPLY. What points to a result may be NULL
+ * REGTX_ENDED, REGTX_CLIENT_MEMORY, REGTX_IO, REGTX_REPLY and REGTX_OTHER_PROCESS. What points to a result may be NULL
  * where it says so.
  *
  * A store takes one call at a time: threads that share one take turns by a lock of their own. Two
@@ -67,7 +67,9 @@ enum {
     /* the system refused to start the program, or to pass lines; errno says why */
     REGTX_IO,
     /* the program printed something else than a reply */
-    REGTX_REPLY
+    REGTX_REPLY,
+    /* another process opened the store, such as the one that was forked; nothing was sent */
+    REGTX_OTHER_PROCESS
 };
 
 /* The text of a code, such as "E2 NotFound"; of static storage. */
@@ -107,7 +109,8 @@ int regtx_open(const char *program, const char *folder, unsigned wait_seconds, r
 /* Rolls back what isn't committed, makes all changes durable, moves them into the hives' files, and
  * frees the store, whatever is answered. REGTX_ENDED, if the run had ended or was killed; or what
  * was refused at its end, such as REGTX_DISK_FAULT. Refusals that calls were answered are no
- * failure. NULL is closed already. */
+ * failure. NULL is closed already. In another process than the one that opened the store, this frees
+ * its copy, and the run goes on: REGTX_OK. The run doesn't end before each such copy is gone. */
 int regtx_close(regtx_store *store);
 
 /* The number of the store's last change when it was opened; 0 if there was none. */

@@ -83,6 +83,7 @@ static int start(regtx_store *store, char *const words[])
         close_both(script[1], replies[0]);
     store->script = script[1];
     store->replies = replies[0];
+    store->maker = getpid();
     return code;
 }
 
@@ -169,6 +170,9 @@ int regtx_refusal_of(const char *line)
 
 int regtx_exchange(regtx_store *store, const char *line, size_t size)
 {
+    /* two processes would read each other's replies */
+    if (store->maker != getpid())
+        return REGTX_OTHER_PROCESS;
     if (store->broken)
         return store->broken;
     int code = write_line(store, line, size);
@@ -219,7 +223,8 @@ static int judge_end(const regtx_store *store, int status, int last)
     return is_well ? REGTX_OK : REGTX_ENDED;
 }
 
-int regtx_end(regtx_store *store)
+/* Ends the script, reads what is left, and waits for the program's end. */
+static int end_run(regtx_store *store)
 {
     int last = REGTX_OK, status = 0, code;
     close(store->script);
@@ -232,9 +237,17 @@ int regtx_end(regtx_store *store)
     close(store->replies);
     int reaped = reap(store, &status);
     if (store->broken || reaped)
-        code = store->broken ? store->broken : reaped;
+        return store->broken ? store->broken : reaped;
+    return code != REGTX_ENDED ? code : judge_end(store, status, last);
+}
+
+int regtx_end(regtx_store *store)
+{
+    int code = REGTX_OK;
+    if (store->maker == getpid())
+        code = end_run(store);
     else
-        code = code != REGTX_ENDED ? code : judge_end(store, status, last);
+        close_both(store->script, store->replies);
     free(store->text);
     free(store);
     return code;

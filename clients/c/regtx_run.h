@@ -10,7 +10,7 @@
 enum { SESSIONS = 32, TRANSACTIONS = 1024, NO_SESSION = SESSIONS };
 
 struct regtx_store {
-    pid_t child;
+    pid_t child, maker; /* the program, and the process that opened the store */
     int script, replies; /* pipes */
     char *text;          /* what was read: a reply, its end as a zero, and what came behind it */
     size_t room, used, line;
@@ -30,7 +30,7 @@ struct regtx_store {
  */
 int regtx_launch(char *words[], size_t place, const char *folder, regtx_store **store);
 
-/* Ends the script, reads what is left, waits for the program's end, and frees the store. */
+/* Ends the run, and frees the store. In another process than its maker's it frees a copy alone. */
 int regtx_end(regtx_store *store);
 
 /* Reads a line, which is store->text then. Half a line is none: the run was killed in its midst. */

@@ -43,13 +43,14 @@ static const char *const failures[] = {
     "no memory",
     "the system refused",
     "not a reply",
+    "another process opened the store",
 };
 
 const char *regtx_client_text(int code)
 {
     if (code >= REGTX_OK && code <= REGTX_FIXED)
         return refusals[code];
-    if (code >= REGTX_ENDED && code <= REGTX_REPLY)
+    if (code >= REGTX_ENDED && code <= REGTX_OTHER_PROCESS)
         return failures[code - REGTX_ENDED];
     return "no code";
 }

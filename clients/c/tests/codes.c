@@ -51,6 +51,7 @@ static const char *header_of(int code)
     case REGTX_CLIENT_MEMORY:
     case REGTX_IO:
     case REGTX_REPLY:
+    case REGTX_OTHER_PROCESS:
         return "client";
     default:
         return "none";
