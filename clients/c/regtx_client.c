@@ -41,6 +41,7 @@ int regtx_open(const char *program, const char *folder, unsigned wait_seconds, r
     if (code)
         return code;
     (*store)->sessions[REGTX_FIRST_SESSION] = true;
+    (*store)->chosen = REGTX_NOW;
     code = regtx_read_line(*store);
     if (code == REGTX_OK)
         code = regtx_refusal_of((*store)->text);
@@ -144,6 +145,11 @@ static bool is_surely_refused(int code)
 int regtx_commit(regtx_store *store, regtx_tx tx, uint64_t *number)
 {
     int code = regtx_enter_transaction(store, tx);
+    if (code == REGTX_OK)
+        code = regtx_stamp(store);
+    /* a commit that isn't sent isn't done */
+    if (code == REGTX_OK)
+        code = store->broken;
     if (code == REGTX_OK) {
         code = regtx_ask(store, "commit %" PRIu32 "\n", tx);
         if (code == REGTX_OK)
@@ -209,5 +215,6 @@ int regtx_fold(regtx_store *store, uint64_t *number)
 
 int regtx_at(regtx_store *store, uint64_t moment)
 {
-    return regtx_judge_ok(store, regtx_ask(store, "at %" PRIu64 "\n", moment));
+    store->chosen = moment;
+    return moment == REGTX_NOW ? REGTX_OK : regtx_stamp(store);
 }

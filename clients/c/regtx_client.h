@@ -3,8 +3,8 @@
  *
  * Every call answers a code: REGTX_OK, a refusal of the store, or a failure of this client. A
  * refusal changes nothing. Beside those that a call names, each may answer REGTX_NO_MEMORY,
- * REGTX_ENDED, REGTX_CLIENT_MEMORY, REGTX_IO, REGTX_REPLY and REGTX_OTHER_PROCESS. What points to a result may be NULL
- * where it says so.
+ * REGTX_ENDED, REGTX_CLIENT_MEMORY, REGTX_IO, REGTX_REPLY and REGTX_OTHER_PROCESS. What points to a
+ * result may be NULL where it says so.
  *
  * A store takes one call at a time: threads that share one take turns by a lock of their own. Two
  * stores are apart. SIGPIPE doesn't come of these calls. The caller doesn't wait for the store's
@@ -109,8 +109,8 @@ int regtx_open(const char *program, const char *folder, unsigned wait_seconds, r
 /* Rolls back what isn't committed, makes all changes durable, moves them into the hives' files, and
  * frees the store, whatever is answered. REGTX_ENDED, if the run had ended or was killed; or what
  * was refused at its end, such as REGTX_DISK_FAULT. Refusals that calls were answered are no
- * failure. NULL is closed already. In another process than the one that opened the store, this frees
- * its copy, and the run goes on: REGTX_OK. The run doesn't end before each such copy is gone. */
+ * failure. NULL is closed already. In another process than the one that opened the store, this
+ * frees its copy, and the run goes on: REGTX_OK. The run ends once each such copy is gone. */
 int regtx_close(regtx_store *store);
 
 /* The number of the store's last change when it was opened; 0 if there was none. */
@@ -163,9 +163,14 @@ int regtx_flush(regtx_store *store, uint64_t *number);
  * gone, and all sessions but the first. The last change's number may be NULL. */
 int regtx_fold(regtx_store *store, uint64_t *number);
 
-/* The moment of the writes that follow, in units of 100 ns since 1601, UTC; 0 at first. A commit
- * takes the moment of its own. */
+/* Chooses the moment of the writes and commits that follow, in units of 100 ns since 1601, UTC.
+ * REGTX_NOW, as at first, is the millisecond of now. A transaction's keys have its commit's. */
 int regtx_at(regtx_store *store, uint64_t moment);
+
+#define REGTX_NOW UINT64_MAX
+
+/* The moment of a time in seconds since 1970, UTC. */
+uint64_t regtx_moment_of(int64_t seconds);
 
 /* Requests. A key is a hive's number and a path: names with one backslash between each two, empty
  * for the hive's root. Names are UTF-8, and of its characters the printable ones of ASCII alone are

@@ -18,7 +18,7 @@ struct request {
     uint8_t hive;
     const char *path;
     const char *name; /* of a value, or NULL */
-    bool has_value;
+    bool writes, has_value;
     uint32_t type;
     const unsigned char *data;
     size_t size;
@@ -104,6 +104,8 @@ static int ask_request(regtx_store *store, const struct request *asked)
         return REGTX_WRONG_NAME;
     int code = asked->tx == REGTX_ALONE ? regtx_enter(store, REGTX_FIRST_SESSION)
                                         : regtx_enter_transaction(store, asked->tx);
+    if (code == REGTX_OK && asked->writes)
+        code = regtx_stamp(store);
     if (code)
         return code;
     char *bytes = NULL;
@@ -132,8 +134,8 @@ static int read_accepted(const regtx_store *store, regtx_tx tx, uint64_t *number
 int regtx_create_key(regtx_store *store, regtx_tx tx, uint8_t hive, const char *path,
                      uint32_t *levels, uint64_t *number)
 {
-    int code = ask_request(
-        store, &(struct request){.tx = tx, .verb = "create", .hive = hive, .path = path});
+    struct request asked = {tx, "create", hive, path, .writes = true};
+    int code = ask_request(store, &asked);
     if (code)
         return code;
     const char *at = store->text;
@@ -158,8 +160,8 @@ int regtx_create_key(regtx_store *store, regtx_tx tx, uint8_t hive, const char *
 int regtx_delete_key(regtx_store *store, regtx_tx tx, uint8_t hive, const char *path,
                      uint64_t *number)
 {
-    int code = ask_request(
-        store, &(struct request){.tx = tx, .verb = "delete", .hive = hive, .path = path});
+    struct request asked = {tx, "delete", hive, path, .writes = true};
+    int code = ask_request(store, &asked);
     return code ? code : read_accepted(store, tx, number);
 }
 
@@ -167,7 +169,7 @@ int regtx_set_value(regtx_store *store, regtx_tx tx, uint8_t hive, const char *p
                     const char *name, uint32_t type, const void *data, size_t size,
                     uint64_t *number)
 {
-    struct request asked = {tx, "set", hive, path, name, true, type, data, size};
+    struct request asked = {tx, "set", hive, path, name, true, true, type, data, size};
     int code = ask_request(store, &asked);
     return code ? code : read_accepted(store, tx, number);
 }
@@ -175,7 +177,7 @@ int regtx_set_value(regtx_store *store, regtx_tx tx, uint8_t hive, const char *p
 int regtx_delete_value(regtx_store *store, regtx_tx tx, uint8_t hive, const char *path,
                        const char *name, uint64_t *number)
 {
-    struct request asked = {.tx = tx, .verb = "unset", .hive = hive, .path = path, .name = name};
+    struct request asked = {tx, "unset", hive, path, name, .writes = true};
     int code = ask_request(store, &asked);
     return code ? code : read_accepted(store, tx, number);
 }

@@ -14,6 +14,7 @@
 #include <stdlib.h>
 #include <string.h>
 #include <sys/wait.h>
+#include <time.h>
 #include <unistd.h>
 
 extern char **environ;
@@ -316,6 +317,25 @@ int regtx_enter(regtx_store *store, uint32_t session)
     int code = regtx_judge_ok(store, regtx_ask(store, "session %" PRIu32 "\n", session));
     if (code == REGTX_OK)
         store->current = session;
+    return code;
+}
+
+/* The millisecond of now. */
+static uint64_t now(void)
+{
+    struct timespec time;
+    clock_gettime(CLOCK_REALTIME, &time);
+    return regtx_moment_of(time.tv_sec) + (uint64_t)time.tv_nsec / 1000000 * 10000;
+}
+
+int regtx_stamp(regtx_store *store)
+{
+    uint64_t moment = store->chosen == REGTX_NOW ? now() : store->chosen;
+    if (moment == store->moment)
+        return REGTX_OK;
+    int code = regtx_judge_ok(store, regtx_ask(store, "at %" PRIu64 "\n", moment));
+    if (code == REGTX_OK)
+        store->moment = moment;
     return code;
 }
 

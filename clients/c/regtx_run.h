@@ -10,7 +10,7 @@
 enum { SESSIONS = 32, TRANSACTIONS = 1024, NO_SESSION = SESSIONS };
 
 struct regtx_store {
-    pid_t child, maker; /* the program, and the process that opened the store */
+    pid_t child, maker;  /* the program, and the process that opened the store */
     int script, replies; /* pipes */
     char *text;          /* what was read: a reply, its end as a zero, and what came behind it */
     size_t room, used, line;
@@ -24,6 +24,7 @@ struct regtx_store {
         uint32_t session;
     } transactions[TRANSACTIONS];
     uint64_t opened_at;
+    uint64_t chosen, moment; /* of writes: what regtx_at chose, and what the program has */
 };
 
 /* A store whose program has been started by these words; the folder stands in a place that is NULL.
@@ -51,6 +52,9 @@ int regtx_enter(regtx_store *store, uint32_t session);
 
 /* Makes a transaction's session the current one. */
 int regtx_enter_transaction(regtx_store *store, regtx_tx tx);
+
+/* Tells the program the moment of a write, unless it has it. */
+int regtx_stamp(regtx_store *store);
 
 bool regtx_is_there(const regtx_store *store, regtx_tx tx);
 

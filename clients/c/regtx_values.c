@@ -55,6 +55,12 @@ const char *regtx_client_text(int code)
     return "no code";
 }
 
+uint64_t regtx_moment_of(int64_t seconds)
+{
+    /* from 1601 to 1970 there are 134,774 days */
+    return (uint64_t)(seconds + INT64_C(134774) * 86400) * 10000000;
+}
+
 static bool is_hyphen_at(size_t at)
 {
     return at == 8 || at == 13 || at == 18 || at == 23;

@@ -117,13 +117,13 @@ const char *shell_script(const char *lines)
 regtx_store *fake(const char *replies, const char *end)
 {
     char lines[TEXT];
-    snprintf(
-        lines, sizeof lines,
-        "echo 'opened 0'\n"
-        "while IFS= read -r reply <&3; do read -r line; printf '%%s\\n' \"$reply\"; done 3<<'END'\n"
-        "%sEND\n"
-        "while read -r line; do :; done\n%s",
-        replies, end);
+    snprintf(lines, sizeof lines,
+             "echo 'opened 0'\n"
+             "next() { read -r line; case $line in 'at '*) echo ok; read -r line;; esac; }\n"
+             "while IFS= read -r reply <&3; do next; printf '%%s\\n' \"$reply\"; done 3<<'END'\n"
+             "%sEND\n"
+             "while read -r line; do :; done\n%s",
+             replies, end);
     regtx_store *store;
     need(regtx_open(shell_script(lines), "none", 0, &store), "fake");
     return store;

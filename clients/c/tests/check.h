@@ -34,7 +34,7 @@ bool prints(const char *command, const char *printed);
 const char *shell_script(const char *lines);
 
 /* The store of a program that answers lines by these replies, each with a line's end, and then
- * carries out a command once no line comes any more. */
+ * carries out a command once no line comes any more. A line that tells the time is always `ok`. */
 regtx_store *fake(const char *replies, const char *end);
 
 /* The newest store by a run that kill_run ends. */

@@ -1,4 +1,5 @@
-/* Codes: this client's and those of the library for hives in memory stand beside each other in one program. */
+/* Codes: this client's and those of the library for hives in memory stand beside each other in one
+ * program. */
 #include "../../../crates/regtx_c/regtx.h"
 #include "check.h"
 

@@ -79,9 +79,9 @@ static int misread(regtx_store *store)
         unsigned char data[4];
         size_t size = sizeof data;
         uint32_t number = 0;
-        wrong += regtx_get_value(store, REGTX_ALONE, 0, "Software", "v", NULL, data, &size)
-                     != REGTX_OK
-                 || regtx_to_dword(data, size, &number) != REGTX_OK || number != 7;
+        wrong +=
+            regtx_get_value(store, REGTX_ALONE, 0, "Software", "v", NULL, data, &size) != REGTX_OK
+            || regtx_to_dword(data, size, &number) != REGTX_OK || number != 7;
     }
     return wrong;
 }

@@ -5,6 +5,7 @@
 
 #include <stdio.h>
 #include <string.h>
+#include <time.h>
 
 static void writes_answer_their_numbers(void)
 {
@@ -48,6 +49,41 @@ static void reads_tell_what_is_there(void)
     CHECK(size == 0 && count == 0);
     CHECK(regtx_close(store) == REGTX_OK);
     CHECK(answers("info 0:Software\n", "info 0 2 133536384000000000\n"));
+}
+
+static uint64_t written(regtx_store *store, const char *path)
+{
+    regtx_key_info info = {0, 0, 99};
+    CHECK(regtx_query_info(store, REGTX_ALONE, 0, path, &info) == REGTX_OK);
+    return info.written;
+}
+
+/* A write has the time of now, or the one that was chosen. */
+static void writes_tell_the_time(void)
+{
+    enum { MOMENT = 7 };
+    regtx_store *store = new_store();
+    regtx_uuid uuid = unit(1);
+    regtx_tx tx = 0;
+    for (int round = 0; round < 2; round++) {
+        uint64_t before = regtx_moment_of(time(NULL));
+        CHECK(set_number(store, REGTX_ALONE, "v", 1) == REGTX_OK);
+        CHECK(before <= written(store, "Software"));
+        CHECK(written(store, "Software") <= regtx_moment_of(time(NULL) + 1));
+        CHECK(regtx_at(store, MOMENT) == REGTX_OK);
+        CHECK(set_number(store, REGTX_ALONE, "v", 2) == REGTX_OK);
+        CHECK(written(store, "Software") == MOMENT);
+        CHECK(regtx_at(store, REGTX_NOW) == REGTX_OK);
+    }
+    CHECK(regtx_at(store, MOMENT) == REGTX_OK);
+    CHECK(regtx_begin(store, REGTX_FIRST_SESSION, &uuid, &tx) == REGTX_OK);
+    CHECK(set_number(store, tx, "v", 3) == REGTX_OK && regtx_at(store, REGTX_NOW) == REGTX_OK);
+    CHECK(regtx_commit(store, tx, NULL) == REGTX_OK && written(store, "Software") > MOMENT);
+    CHECK(regtx_at(store, 0) == REGTX_OK && set_number(store, REGTX_ALONE, "v", 4) == REGTX_OK);
+    CHECK(written(store, "Software") == 0);
+    /* 2024-02-29 00:00:00 UTC */
+    CHECK(regtx_moment_of(1709164800) == 133536384000000000 && regtx_moment_of(-11644473600) == 0);
+    CHECK(regtx_close(store) == REGTX_OK);
 }
 
 static void refusals_change_nothing(void)
@@ -153,6 +189,7 @@ void test_requests(void)
 {
     writes_answer_their_numbers();
     reads_tell_what_is_there();
+    writes_tell_the_time();
     refusals_change_nothing();
     each_refusal_has_its_code();
     damaged_stores_are_refused();

@@ -86,6 +86,8 @@ static void a_commit_without_an_answer_is_unknown(void)
     regtx_store *store = open_to_kill();
     CHECK(regtx_begin(store, REGTX_FIRST_SESSION, &uuid, &tx) == REGTX_OK);
     CHECK(set_number(store, tx, "v", 1) == REGTX_OK);
+    /* its moment is known, so that no other line is sent before the commit */
+    CHECK(regtx_at(store, 7) == REGTX_OK);
     kill_run();
     CHECK(regtx_commit(store, tx, NULL) == REGTX_COMMIT_UNKNOWN
           && regtx_cause(store) == REGTX_ENDED);
@@ -93,6 +95,19 @@ static void a_commit_without_an_answer_is_unknown(void)
     store = open_again();
     CHECK(regtx_kept(store, &uuid, NULL) == REGTX_NOT_FOUND);
     CHECK(regtx_close(store) == REGTX_OK);
+}
+
+static void a_commit_that_is_not_sent_is_not_done(void)
+{
+    regtx_uuid uuid = unit(7);
+    regtx_tx tx = 0;
+    CHECK(regtx_close(new_store()) == REGTX_OK);
+    regtx_store *store = open_to_kill();
+    CHECK(regtx_begin(store, REGTX_FIRST_SESSION, &uuid, &tx) == REGTX_OK);
+    CHECK(set_number(store, tx, "v", 1) == REGTX_OK);
+    kill_run();
+    CHECK(regtx_flush(store, NULL) == REGTX_ENDED);
+    CHECK(regtx_commit(store, tx, NULL) == REGTX_ENDED && regtx_close(store) == REGTX_ENDED);
 }
 
 static void some_refusals_leave_a_commit_unknown(void)
@@ -152,13 +167,16 @@ static void replies_are_read_whole(void)
         CHECK(regtx_close(store) == REGTX_OK);
     }
     /* half a reply, of a run that was killed in the midst of it; and a zero in one */
-    CHECK(regtx_open(shell_script("echo 'opened 0'; read -r line; printf 'accepted 1'"), "none", 0,
-                     &store)
+    CHECK(regtx_open(shell_script(
+                         "echo 'opened 0'; read -r at; echo ok; read -r line; printf 'accepted 1'"),
+                     "none", 0, &store)
           == REGTX_OK);
     CHECK(set_number(store, REGTX_ALONE, "v", 1) == REGTX_ENDED
           && regtx_close(store) == REGTX_ENDED);
-    CHECK(regtx_open(shell_script("echo 'opened 0'; read -r line; printf 'accepted 1\\0\\n'"),
-                     "none", 0, &store)
+    CHECK(regtx_open(
+              shell_script(
+                  "echo 'opened 0'; read -r at; echo ok; read -r line; printf 'accepted 1\\0\\n'"),
+              "none", 0, &store)
           == REGTX_OK);
     CHECK(set_number(store, REGTX_ALONE, "v", 1) == REGTX_REPLY && regtx_close(store) == REGTX_OK);
 }
@@ -171,6 +189,7 @@ void test_runs(void)
     a_killed_run_has_ended();
     the_signal_of_the_pipe_is_kept_back();
     a_commit_without_an_answer_is_unknown();
+    a_commit_that_is_not_sent_is_not_done();
     some_refusals_leave_a_commit_unknown();
     the_end_of_a_run_is_judged();
     replies_are_read_whole();
