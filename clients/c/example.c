@@ -65,7 +65,7 @@ static int install(regtx_store *store, int part)
     regtx_uuid unit = unit_of(part);
     regtx_tx tx;
     uint64_t number;
-    int code = regtx_begin(store, REGTX_FIRST_SESSION, &unit, &tx);
+    int code = regtx_transaction(store, REGTX_FIRST_SESSION, &unit, &tx);
     if (code)
         return code;
     code = write_part(store, tx, part);
@@ -107,7 +107,7 @@ static int install_all(const char *program, const char *folder, int count)
 {
     regtx_store *store;
     /* the run of a program that was killed may not have ended yet */
-    int code = regtx_open(program, folder, 30, &store);
+    int code = regtx_open(folder, program, 30, &store);
     if (code)
         return code;
     code = install_missing(store, count);
@@ -119,7 +119,7 @@ static int run(const char *program, const char *folder, int count)
 {
     regtx_uuid id;
     regtx_uuid_parse("00112233-4455-6677-8899-aabbccddeeff", &id);
-    int code = access(folder, F_OK) == 0 ? REGTX_OK : regtx_create(program, folder, &id, 2);
+    int code = access(folder, F_OK) == 0 ? REGTX_OK : regtx_create(folder, &id, 2, program);
     for (int tries = 0; code == REGTX_OK && tries < TRIES; tries++) {
         code = install_all(program, folder, count);
         if (code != REGTX_ENDED && code != REGTX_COMMIT_UNKNOWN)

@@ -12,41 +12,19 @@
 /* room for a number of 32 bits as text */
 enum { DIGITS = 11 };
 
-int regtx_create(const char *program, const char *folder, const regtx_uuid *id, unsigned hives)
-{
-    char uuid[REGTX_UUID_TEXT], count[DIGITS];
-    regtx_uuid_print(id, uuid);
-    snprintf(count, sizeof count, "%u", hives);
-    char *words[] = {(char *)program, "new", NULL, uuid, count, NULL};
-    regtx_store *store;
-    int code = regtx_launch(words, 2, folder, &store);
-    if (code)
-        return code;
-    code = regtx_read_line(store);
-    if (code == REGTX_OK)
-        code = regtx_refusal_of(store->text);
-    if (code == REGTX_OK && strcmp(store->text, "cannot make store") == 0)
-        code = REGTX_CANNOT_MAKE;
-    code = regtx_judge_ok(store, code);
-    int ended = regtx_end(store);
-    return code ? code : ended;
-}
-
-int regtx_open(const char *program, const char *folder, unsigned wait_seconds, regtx_store **store)
+int regtx_open(const char *folder, const char *program, unsigned wait_seconds, regtx_store **store)
 {
     char seconds[DIGITS];
     snprintf(seconds, sizeof seconds, "%u", wait_seconds);
-    char *words[] = {(char *)program, "wait", seconds, "run", NULL, "/dev/stdin", NULL};
-    int code = regtx_launch(words, 4, folder, store);
+    const char *words[] = {program, "wait", seconds, "run", folder, "/dev/stdin", NULL};
+    int code = regtx_launch(words, 4, 1, store);
     if (code)
         return code;
     (*store)->sessions[REGTX_FIRST_SESSION] = true;
     (*store)->chosen = REGTX_NOW;
     code = regtx_read_line(*store);
     if (code == REGTX_OK)
-        code = regtx_refusal_of((*store)->text);
-    if (code == REGTX_OK && strcmp((*store)->text, "cannot open store") == 0)
-        code = REGTX_CANNOT_OPEN;
+        code = regtx_failure_of((*store)->text);
     if (code == REGTX_OK)
         code = regtx_read_number(*store, "opened", &(*store)->opened_at);
     if (code) {
@@ -73,7 +51,7 @@ static bool is_open(const regtx_store *store, uint32_t session)
     return session < SESSIONS && store->sessions[session];
 }
 
-int regtx_session_open(regtx_store *store, uint32_t *session)
+int regtx_session(regtx_store *store, uint32_t *session)
 {
     uint32_t free_one = 0;
     while (free_one < SESSIONS && store->sessions[free_one])
@@ -101,7 +79,7 @@ int regtx_session_end(regtx_store *store, uint32_t session)
     return regtx_judge_ok(store, regtx_ask(store, "end %" PRIu32 "\n", session));
 }
 
-int regtx_begin(regtx_store *store, uint32_t session, const regtx_uuid *unit, regtx_tx *tx)
+int regtx_transaction(regtx_store *store, uint32_t session, const regtx_uuid *unit, regtx_tx *tx)
 {
     char uuid[REGTX_UUID_TEXT];
     uint32_t place = 0;

@@ -69,7 +69,9 @@ enum {
     /* the program printed something else than a reply */
     REGTX_REPLY,
     /* another process opened the store, such as the one that was forked; nothing was sent */
-    REGTX_OTHER_PROCESS
+    REGTX_OTHER_PROCESS,
+    /* a hive's file can't be read */
+    REGTX_CANNOT_READ
 };
 
 /* The text of a code, such as "E2 NotFound"; of static storage. */
@@ -95,16 +97,28 @@ int regtx_uuid_random(regtx_uuid *uuid);
 /* A store that is open. No other program uses it meanwhile. */
 typedef struct regtx_store regtx_store;
 
+/* The program is named by its path, or looked for on the PATH if its name has no slash; NULL is
+ * "regtx". */
+
 /* Makes a store of 1 to 16 empty hives in a folder; not the folders above it. Each store needs an
  * id of its own. Hive files that lie there without a journal are written over. REGTX_CANNOT_MAKE,
- * REGTX_DISK_FAULT; REGTX_REPLY, if there are other numbers of hives. The program is looked for on
- * the path if its name has no slash. */
-int regtx_create(const char *program, const char *folder, const regtx_uuid *id, unsigned hives);
+ * REGTX_DISK_FAULT; REGTX_REPLY, if there are other numbers of hives. */
+int regtx_create(const char *folder, const regtx_uuid *id, unsigned hives, const char *program);
+
+/* Makes a store of copies of so many clean hives, 1 to 16: hive 0 is a copy of the first file.
+ * REGTX_CANNOT_READ, REGTX_CANNOT_MAKE, REGTX_HIVE_DAMAGED, REGTX_UNSUPPORTED, REGTX_TOO_LARGE,
+ * REGTX_DISK_FAULT; REGTX_REPLY, if there are other numbers of files. */
+int regtx_import_files(const char *folder, const regtx_uuid *id, const char *const files[],
+                       size_t count, const char *program);
+
+/* Copies a store of the first layout to one that keeps outcomes of commits. REGTX_CANNOT_OPEN,
+ * REGTX_CANNOT_MAKE; REGTX_UNSUPPORTED, if the old one keeps them already; and as regtx_open. */
+int regtx_upgrade(const char *old_folder, const char *new_folder, const char *program);
 
 /* Opens the store in a folder, and repairs it if its last run was killed. Waits so many seconds, up
  * to 86,400, for a store that is in use. REGTX_CANNOT_OPEN, REGTX_DISK_FAULT, REGTX_HIVE_DAMAGED,
  * REGTX_JOURNAL_DAMAGED; *store is NULL after each failure. */
-int regtx_open(const char *program, const char *folder, unsigned wait_seconds, regtx_store **store);
+int regtx_open(const char *folder, const char *program, unsigned wait_seconds, regtx_store **store);
 
 /* Rolls back what isn't committed, makes all changes durable, moves them into the hives' files, and
  * frees the store, whatever is answered. REGTX_ENDED, if the run had ended or was killed; or what
@@ -124,7 +138,7 @@ enum { REGTX_ALONE = 0, REGTX_FIRST_SESSION = 0 };
 
 /* Opens a session, for transactions of its own. REGTX_FIRST_SESSION is open always. REGTX_NO_SEAT,
  * if 32 are open. */
-int regtx_session_open(regtx_store *store, uint32_t *session);
+int regtx_session(regtx_store *store, uint32_t *session);
 
 /* Ends a session, and rolls back its transactions, which are gone. REGTX_NO_SUCH_HANDLE, if it
  * isn't open, or is the first. */
@@ -132,7 +146,7 @@ int regtx_session_end(regtx_store *store, uint32_t session);
 
 /* Begins a transaction in a session, for a unit of work. REGTX_NO_SUCH_HANDLE; REGTX_NO_SEAT, if
  * 1,024 are there. */
-int regtx_begin(regtx_store *store, uint32_t session, const regtx_uuid *unit, regtx_tx *tx);
+int regtx_transaction(regtx_store *store, uint32_t session, const regtx_uuid *unit, regtx_tx *tx);
 
 /* Commits, and returns when the change is durable: its number, 0 if there were no writes. The
  * number may be NULL. The transaction is gone, and rolled back after a refusal: REGTX_TOO_LARGE,
@@ -210,20 +224,20 @@ int regtx_get_value(regtx_store *store, regtx_tx tx, uint8_t hive, const char *p
 /* The names of a key's subkeys, or of its values, in the order of their folded units: in UTF-8, a
  * zero behind each, one after another; a unit that is no UTF-16 is U+FFFD. The count may be NULL.
  * REGTX_NOT_FOUND, REGTX_TOO_SMALL. */
-int regtx_list_keys(regtx_store *store, regtx_tx tx, uint8_t hive, const char *path, char *names,
-                    size_t *size, size_t *count);
-int regtx_list_values(regtx_store *store, regtx_tx tx, uint8_t hive, const char *path, char *names,
+int regtx_subkeys(regtx_store *store, regtx_tx tx, uint8_t hive, const char *path, char *names,
+                  size_t *size, size_t *count);
+int regtx_value_names(regtx_store *store, regtx_tx tx, uint8_t hive, const char *path, char *names,
                       size_t *size, size_t *count);
 
 /* What a key has; the time of its last write is in units of 100 ns since 1601, UTC. */
-typedef struct {
+struct regtx_key_info {
     uint32_t subkeys, values;
     uint64_t written;
-} regtx_key_info;
+};
 
 /* REGTX_NOT_FOUND. */
-int regtx_query_info(regtx_store *store, regtx_tx tx, uint8_t hive, const char *path,
-                     regtx_key_info *info);
+int regtx_key_info(regtx_store *store, regtx_tx tx, uint8_t hive, const char *path,
+                   struct regtx_key_info *info);
 
 /* Types of values. Any other number is a type as well. */
 enum {

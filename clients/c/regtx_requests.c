@@ -270,22 +270,22 @@ static int list(regtx_store *store, const struct request *asked, char *names, si
     return regtx_told(&to, size);
 }
 
-int regtx_list_keys(regtx_store *store, regtx_tx tx, uint8_t hive, const char *path, char *names,
-                    size_t *size, size_t *count)
+int regtx_subkeys(regtx_store *store, regtx_tx tx, uint8_t hive, const char *path, char *names,
+                  size_t *size, size_t *count)
 {
     struct request asked = {.tx = tx, .verb = "keys", .hive = hive, .path = path};
     return list(store, &asked, names, size, count);
 }
 
-int regtx_list_values(regtx_store *store, regtx_tx tx, uint8_t hive, const char *path, char *names,
+int regtx_value_names(regtx_store *store, regtx_tx tx, uint8_t hive, const char *path, char *names,
                       size_t *size, size_t *count)
 {
     struct request asked = {.tx = tx, .verb = "values", .hive = hive, .path = path};
     return list(store, &asked, names, size, count);
 }
 
-int regtx_query_info(regtx_store *store, regtx_tx tx, uint8_t hive, const char *path,
-                     regtx_key_info *info)
+int regtx_key_info(regtx_store *store, regtx_tx tx, uint8_t hive, const char *path,
+                   struct regtx_key_info *info)
 {
     int code =
         ask_request(store, &(struct request){.tx = tx, .verb = "info", .hive = hive, .path = path});
@@ -297,6 +297,6 @@ int regtx_query_info(regtx_store *store, regtx_tx tx, uint8_t hive, const char *
         || !regtx_take_number(&at, &values) || *at++ != ' ' || !regtx_take_number(&at, &written)
         || *at)
         return REGTX_REPLY;
-    *info = (regtx_key_info){(uint32_t)subkeys, (uint32_t)values, written};
+    *info = (struct regtx_key_info){(uint32_t)subkeys, (uint32_t)values, written};
     return REGTX_OK;
 }

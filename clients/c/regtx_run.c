@@ -169,6 +169,15 @@ int regtx_refusal_of(const char *line)
     return REGTX_OK;
 }
 
+int regtx_failure_of(const char *line)
+{
+    static const int told[] = {REGTX_CANNOT_OPEN, REGTX_CANNOT_MAKE, REGTX_CANNOT_READ};
+    for (size_t at = 0; at < sizeof told / sizeof told[0]; at++)
+        if (strcmp(line, regtx_client_text(told[at])) == 0)
+            return told[at];
+    return regtx_refusal_of(line);
+}
+
 int regtx_exchange(regtx_store *store, const char *line, size_t size)
 {
     /* two processes would read each other's replies */
@@ -254,23 +263,29 @@ int regtx_end(regtx_store *store)
     return code;
 }
 
-/* The folder as a word: one that begins with a hyphen isn't taken for an option so. */
-static char *folder_word(const char *folder)
+/* A copy of a file's name: one that begins with a hyphen isn't taken for an option so. */
+static char *file_word(const char *file)
 {
-    size_t size = strlen(folder) + 3;
+    size_t size = strlen(file) + 3;
     char *word = malloc(size);
     if (word)
-        snprintf(word, size, "%s%s", folder[0] == '-' ? "./" : "", folder);
+        snprintf(word, size, "%s%s", file[0] == '-' ? "./" : "", file);
     return word;
 }
 
-int regtx_launch(char *words[], size_t place, const char *folder, regtx_store **store)
+int regtx_launch(const char *words[], size_t place, size_t files, regtx_store **store)
 {
+    size_t copied = 0;
     *store = calloc(1, sizeof **store);
-    words[place] = folder_word(folder);
-    int code = *store && words[place] ? start(*store, words) : REGTX_CLIENT_MEMORY;
+    words[0] = words[0] ? words[0] : "regtx";
+    while (*store && copied < files
+           && (words[place + copied] = file_word(words[place + copied])) != NULL)
+        copied++;
+    /* the program's words are constant, though posix_spawn doesn't say so */
+    int code = *store && copied == files ? start(*store, (char **)words) : REGTX_CLIENT_MEMORY;
     int why = errno;
-    free(words[place]);
+    while (copied > 0)
+        free((char *)words[place + --copied]);
     if (code) {
         free(*store);
         *store = NULL;

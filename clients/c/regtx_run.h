@@ -27,9 +27,9 @@ struct regtx_store {
     uint64_t chosen, moment; /* of writes: what regtx_at chose, and what the program has */
 };
 
-/* A store whose program has been started by these words; the folder stands in a place that is NULL.
- */
-int regtx_launch(char *words[], size_t place, const char *folder, regtx_store **store);
+/* A store whose program has been started by these words, the first of which may be NULL. From a
+ * place on, so many of them name files. */
+int regtx_launch(const char *words[], size_t place, size_t files, regtx_store **store);
 
 /* Ends the run, and frees the store. In another process than its maker's it frees a copy alone. */
 int regtx_end(regtx_store *store);
@@ -39,6 +39,9 @@ int regtx_read_line(regtx_store *store);
 
 /* The refusal that a line tells; REGTX_OK, if it tells none. */
 int regtx_refusal_of(const char *line);
+
+/* The same, or what a line tells that isn't a reply to one, such as REGTX_CANNOT_OPEN. */
+int regtx_failure_of(const char *line);
 
 /* Sends a line, and reads its reply into store->text, unless it is a refusal, which is answered.
  * After a failure no line is sent any more. */

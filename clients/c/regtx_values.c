@@ -44,13 +44,14 @@ static const char *const failures[] = {
     "the system refused",
     "not a reply",
     "another process opened the store",
+    "cannot read file",
 };
 
 const char *regtx_client_text(int code)
 {
     if (code >= REGTX_OK && code <= REGTX_FIXED)
         return refusals[code];
-    if (code >= REGTX_ENDED && code <= REGTX_OTHER_PROCESS)
+    if (code >= REGTX_ENDED && code <= REGTX_CANNOT_READ)
         return failures[code - REGTX_ENDED];
     return "no code";
 }

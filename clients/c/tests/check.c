@@ -49,7 +49,7 @@ regtx_store *new_store(void)
 {
     regtx_uuid id = unit(0);
     snprintf(newest, sizeof newest, "store%d", ++stores);
-    need(regtx_create(program, newest, &id, 2), "create");
+    need(regtx_create(newest, &id, 2, program), "create");
     regtx_store *store = open_again();
     need(regtx_create_key(store, REGTX_ALONE, 0, "Software", NULL, NULL), "Software");
     return store;
@@ -63,7 +63,7 @@ const char *folder(void)
 regtx_store *open_again(void)
 {
     regtx_store *store;
-    need(regtx_open(program, newest, 0, &store), "open");
+    need(regtx_open(newest, program, 0, &store), "open");
     return store;
 }
 
@@ -125,7 +125,7 @@ regtx_store *fake(const char *replies, const char *end)
              "while read -r line; do :; done\n%s",
              replies, end);
     regtx_store *store;
-    need(regtx_open(shell_script(lines), "none", 0, &store), "fake");
+    need(regtx_open("none", shell_script(lines), 0, &store), "fake");
     return store;
 }
 
@@ -134,7 +134,7 @@ regtx_store *open_to_kill(void)
     char lines[TEXT];
     snprintf(lines, sizeof lines, "echo $$ > pid\nexec '%s' \"$@\"", program);
     regtx_store *store;
-    need(regtx_open(shell_script(lines), newest, 0, &store), "open");
+    need(regtx_open(newest, shell_script(lines), 0, &store), "open");
     return store;
 }
 

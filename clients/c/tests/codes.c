@@ -53,6 +53,7 @@ static const char *header_of(int code)
     case REGTX_IO:
     case REGTX_REPLY:
     case REGTX_OTHER_PROCESS:
+    case REGTX_CANNOT_READ:
         return "client";
     default:
         return "none";

@@ -22,15 +22,15 @@ static void names_are_quoted(void)
         memcpy(wanted + used, names[at], strlen(names[at]) + 1);
         used += strlen(names[at]) + 1;
     }
-    CHECK(regtx_list_values(store, REGTX_ALONE, 0, "Software", listed, &size, &count) == REGTX_OK);
+    CHECK(regtx_value_names(store, REGTX_ALONE, 0, "Software", listed, &size, &count) == REGTX_OK);
     CHECK(count == COUNT && size == used && memcmp(listed, wanted, used) == 0);
     size = used - 1;
-    CHECK(regtx_list_values(store, REGTX_ALONE, 0, "Software", listed, &size, NULL)
+    CHECK(regtx_value_names(store, REGTX_ALONE, 0, "Software", listed, &size, NULL)
           == REGTX_TOO_SMALL);
     CHECK(size == used);
     CHECK(regtx_create_key(store, REGTX_ALONE, 0, "Some Vendor\\@\\50%", NULL, NULL) == REGTX_OK);
     size = sizeof listed;
-    CHECK(regtx_list_keys(store, REGTX_ALONE, 0, "SOME vendor", listed, &size, &count) == REGTX_OK);
+    CHECK(regtx_subkeys(store, REGTX_ALONE, 0, "SOME vendor", listed, &size, &count) == REGTX_OK);
     CHECK(count == 1 && strcmp(listed, "@") == 0);
     CHECK(regtx_close(store) == REGTX_OK);
     CHECK(answers("values 0:Software\nget 0:Software %0040\nkeys 0:\nkeys 0:Some%0020Vendor\\@\n",
@@ -43,7 +43,7 @@ static void wrong_names_send_nothing(void)
     static const char *const paths[] = {"\\Software", "Software\\", "Software\\\\X", "\\"};
     regtx_store *store = new_store();
     size_t size = 0;
-    regtx_key_info info;
+    struct regtx_key_info info;
     for (size_t at = 0; at < sizeof wrong / sizeof wrong[0]; at++) {
         const char *name = wrong[at];
         CHECK(set_number(store, REGTX_ALONE, name, 1) == REGTX_WRONG_NAME);
@@ -55,10 +55,10 @@ static void wrong_names_send_nothing(void)
               == REGTX_WRONG_NAME);
         CHECK(regtx_create_key(store, REGTX_ALONE, 0, name, NULL, NULL) == REGTX_WRONG_NAME);
         CHECK(regtx_delete_key(store, REGTX_ALONE, 0, name, NULL) == REGTX_WRONG_NAME);
-        CHECK(regtx_list_keys(store, REGTX_ALONE, 0, name, NULL, &size, NULL) == REGTX_WRONG_NAME);
-        CHECK(regtx_list_values(store, REGTX_ALONE, 0, name, NULL, &size, NULL)
+        CHECK(regtx_subkeys(store, REGTX_ALONE, 0, name, NULL, &size, NULL) == REGTX_WRONG_NAME);
+        CHECK(regtx_value_names(store, REGTX_ALONE, 0, name, NULL, &size, NULL)
               == REGTX_WRONG_NAME);
-        CHECK(regtx_query_info(store, REGTX_ALONE, 0, name, &info) == REGTX_WRONG_NAME);
+        CHECK(regtx_key_info(store, REGTX_ALONE, 0, name, &info) == REGTX_WRONG_NAME);
     }
     for (size_t at = 0; at < sizeof paths / sizeof paths[0]; at++)
         CHECK(regtx_create_key(store, REGTX_ALONE, 0, paths[at], NULL, NULL) == REGTX_WRONG_NAME);
@@ -78,7 +78,7 @@ static void names_have_their_longest(void)
     memset(name, 'n', LONGEST_VALUE + 1);
     CHECK(set_number(store, REGTX_ALONE, name, 1) == REGTX_WRONG_NAME);
     CHECK(set_number(store, REGTX_ALONE, name + 1, 1) == REGTX_OK);
-    CHECK(regtx_list_values(store, REGTX_ALONE, 0, "Software", listed, &size, NULL) == REGTX_OK);
+    CHECK(regtx_value_names(store, REGTX_ALONE, 0, "Software", listed, &size, NULL) == REGTX_OK);
     CHECK(strcmp(listed, name + 1) == 0);
     name[LONGEST_KEY + 1] = 0;
     CHECK(regtx_create_key(store, REGTX_ALONE, 0, name, NULL, NULL) == REGTX_WRONG_NAME);
@@ -93,11 +93,10 @@ static void listed_names_are_unicode(void)
                                  "b";
     char listed[64];
     size_t size = sizeof listed, count = 0;
-    CHECK(regtx_list_keys(store, REGTX_ALONE, 0, "", listed, &size, &count) == REGTX_OK);
+    CHECK(regtx_subkeys(store, REGTX_ALONE, 0, "", listed, &size, &count) == REGTX_OK);
     CHECK(count == 4 && size == sizeof wanted && memcmp(listed, wanted, size) == 0);
     size = sizeof listed;
-    CHECK(regtx_list_keys(store, REGTX_ALONE, 0, "", listed, &size, &count) == REGTX_OK
-          && size == 1);
+    CHECK(regtx_subkeys(store, REGTX_ALONE, 0, "", listed, &size, &count) == REGTX_OK && size == 1);
     CHECK(regtx_close(store) == REGTX_OK);
 }
 

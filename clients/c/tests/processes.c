@@ -56,8 +56,8 @@ static int misused(regtx_store *store, regtx_tx tx, uint32_t session)
                    regtx_get_value(store, tx, 0, "Software", "v", NULL, data, &size),
                    set_number(store, REGTX_ALONE, "v", 9),
                    set_number(store, tx, "v", 9),
-                   regtx_session_open(store, &more),
-                   regtx_begin(store, session, &uuid, &other),
+                   regtx_session(store, &more),
+                   regtx_transaction(store, session, &uuid, &other),
                    regtx_is_active(store, tx, &active),
                    regtx_kept(store, &uuid, NULL),
                    regtx_flush(store, NULL),
@@ -95,8 +95,8 @@ static void a_fork_refuses_what_it_did_not_open(void)
     pid_t children[FORKS];
     int status = -1;
     CHECK(set_number(store, REGTX_ALONE, "v", 7) == REGTX_OK);
-    CHECK(regtx_session_open(store, &session) == REGTX_OK);
-    CHECK(regtx_begin(store, REGTX_FIRST_SESSION, &uuid, &tx) == REGTX_OK);
+    CHECK(regtx_session(store, &session) == REGTX_OK);
+    CHECK(regtx_transaction(store, REGTX_FIRST_SESSION, &uuid, &tx) == REGTX_OK);
     CHECK(regtx_create_key(store, tx, 0, "Mine", NULL, NULL) == REGTX_OK);
     for (int at = 0; at < FORKS; at++)
         if ((children[at] = fork()) == 0)

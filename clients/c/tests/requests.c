@@ -33,19 +33,19 @@ static void writes_answer_their_numbers(void)
 static void reads_tell_what_is_there(void)
 {
     regtx_store *store = new_store();
-    regtx_key_info info;
+    struct regtx_key_info info;
     char names[16];
     size_t size = sizeof names, count = 99;
     /* 2024-02-29 00:00:00 UTC */
     CHECK(regtx_at(store, 133536384000000000) == REGTX_OK);
     CHECK(set_number(store, REGTX_ALONE, "b", 1) == REGTX_OK);
     CHECK(set_number(store, REGTX_ALONE, "A", 1) == REGTX_OK);
-    CHECK(regtx_query_info(store, REGTX_ALONE, 0, "Software", &info) == REGTX_OK);
+    CHECK(regtx_key_info(store, REGTX_ALONE, 0, "Software", &info) == REGTX_OK);
     CHECK(info.subkeys == 0 && info.values == 2 && info.written == 133536384000000000);
-    CHECK(regtx_list_values(store, REGTX_ALONE, 0, "Software", names, &size, &count) == REGTX_OK);
+    CHECK(regtx_value_names(store, REGTX_ALONE, 0, "Software", names, &size, &count) == REGTX_OK);
     CHECK(size == 4 && count == 2 && memcmp(names, "A\0b", 4) == 0);
     size = 0;
-    CHECK(regtx_list_keys(store, REGTX_ALONE, 1, "", NULL, &size, &count) == REGTX_OK);
+    CHECK(regtx_subkeys(store, REGTX_ALONE, 1, "", NULL, &size, &count) == REGTX_OK);
     CHECK(size == 0 && count == 0);
     CHECK(regtx_close(store) == REGTX_OK);
     CHECK(answers("info 0:Software\n", "info 0 2 133536384000000000\n"));
@@ -53,8 +53,8 @@ static void reads_tell_what_is_there(void)
 
 static uint64_t written(regtx_store *store, const char *path)
 {
-    regtx_key_info info = {0, 0, 99};
-    CHECK(regtx_query_info(store, REGTX_ALONE, 0, path, &info) == REGTX_OK);
+    struct regtx_key_info info = {0, 0, 99};
+    CHECK(regtx_key_info(store, REGTX_ALONE, 0, path, &info) == REGTX_OK);
     return info.written;
 }
 
@@ -76,7 +76,7 @@ static void writes_tell_the_time(void)
         CHECK(regtx_at(store, REGTX_NOW) == REGTX_OK);
     }
     CHECK(regtx_at(store, MOMENT) == REGTX_OK);
-    CHECK(regtx_begin(store, REGTX_FIRST_SESSION, &uuid, &tx) == REGTX_OK);
+    CHECK(regtx_transaction(store, REGTX_FIRST_SESSION, &uuid, &tx) == REGTX_OK);
     CHECK(set_number(store, tx, "v", 3) == REGTX_OK && regtx_at(store, REGTX_NOW) == REGTX_OK);
     CHECK(regtx_commit(store, tx, NULL) == REGTX_OK && written(store, "Software") > MOMENT);
     CHECK(regtx_at(store, 0) == REGTX_OK && set_number(store, REGTX_ALONE, "v", 4) == REGTX_OK);
@@ -90,7 +90,7 @@ static void refusals_change_nothing(void)
 {
     char deep[2 * 33 + 1] = "d";
     regtx_store *store = new_store();
-    regtx_key_info info;
+    struct regtx_key_info info;
     size_t size = 0;
     uint64_t number = 99;
     for (int level = 1; level < 33; level++)
@@ -99,7 +99,7 @@ static void refusals_change_nothing(void)
     CHECK(regtx_get_value(store, REGTX_ALONE, 0, "Software", "v", NULL, NULL, &size)
           == REGTX_NOT_FOUND);
     CHECK(regtx_delete_value(store, REGTX_ALONE, 0, "Software", "v", NULL) == REGTX_NOT_FOUND);
-    CHECK(regtx_query_info(store, REGTX_ALONE, 9, "", &info) == REGTX_NOT_FOUND);
+    CHECK(regtx_key_info(store, REGTX_ALONE, 9, "", &info) == REGTX_NOT_FOUND);
     CHECK(regtx_delete_key(store, REGTX_ALONE, 0, "Software", NULL) == REGTX_HAS_SUBKEYS);
     CHECK(regtx_delete_key(store, REGTX_ALONE, 0, "", NULL) == REGTX_FIXED);
     CHECK(regtx_create_key(store, REGTX_ALONE, 0, deep, NULL, NULL) == REGTX_TOO_DEEP);
@@ -141,12 +141,12 @@ static void damaged_stores_are_refused(void)
 {
     regtx_store *store;
     CHECK(regtx_close(new_store()) == REGTX_OK);
-    CHECK(regtx_open(program, "none", 0, &store) == REGTX_JOURNAL_DAMAGED && !store);
+    CHECK(regtx_open("none", program, 0, &store) == REGTX_JOURNAL_DAMAGED && !store);
     /* behind the base block: the first bin */
     spoil("hive01.dat", 4096);
-    CHECK(regtx_open(program, folder(), 0, &store) == REGTX_HIVE_DAMAGED && !store);
+    CHECK(regtx_open(folder(), program, 0, &store) == REGTX_HIVE_DAMAGED && !store);
     spoil("journal", 0);
-    CHECK(regtx_open(program, folder(), 0, &store) == REGTX_JOURNAL_DAMAGED && !store);
+    CHECK(regtx_open(folder(), program, 0, &store) == REGTX_JOURNAL_DAMAGED && !store);
 }
 
 static void stores_are_made_once(void)
@@ -155,11 +155,57 @@ static void stores_are_made_once(void)
     regtx_store *store;
     CHECK(regtx_uuid_random(&id) == REGTX_OK);
     CHECK(regtx_close(new_store()) == REGTX_OK);
-    CHECK(regtx_create(program, folder(), &id, 1) == REGTX_CANNOT_MAKE);
-    CHECK(regtx_create(program, "no/folder", &id, 1) == REGTX_CANNOT_MAKE);
-    CHECK(regtx_create(program, "other", &id, 17) == REGTX_REPLY);
-    CHECK(regtx_create(program, "--help", &id, 16) == REGTX_OK);
-    CHECK(regtx_open(program, "--help", 0, &store) == REGTX_OK && regtx_close(store) == REGTX_OK);
+    CHECK(regtx_create(folder(), &id, 1, program) == REGTX_CANNOT_MAKE);
+    CHECK(regtx_create("no/folder", &id, 1, program) == REGTX_CANNOT_MAKE);
+    CHECK(regtx_create("other", &id, 17, program) == REGTX_REPLY);
+    CHECK(regtx_create("--help", &id, 16, program) == REGTX_OK);
+    CHECK(regtx_open("--help", program, 0, &store) == REGTX_OK && regtx_close(store) == REGTX_OK);
+}
+
+static void stores_are_made_of_files(void)
+{
+    regtx_uuid id = unit(5);
+    regtx_store *store;
+    char first[64], second[64], journal[64], keys[32];
+    size_t size = sizeof keys, count = 0;
+    CHECK(regtx_close(new_store()) == REGTX_OK);
+    snprintf(first, sizeof first, "%s/hive00.dat", folder());
+    snprintf(second, sizeof second, "%s/hive01.dat", folder());
+    const char *files[] = {second, first}, *none[] = {first, "-none"};
+    CHECK(regtx_import_files("copies", &id, files, 2, program) == REGTX_OK);
+    CHECK(regtx_open("copies", program, 0, &store) == REGTX_OK);
+    CHECK(regtx_subkeys(store, REGTX_ALONE, 1, "", keys, &size, &count) == REGTX_OK);
+    CHECK(count == 1 && strcmp(keys, "Software") == 0 && regtx_close(store) == REGTX_OK);
+    CHECK(regtx_import_files("copies", &id, files, 2, program) == REGTX_CANNOT_MAKE);
+    CHECK(regtx_import_files("more", &id, none, 2, program) == REGTX_CANNOT_READ);
+    CHECK(regtx_import_files("more", &id, files, 0, program) == REGTX_REPLY);
+    snprintf(journal, sizeof journal, "%s/journal", folder());
+    files[0] = journal;
+    CHECK(regtx_import_files("more", &id, files, 1, program) == REGTX_HIVE_DAMAGED);
+    CHECK(regtx_import_files("-more", &id, none, 1, program) == REGTX_OK);
+}
+
+/* A store of the first layout: its journal says so, and it has no hive of outcomes. */
+static void old_stores_are_upgraded(void)
+{
+    regtx_uuid uuid = unit(1);
+    regtx_store *store;
+    char path[64];
+    CHECK(regtx_close(new_store()) == REGTX_OK);
+    CHECK(regtx_upgrade(folder(), "newer", program) == REGTX_UNSUPPORTED);
+    snprintf(path, sizeof path, "%s/journal", folder());
+    FILE *journal = fopen(path, "r+b");
+    CHECK(journal && fputs("KTMJRNL1", journal) >= 0 && fclose(journal) == 0);
+    snprintf(path, sizeof path, "%s/hive02.dat", folder());
+    CHECK(remove(path) == 0);
+    store = open_again();
+    CHECK(regtx_kept(store, &uuid, NULL) == REGTX_UNSUPPORTED);
+    CHECK(regtx_upgrade(folder(), "newer", program) == REGTX_CANNOT_OPEN);
+    CHECK(regtx_close(store) == REGTX_OK);
+    CHECK(regtx_upgrade(folder(), "no/folder", program) == REGTX_CANNOT_MAKE);
+    CHECK(regtx_upgrade(folder(), "newer", program) == REGTX_OK);
+    CHECK(regtx_open("newer", program, 0, &store) == REGTX_OK);
+    CHECK(regtx_kept(store, &uuid, NULL) == REGTX_NOT_FOUND && regtx_close(store) == REGTX_OK);
 }
 
 static void uuids_are_read_and_printed(void)
@@ -194,5 +240,7 @@ void test_requests(void)
     each_refusal_has_its_code();
     damaged_stores_are_refused();
     stores_are_made_once();
+    stores_are_made_of_files();
+    old_stores_are_upgraded();
     uuids_are_read_and_printed();
 }

@@ -14,12 +14,12 @@ static void other_programs_are_told(void)
     regtx_uuid id = unit(0);
     regtx_store *store;
     errno = 0;
-    CHECK(regtx_open("./none", "none", 0, &store) == REGTX_IO && errno == ENOENT && !store);
-    CHECK(regtx_create("./none", "none", &id, 1) == REGTX_IO);
-    CHECK(regtx_open("true", "none", 0, &store) == REGTX_ENDED && !store);
-    CHECK(regtx_open("echo", "none", 0, &store) == REGTX_REPLY && !store);
-    CHECK(regtx_create("true", "none", &id, 1) == REGTX_ENDED);
-    CHECK(regtx_open(program, "none", 86401, &store) == REGTX_REPLY);
+    CHECK(regtx_open("none", "./none", 0, &store) == REGTX_IO && errno == ENOENT && !store);
+    CHECK(regtx_create("none", &id, 1, "./none") == REGTX_IO);
+    CHECK(regtx_open("none", "true", 0, &store) == REGTX_ENDED && !store);
+    CHECK(regtx_open("none", "echo", 0, &store) == REGTX_REPLY && !store);
+    CHECK(regtx_create("none", &id, 1, "true") == REGTX_ENDED);
+    CHECK(regtx_open("none", program, 86401, &store) == REGTX_REPLY);
     CHECK(regtx_close(NULL) == REGTX_OK);
 }
 
@@ -27,14 +27,14 @@ static void a_store_in_use_is_waited_for(void)
 {
     regtx_store *store = new_store(), *other;
     char command[256];
-    CHECK(regtx_open(program, folder(), 0, &other) == REGTX_CANNOT_OPEN && !other);
-    CHECK(regtx_open(program, folder(), 1, &other) == REGTX_CANNOT_OPEN);
+    CHECK(regtx_open(folder(), program, 0, &other) == REGTX_CANNOT_OPEN && !other);
+    CHECK(regtx_open(folder(), program, 1, &other) == REGTX_CANNOT_OPEN);
     CHECK(regtx_close(store) == REGTX_OK);
     /* another run holds the store for a while; it has opened it once it prints so */
     snprintf(command, sizeof command, "sleep 0.2 | '%s' run %s /dev/stdin", program, folder());
     FILE *run = popen(command, "r");
     CHECK(run && fgetc(run) == 'o');
-    CHECK(regtx_open(program, folder(), 60, &other) == REGTX_OK && regtx_close(other) == REGTX_OK);
+    CHECK(regtx_open(folder(), program, 60, &other) == REGTX_OK && regtx_close(other) == REGTX_OK);
     CHECK(run && pclose(run) == 0);
 }
 
@@ -84,7 +84,7 @@ static void a_commit_without_an_answer_is_unknown(void)
     regtx_tx tx = 0;
     CHECK(regtx_close(new_store()) == REGTX_OK);
     regtx_store *store = open_to_kill();
-    CHECK(regtx_begin(store, REGTX_FIRST_SESSION, &uuid, &tx) == REGTX_OK);
+    CHECK(regtx_transaction(store, REGTX_FIRST_SESSION, &uuid, &tx) == REGTX_OK);
     CHECK(set_number(store, tx, "v", 1) == REGTX_OK);
     /* its moment is known, so that no other line is sent before the commit */
     CHECK(regtx_at(store, 7) == REGTX_OK);
@@ -103,7 +103,7 @@ static void a_commit_that_is_not_sent_is_not_done(void)
     regtx_tx tx = 0;
     CHECK(regtx_close(new_store()) == REGTX_OK);
     regtx_store *store = open_to_kill();
-    CHECK(regtx_begin(store, REGTX_FIRST_SESSION, &uuid, &tx) == REGTX_OK);
+    CHECK(regtx_transaction(store, REGTX_FIRST_SESSION, &uuid, &tx) == REGTX_OK);
     CHECK(set_number(store, tx, "v", 1) == REGTX_OK);
     kill_run();
     CHECK(regtx_flush(store, NULL) == REGTX_ENDED);
@@ -127,7 +127,7 @@ static void some_refusals_leave_a_commit_unknown(void)
         regtx_uuid uuid = unit(1);
         regtx_tx tx = 0;
         regtx_store *store = fake(answers_to_commit[at].reply, "exit 0");
-        CHECK(regtx_begin(store, REGTX_FIRST_SESSION, &uuid, &tx) == REGTX_OK);
+        CHECK(regtx_transaction(store, REGTX_FIRST_SESSION, &uuid, &tx) == REGTX_OK);
         CHECK(regtx_commit(store, tx, NULL) == answers_to_commit[at].code);
         CHECK(regtx_cause(store) == answers_to_commit[at].cause);
         CHECK(regtx_close(store) == REGTX_OK);
@@ -163,21 +163,17 @@ static void replies_are_read_whole(void)
     }
     for (size_t at = 0; at < sizeof lists / sizeof lists[0]; at++) {
         store = fake(lists[at], "exit 0");
-        CHECK(regtx_list_keys(store, REGTX_ALONE, 0, "", NULL, &size, NULL) == REGTX_REPLY);
+        CHECK(regtx_subkeys(store, REGTX_ALONE, 0, "", NULL, &size, NULL) == REGTX_REPLY);
         CHECK(regtx_close(store) == REGTX_OK);
     }
     /* half a reply, of a run that was killed in the midst of it; and a zero in one */
-    CHECK(regtx_open(shell_script(
-                         "echo 'opened 0'; read -r at; echo ok; read -r line; printf 'accepted 1'"),
-                     "none", 0, &store)
-          == REGTX_OK);
+    const char *half = "echo 'opened 0'; read -r at; echo ok; read -r line; printf 'accepted 1'";
+    const char *zero =
+        "echo 'opened 0'; read -r at; echo ok; read -r line; printf 'accepted 1\\0\\n'";
+    CHECK(regtx_open("none", shell_script(half), 0, &store) == REGTX_OK);
     CHECK(set_number(store, REGTX_ALONE, "v", 1) == REGTX_ENDED
           && regtx_close(store) == REGTX_ENDED);
-    CHECK(regtx_open(
-              shell_script(
-                  "echo 'opened 0'; read -r at; echo ok; read -r line; printf 'accepted 1\\0\\n'"),
-              "none", 0, &store)
-          == REGTX_OK);
+    CHECK(regtx_open("none", shell_script(zero), 0, &store) == REGTX_OK);
     CHECK(set_number(store, REGTX_ALONE, "v", 1) == REGTX_REPLY && regtx_close(store) == REGTX_OK);
 }
 

@@ -10,7 +10,7 @@ static regtx_tx begun(regtx_store *store, uint32_t session, unsigned number)
 {
     regtx_uuid uuid = unit(number);
     regtx_tx tx = 0;
-    CHECK(regtx_begin(store, session, &uuid, &tx) == REGTX_OK && tx != REGTX_ALONE);
+    CHECK(regtx_transaction(store, session, &uuid, &tx) == REGTX_OK && tx != REGTX_ALONE);
     return tx;
 }
 
@@ -24,7 +24,7 @@ static void a_commit_changes_all_hives_at_once(void)
 {
     regtx_store *store = new_store();
     regtx_tx tx = begun(store, REGTX_FIRST_SESSION, 1);
-    regtx_key_info info;
+    struct regtx_key_info info;
     uint32_t levels = 99;
     uint64_t number = 99;
     size_t size = 0;
@@ -36,7 +36,7 @@ static void a_commit_changes_all_hives_at_once(void)
           && size == 4);
     CHECK(regtx_get_value(store, REGTX_ALONE, 0, "Software", "v", NULL, NULL, &size)
           == REGTX_NOT_FOUND);
-    CHECK(regtx_query_info(store, REGTX_ALONE, 1, "Services", &info) == REGTX_NOT_FOUND);
+    CHECK(regtx_key_info(store, REGTX_ALONE, 1, "Services", &info) == REGTX_NOT_FOUND);
     CHECK(regtx_commit(store, tx, &number) == REGTX_OK && number == 2);
     /* the transaction is gone */
     CHECK(set_number(store, tx, "v", 2) == REGTX_NO_SUCH_HANDLE);
@@ -65,8 +65,7 @@ static void two_sessions_conflict(void)
     regtx_store *store = new_store();
     uint32_t one = 0, two = 0;
     uint64_t number = 99;
-    CHECK(regtx_session_open(store, &one) == REGTX_OK
-          && regtx_session_open(store, &two) == REGTX_OK);
+    CHECK(regtx_session(store, &one) == REGTX_OK && regtx_session(store, &two) == REGTX_OK);
     CHECK(one != two && one != REGTX_FIRST_SESSION);
     regtx_tx first = begun(store, one, 1), second = begun(store, two, 2),
              third = begun(store, one, 3);
@@ -137,18 +136,18 @@ static void places_are_freed(void)
             (round % 2 ? regtx_commit(store, tx, NULL) : regtx_rollback(store, tx)) != REGTX_OK;
     }
     for (int round = 0; round < SESSION_ROUNDS; round++) {
-        wrong += regtx_session_open(store, &session) != REGTX_OK;
+        wrong += regtx_session(store, &session) != REGTX_OK;
         wrong += regtx_rollback(store, begun(store, session, 1)) != REGTX_OK;
         wrong += regtx_session_end(store, session) != REGTX_OK;
     }
     CHECK(wrong == 0);
-    CHECK(regtx_session_open(store, &session) == REGTX_OK);
+    CHECK(regtx_session(store, &session) == REGTX_OK);
     regtx_tx tx = begun(store, session, 1);
     CHECK(regtx_fold(store, &number) == REGTX_OK && number == 1);
     CHECK(set_number(store, tx, "v", 1) == REGTX_NO_SUCH_HANDLE);
     regtx_uuid uuid = unit(1);
-    CHECK(regtx_begin(store, session, &uuid, &tx) == REGTX_NO_SUCH_HANDLE);
-    CHECK(regtx_session_open(store, &session) == REGTX_OK);
+    CHECK(regtx_transaction(store, session, &uuid, &tx) == REGTX_NO_SUCH_HANDLE);
+    CHECK(regtx_session(store, &session) == REGTX_OK);
     CHECK(set_number(store, begun(store, session, 1), "v", 1) == REGTX_OK);
     CHECK(set_number(store, REGTX_ALONE, "v", 1) == REGTX_OK);
     CHECK(regtx_close(store) == REGTX_OK);
@@ -162,15 +161,15 @@ static void places_are_limited(void)
     regtx_tx tx = 0;
     int wrong = 0;
     for (int opened = 1; opened < 32; opened++)
-        wrong += regtx_session_open(store, &session) != REGTX_OK;
+        wrong += regtx_session(store, &session) != REGTX_OK;
     for (int held = 0; held < 1024; held++)
-        wrong += regtx_begin(store, session, &uuid, &tx) != REGTX_OK;
+        wrong += regtx_transaction(store, session, &uuid, &tx) != REGTX_OK;
     CHECK(wrong == 0);
-    CHECK(regtx_session_open(store, &session) == REGTX_NO_SEAT);
-    CHECK(regtx_begin(store, REGTX_FIRST_SESSION, &uuid, &tx) == REGTX_NO_SEAT);
-    CHECK(regtx_begin(store, 99, &uuid, &tx) == REGTX_NO_SUCH_HANDLE);
+    CHECK(regtx_session(store, &session) == REGTX_NO_SEAT);
+    CHECK(regtx_transaction(store, REGTX_FIRST_SESSION, &uuid, &tx) == REGTX_NO_SEAT);
+    CHECK(regtx_transaction(store, 99, &uuid, &tx) == REGTX_NO_SUCH_HANDLE);
     CHECK(regtx_session_end(store, session) == REGTX_OK);
-    CHECK(regtx_begin(store, REGTX_FIRST_SESSION, &uuid, &tx) == REGTX_OK);
+    CHECK(regtx_transaction(store, REGTX_FIRST_SESSION, &uuid, &tx) == REGTX_OK);
     CHECK(regtx_close(store) == REGTX_OK);
 }
 
