@@ -8,9 +8,10 @@
 #include <inttypes.h>
 #include <stdio.h>
 #include <string.h>
+#include <time.h>
 
-/* room for a number of 32 bits as text */
-enum { DIGITS = 11 };
+/* room for a number of 32 bits as text; and how long it is waited for another writer, in ns */
+enum { DIGITS = 11, SHORTEST_PAUSE = 1000000, LONGEST_PAUSE = 100000000 };
 
 int regtx_open(const char *folder, const char *program, unsigned wait_seconds, regtx_store **store)
 {
@@ -140,6 +141,35 @@ int regtx_commit(regtx_store *store, regtx_tx tx, uint64_t *number)
     /* if this fails, the run has ended, and each later call says so */
     release(store, tx);
     return code;
+}
+
+/* Carries out work in a transaction once. */
+static int try_work(regtx_store *store, uint32_t session, const regtx_uuid *unit, regtx_work *work,
+                    void *context, uint64_t *number)
+{
+    regtx_tx tx;
+    int code = regtx_transaction(store, session, unit, &tx);
+    if (code)
+        return code;
+    code = work(store, tx, context);
+    if (code == REGTX_OK)
+        return regtx_commit(store, tx, number);
+    /* if this fails, the run has ended, or work has ended the transaction */
+    regtx_rollback(store, tx);
+    return code;
+}
+
+int regtx_transact(regtx_store *store, uint32_t session, const regtx_uuid *unit, unsigned tries,
+                   regtx_work *work, void *context, uint64_t *number)
+{
+    struct timespec pause = {0, SHORTEST_PAUSE};
+    for (;; tries--) {
+        int code = try_work(store, session, unit, work, context, number);
+        if (tries <= 1 || (code != REGTX_CONFLICT && code != REGTX_NOT_ACTIVE))
+            return code;
+        nanosleep(&pause, NULL);
+        pause.tv_nsec = 2 * pause.tv_nsec < LONGEST_PAUSE ? 2 * pause.tv_nsec : LONGEST_PAUSE;
+    }
 }
 
 int regtx_cause(const regtx_store *store)

@@ -154,6 +154,17 @@ int regtx_transaction(regtx_store *store, uint32_t session, const regtx_uuid *un
  * REGTX_COMMIT_UNKNOWN close the store, open it again, and ask regtx_kept. */
 int regtx_commit(regtx_store *store, regtx_tx tx, uint64_t *number);
 
+/* Work in a transaction: what it answers other than REGTX_OK rolls the transaction back. */
+typedef int regtx_work(regtx_store *store, regtx_tx tx, void *context);
+
+/* Carries out work in a transaction, and commits: the change's number, which may be NULL. If work
+ * or commit answers REGTX_CONFLICT or REGTX_NOT_ACTIVE, since another writer is in the way, all of
+ * it is rolled back and tried again, so many times in all. It waits a millisecond before the second
+ * time, and then twice as long each time, a tenth of a second at most. Answers what work answers,
+ * and as regtx_transaction and regtx_commit. */
+int regtx_transact(regtx_store *store, uint32_t session, const regtx_uuid *unit, unsigned tries,
+                   regtx_work *work, void *context, uint64_t *number);
+
 /* Why the last commit was REGTX_COMMIT_UNKNOWN: REGTX_ENDED, or REGTX_DISK_FAULT, and so on. */
 int regtx_cause(const regtx_store *store);
 
@@ -228,6 +239,28 @@ int regtx_subkeys(regtx_store *store, regtx_tx tx, uint8_t hive, const char *pat
                   size_t *size, size_t *count);
 int regtx_value_names(regtx_store *store, regtx_tx tx, uint8_t hive, const char *path, char *names,
                       size_t *size, size_t *count);
+
+/* Trees. What a function answers other than REGTX_OK ends the call, which answers the same. The
+ * function may make calls of the store. A name past ASCII can't be asked for: REGTX_WRONG_NAME. */
+
+/* Calls a function with each value of a key, in the order of regtx_value_names. The name and the
+ * data last until it returns. REGTX_NOT_FOUND. */
+typedef int regtx_each_item(const char *name, uint32_t type, const void *data, size_t size,
+                            void *context);
+int regtx_items(regtx_store *store, regtx_tx tx, uint8_t hive, const char *path,
+                regtx_each_item *each, void *context);
+
+/* Calls a function with the path of a key, and of each key below it: each before those below it,
+ * siblings in the order of regtx_subkeys. All paths are read before. REGTX_NOT_FOUND. */
+typedef int regtx_each_key(const char *path, void *context);
+int regtx_walk(regtx_store *store, regtx_tx tx, uint8_t hive, const char *path,
+               regtx_each_key *each, void *context);
+
+/* Deletes a key with all below it: how many keys, which may be NULL. Alone it is a transaction of
+ * its own, which is committed. In a transaction a refusal may come after some of them: roll it back
+ * then. REGTX_NOT_FOUND; REGTX_FIXED, of a root. */
+int regtx_delete_tree(regtx_store *store, regtx_tx tx, uint8_t hive, const char *path,
+                      uint32_t *keys, uint64_t *number);
 
 /* What a key has; the time of its last write is in units of 100 ns since 1601, UTC. */
 struct regtx_key_info {

@@ -165,6 +165,7 @@ int main(int words, char *word[])
     test_requests();
     test_transactions();
     test_runs();
+    test_trees();
     test_codes();
     test_processes();
     printf("%d passed, %d failed\n", passed, failed);

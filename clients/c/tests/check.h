@@ -49,6 +49,7 @@ void test_names(void);
 void test_requests(void);
 void test_transactions(void);
 void test_runs(void);
+void test_trees(void);
 void test_codes(void);
 void test_processes(void);
 
