@@ -4,6 +4,7 @@ use crate::reply::{answered, number, understood};
 use crate::{Error, Options, Refusal};
 use std::collections::BTreeSet;
 use std::io::{self, BufRead, BufReader, Read, Write};
+use std::os::unix::process::CommandExt;
 use std::process::{Child, ChildStdin, ChildStdout, Command, ExitStatus, Stdio};
 
 /// The session that is open from the beginning.
@@ -33,6 +34,8 @@ impl Run {
             .arg("/dev/stdin")
             .stdin(Stdio::piped())
             .stdout(Stdio::piped())
+            // Ctrl-C is for the caller, who can still flush and close then
+            .process_group(0)
             .spawn()?;
         let script = child.stdin.take();
         let replies = BufReader::new(child.stdout.take().expect("standard output is a pipe"));

@@ -113,7 +113,7 @@ impl Drop for Scratch {
 }
 
 /// A process to be killed.
-pub struct Victim(String);
+pub struct Victim(pub String);
 
 impl Victim {
     pub fn kill(self) {
