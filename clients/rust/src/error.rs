@@ -24,6 +24,8 @@ pub enum Error {
     Io(io::Error),
     /// The program printed a line that isn't a reply to the call.
     Reply(String),
+    /// Another process opened the store, such as the one that was forked. Nothing was sent.
+    OtherProcess,
 }
 
 impl Error {
@@ -36,6 +38,7 @@ impl Error {
                     Refusal::NoMemory | Refusal::DiskFault | Refusal::Faulted
                 )
             }
+            Error::OtherProcess => false,
             _ => true,
         }
     }
@@ -53,6 +56,7 @@ impl fmt::Display for Error {
             }
             Error::Name(name, why) => write!(f, "no call carries the name {name:?}: {why}"),
             Error::Io(why) => write!(f, "{why}"),
+            Error::OtherProcess => write!(f, "another process opened the store"),
             Error::Reply(reply) => write!(f, "not a reply: {reply:?}"),
         }
     }

@@ -5,7 +5,7 @@ use crate::{Error, Options, Refusal};
 use std::collections::BTreeSet;
 use std::io::{self, BufRead, BufReader, Read, Write};
 use std::os::unix::process::CommandExt;
-use std::process::{Child, ChildStdin, ChildStdout, Command, ExitStatus, Stdio};
+use std::process::{self, Child, ChildStdin, ChildStdout, Command, ExitStatus, Stdio};
 
 /// The session that is open from the beginning.
 pub(crate) const FIRST_SESSION: u32 = 0;
@@ -13,6 +13,8 @@ pub(crate) const FIRST_SESSION: u32 = 0;
 #[derive(Debug)]
 pub(crate) struct Run {
     child: Child,
+    /// The process that opened the store.
+    maker: u32,
     /// Where lines go; none once the script has ended.
     script: Option<ChildStdin>,
     replies: BufReader<ChildStdout>,
@@ -41,6 +43,7 @@ impl Run {
         let replies = BufReader::new(child.stdout.take().expect("standard output is a pipe"));
         let mut run = Run {
             child,
+            maker: process::id(),
             script,
             replies,
             was_refused: false,
@@ -82,6 +85,7 @@ impl Run {
 
     /// The reply to a line.
     pub(crate) fn exchange(&mut self, line: &str) -> Result<String, Error> {
+        self.check_process()?;
         let script = self.script.as_mut().ok_or(Error::Ended)?;
         // one write for each line: the program waits for its end
         match script.write_all(format!("{line}\n").as_bytes()) {
@@ -133,14 +137,28 @@ impl Run {
         }
     }
 
+    /// Two processes would read each other's replies.
+    fn check_process(&self) -> Result<(), Error> {
+        if self.maker == process::id() {
+            Ok(())
+        } else {
+            Err(Error::OtherProcess)
+        }
+    }
+
     /// Tells an error that was kept.
     pub(crate) fn tell(&mut self) -> Result<(), Error> {
+        self.check_process()?;
         self.untold.take().map_or(Ok(()), Err)
     }
 
-    /// Ends the script, and waits until the run has done its work at the end.
+    /// Ends the script, and waits until the run has done its work at the end. In another process
+    /// than its maker's the run goes on.
     pub(crate) fn end(&mut self) -> Result<(), Error> {
         drop(self.script.take());
+        if self.check_process().is_err() {
+            return Ok(());
+        }
         let mut rest = String::new();
         let read = self.replies.read_to_string(&mut rest);
         let status = self.child.wait()?;

@@ -126,7 +126,8 @@ impl Store {
     }
 
     /// Makes all changes durable, moves them into the hives' files, and ends the run. An error that
-    /// a drop met is told here, too. A store that is dropped does the same, and tells no error.
+    /// a drop met is told here, too. A store that is dropped does the same, and tells no error. In
+    /// another process than the one that opened the store, both drop its copy, and the run goes on.
     pub fn close(self) -> Result<(), Error> {
         self.run.into_inner().end()
     }
