@@ -7,15 +7,32 @@ use scope::Scope;
 use std::fmt::Write;
 
 pub(crate) mod scope {
+    use crate::run::Run;
     use crate::Error;
+    use std::cell::RefCell;
 
     /// In what a request is asked: a session, or a transaction.
     pub trait Scope {
         /// What an accepted write is told by.
         type Accepted;
 
+        /// The run, and the session of it.
+        fn place(&self) -> (&RefCell<Run>, u32);
+
+        /// The line of a request.
+        fn line(&self, request: &str) -> String;
+
         /// The reply to a request, which isn't a refusal.
-        fn ask(&self, request: &str) -> Result<String, Error>;
+        fn ask(&self, request: &str) -> Result<String, Error> {
+            let (run, session) = self.place();
+            run.borrow_mut().ask(session, &self.line(request))
+        }
+
+        /// The same of a request that writes, at the moment of now or the one that was chosen.
+        fn write(&self, request: &str) -> Result<String, Error> {
+            let (run, session) = self.place();
+            run.borrow_mut().write(session, &self.line(request))
+        }
 
         /// What the reply to a write says, or what stands behind the levels that were created.
         fn accepted(reply: &str) -> Option<Self::Accepted>;
@@ -56,7 +73,7 @@ pub trait Requests: Scope {
     /// Creates a key, and the keys above it that are missing, 32 at most. Refused: TooDeep,
     /// TooLarge, Conflict, NotActive, NotFound (no such hive).
     fn create(&self, key: Key<'_>) -> Result<Creation<Self::Accepted>, Error> {
-        let reply = self.ask(&format!("create {}", key.word()?))?;
+        let reply = self.write(&format!("create {}", key.word()?))?;
         if reply == "opened" {
             return Ok(Creation::Opened);
         }
@@ -73,7 +90,7 @@ pub trait Requests: Scope {
 
     /// Deletes a key without subkeys. Refused: NotFound, HasSubkeys, Fixed, Conflict, NotActive.
     fn delete(&self, key: Key<'_>) -> Result<Self::Accepted, Error> {
-        let reply = self.ask(&format!("delete {}", key.word()?))?;
+        let reply = self.write(&format!("delete {}", key.word()?))?;
         understood(Self::accepted(&reply), reply)
     }
 
@@ -81,7 +98,7 @@ pub trait Requests: Scope {
     /// key), TooLarge (over 1,048,576 bytes, for one), Conflict, NotActive.
     fn set(&self, key: Key<'_>, name: &str, value: &Value) -> Result<Self::Accepted, Error> {
         let (key, name) = (key.word()?, value_name_word(name)?);
-        let reply = self.ask(&format!(
+        let reply = self.write(&format!(
             "set {key} {name} {} {}",
             value.kind.0,
             hex(&value.data)
@@ -91,7 +108,7 @@ pub trait Requests: Scope {
 
     /// Deletes a value. Refused: NotFound, Conflict, NotActive.
     fn unset(&self, key: Key<'_>, name: &str) -> Result<Self::Accepted, Error> {
-        let reply = self.ask(&format!("unset {} {}", key.word()?, value_name_word(name)?))?;
+        let reply = self.write(&format!("unset {} {}", key.word()?, value_name_word(name)?))?;
         understood(Self::accepted(&reply), reply)
     }
 

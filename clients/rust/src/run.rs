@@ -1,17 +1,18 @@
 //! A run of the program on a store: one line is sent, and one reply read, at a time.
 
 use crate::reply::{answered, number, understood};
-use crate::{Error, Options, Refusal};
+use crate::{moment_of, Error, Options, Refusal};
 use std::collections::BTreeSet;
 use std::io::{self, BufRead, BufReader, Read, Write};
 use std::os::unix::process::CommandExt;
 use std::process::{self, Child, ChildStdin, ChildStdout, Command, ExitStatus, Stdio};
+use std::time::SystemTime;
 
 /// The session that is open from the beginning.
 pub(crate) const FIRST_SESSION: u32 = 0;
 
 #[derive(Debug)]
-pub(crate) struct Run {
+pub struct Run {
     child: Child,
     /// The process that opened the store.
     maker: u32,
@@ -25,6 +26,9 @@ pub(crate) struct Run {
     labels: BTreeSet<u32>,
     /// An error of a drop, which the next call tells.
     untold: Option<Error>,
+    /// The moment of writes that was chosen, if one was; and the one that the program has.
+    chosen: Option<u64>,
+    moment: u64,
 }
 
 impl Run {
@@ -51,6 +55,8 @@ impl Run {
             sessions: BTreeSet::from([FIRST_SESSION]),
             labels: BTreeSet::new(),
             untold: None,
+            chosen: None,
+            moment: 0,
         };
         let opened = answered(run.read_reply()?)?;
         if opened == "cannot open store" {
@@ -66,6 +72,34 @@ impl Run {
         self.tell()?;
         self.enter(session)?;
         self.exchange(line)
+    }
+
+    /// The same of a line that writes.
+    pub(crate) fn write(&mut self, session: u32, line: &str) -> Result<String, Error> {
+        self.tell()?;
+        self.enter(session)?;
+        self.stamp()?;
+        self.exchange(line)
+    }
+
+    /// Chooses the moment of later writes; none is that of now.
+    pub(crate) fn choose(&mut self, moment: Option<u64>) -> Result<(), Error> {
+        self.tell()?;
+        self.chosen = moment;
+        moment.map_or(Ok(()), |_| self.stamp())
+    }
+
+    /// Tells the program the moment of a write, unless it has it.
+    pub(crate) fn stamp(&mut self) -> Result<(), Error> {
+        // the millisecond of now
+        let moment = self
+            .chosen
+            .unwrap_or_else(|| moment_of(SystemTime::now()) / 10_000 * 10_000);
+        if moment != self.moment {
+            self.exchange_ok(&format!("at {moment}"))?;
+            self.moment = moment;
+        }
+        Ok(())
     }
 
     /// Makes a session the current one, and opens it if it isn't open.

@@ -51,8 +51,12 @@ impl Drop for Session<'_> {
 impl Scope for Session<'_> {
     type Accepted = u64;
 
-    fn ask(&self, request: &str) -> Result<String, Error> {
-        self.run.borrow_mut().ask(self.number, request)
+    fn place(&self) -> (&RefCell<Run>, u32) {
+        (self.run, self.number)
+    }
+
+    fn line(&self, request: &str) -> String {
+        request.to_owned()
     }
 
     fn accepted(reply: &str) -> Option<u64> {

@@ -118,11 +118,11 @@ impl Store {
         understood(number(&reply, "folded"), reply)
     }
 
-    /// The moment of the writes that follow, in units of 100 ns since 1601, UTC; 0 at first. A
-    /// commit takes the moment of its own.
-    pub fn at(&self, moment: u64) -> Result<(), Error> {
-        let reply = self.ask(&format!("at {moment}"))?;
-        understood((reply == "ok").then_some(()), reply)
+    /// Chooses the moment of the writes and commits that follow, in units of 100 ns since 1601,
+    /// UTC, such as [`moment_of`] answers. None, as at first, is the millisecond of now. A
+    /// transaction's keys have its commit's.
+    pub fn at(&self, moment: Option<u64>) -> Result<(), Error> {
+        self.run.borrow_mut().choose(moment)
     }
 
     /// Makes all changes durable, moves them into the hives' files, and ends the run. An error that
@@ -136,8 +136,12 @@ impl Store {
 impl Scope for Store {
     type Accepted = u64;
 
-    fn ask(&self, request: &str) -> Result<String, Error> {
-        self.run.borrow_mut().ask(FIRST_SESSION, request)
+    fn place(&self) -> (&RefCell<Run>, u32) {
+        (&self.run, FIRST_SESSION)
+    }
+
+    fn line(&self, request: &str) -> String {
+        request.to_owned()
     }
 
     fn accepted(reply: &str) -> Option<u64> {

@@ -64,6 +64,8 @@ impl<'a> Transaction<'a> {
         let mut run = self.run.borrow_mut();
         run.tell()?;
         run.enter(self.session)?;
+        // a commit that isn't sent isn't done
+        run.stamp()?;
         let reply = run.exchange(&format!("commit {}", self.label));
         let committed = reply.and_then(|reply| understood(number(&reply, "committed"), reply));
         match committed {
@@ -102,10 +104,12 @@ impl Drop for Transaction<'_> {
 impl Scope for Transaction<'_> {
     type Accepted = ();
 
-    fn ask(&self, request: &str) -> Result<String, Error> {
-        self.run
-            .borrow_mut()
-            .ask(self.session, &format!("tx {} {request}", self.label))
+    fn place(&self) -> (&RefCell<Run>, u32) {
+        (self.run, self.session)
+    }
+
+    fn line(&self, request: &str) -> String {
+        format!("tx {} {request}", self.label)
     }
 
     fn accepted(reply: &str) -> Option<()> {

@@ -51,7 +51,7 @@ fn misused(store: &Store, session: &Session, tx: &Transaction) -> i32 {
         is_refused(store.transaction(&unit(9))),
         is_refused(store.kept(&unit(9))),
         is_refused(store.flush()),
-        is_refused(store.at(7)),
+        is_refused(store.at(None)),
         is_refused(session.subkeys(SOFTWARE)),
         is_refused(session.transaction(&unit(9))),
         is_refused(tx.get(SOFTWARE, "v")),

@@ -5,7 +5,7 @@ mod common;
 use common::{spoil, unit, Scratch, ID, SOFTWARE};
 use regtx_client::{moment_of, Creation, Error, Info, Key, Options, Refusal};
 use regtx_client::{Requests, Store, Uuid, Value};
-use std::time::{Duration, UNIX_EPOCH};
+use std::time::{Duration, SystemTime, UNIX_EPOCH};
 
 const ROOT: Key = Key::new(0, "");
 
@@ -48,7 +48,7 @@ fn reads_tell_what_is_there() {
     // 2024-02-29 00:00:00 UTC
     let moment = moment_of(UNIX_EPOCH + Duration::from_secs(1_709_164_800));
     assert_eq!(moment, 133_536_384_000_000_000);
-    store.at(moment).unwrap();
+    store.at(Some(moment)).unwrap();
     for name in ["b", "A", "c"] {
         store.set(SOFTWARE, name, &Value::none([])).unwrap();
     }
@@ -67,6 +67,33 @@ fn reads_tell_what_is_there() {
         scratch.replies("info 0:Software\n"),
         ["info 1 3 133536384000000000"]
     );
+}
+
+#[test]
+fn writes_tell_the_time() {
+    let scratch = Scratch::new();
+    let store = scratch.store();
+    let written = || store.info(SOFTWARE).unwrap().written;
+    let set = || store.set(SOFTWARE, "v", &Value::dword(1)).unwrap();
+    for _ in 0..2 {
+        let before = moment_of(SystemTime::now() - Duration::from_millis(1));
+        set();
+        assert!(before <= written() && written() <= moment_of(SystemTime::now()));
+        store.at(Some(7)).unwrap();
+        set();
+        assert_eq!(written(), 7);
+        store.at(None).unwrap();
+    }
+    store.at(Some(7)).unwrap();
+    let tx = store.transaction(&unit(1)).unwrap();
+    tx.set(SOFTWARE, "v", &Value::dword(2)).unwrap();
+    store.at(None).unwrap();
+    tx.commit().unwrap();
+    assert!(written() > 7);
+    store.at(Some(0)).unwrap();
+    set();
+    assert_eq!(written(), 0);
+    store.close().unwrap();
 }
 
 #[test]

@@ -96,6 +96,8 @@ fn a_commit_without_an_answer_is_unknown() {
     let (store, victim) = scratch.open_to_kill();
     let tx = store.transaction(&unit(7)).unwrap();
     tx.set(SOFTWARE, "v", &Value::dword(1)).unwrap();
+    // its moment is known, so that no other line is sent before the commit
+    store.at(Some(7)).unwrap();
     victim.kill();
     let answer = tx.commit();
     let Err(Error::CommitUnknown(asked, cause)) = answer else {
@@ -206,7 +208,10 @@ fn replies_are_read_whole() {
     }
     // half a reply, of a run that was killed in the midst of it
     let scratch = Scratch::new();
-    let half = scratch.script("half", "echo 'opened 0'\nread -r line\nprintf 'accepted 1'");
+    let half = scratch.script(
+        "half",
+        "echo 'opened 0'\nread -r at\necho ok\nread -r line\nprintf 'accepted 1'",
+    );
     let store = Store::open(&Options::new(half, "store")).unwrap();
     assert!(matches!(
         store.set(SOFTWARE, "v", &Value::dword(1)),

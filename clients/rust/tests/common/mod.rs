@@ -84,12 +84,15 @@ impl Scratch {
     }
 
     /// The store of a program that answers a line by each of these replies, and ends by a command.
+    /// A line that tells the time is always `ok`.
     pub fn fake(&self, replies: &[&str], end: &str) -> Store {
         let answers: String = replies
             .iter()
-            .map(|reply| format!("read -r line\nprintf '%s\\n' '{reply}'\n"))
+            .map(|reply| format!("next\nprintf '%s\\n' '{reply}'\n"))
             .collect();
-        let lines = format!("echo 'opened 0'\n{answers}while read -r line; do :; done\n{end}");
+        let next = "next() { read -r line; case $line in 'at '*) echo ok; read -r line;; esac; }";
+        let lines =
+            format!("{next}\necho 'opened 0'\n{answers}while read -r line; do :; done\n{end}");
         Store::open(&Options::new(self.script("fake", &lines), "store")).unwrap()
     }
 
