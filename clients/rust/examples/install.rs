@@ -24,7 +24,7 @@ fn unit_of(part: u16) -> Uuid {
 
 /// How many parts the second hive counts.
 fn installed(store: &impl Requests) -> Result<u32, Error> {
-    match store.get(SETUP, "Parts") {
+    match store.get_value(SETUP, "Parts") {
         Ok(value) => Ok(value.to_u32().unwrap_or(0)),
         Err(Error::Refused(Refusal::NotFound)) => Ok(0),
         Err(why) => Err(why),
@@ -34,16 +34,16 @@ fn installed(store: &impl Requests) -> Result<u32, Error> {
 fn install(store: &Store, part: u16) -> Result<Option<u64>, Error> {
     let path = format!(r"Software\Vendor\Part {part}");
     let tx = store.transaction(&unit_of(part))?;
-    tx.create(Key::new(0, &path))?;
-    tx.set(Key::new(0, &path), "Version", &Value::sz("1.0"))?;
-    tx.create(SETUP)?;
-    tx.set(SETUP, "Parts", &Value::dword(installed(&tx)? + 1))?;
+    tx.create_key(Key::new(0, &path))?;
+    tx.set_value(Key::new(0, &path), "Version", &Value::sz("1.0"))?;
+    tx.create_key(SETUP)?;
+    tx.set_value(SETUP, "Parts", &Value::dword(installed(&tx)? + 1))?;
     tx.commit()
 }
 
 /// Installs the parts of which no commit is kept.
-fn install_all(options: &Options, count: u16) -> Result<(), Error> {
-    let store = Store::open(options)?;
+fn install_all(folder: &str, options: &Options, count: u16) -> Result<(), Error> {
+    let store = Store::open(folder, options)?;
     let mut left = Vec::new();
     for part in 1..=count {
         if store.kept(&unit_of(part))?.is_none() {
@@ -64,19 +64,19 @@ fn install_all(options: &Options, count: u16) -> Result<(), Error> {
 
 fn run(program: &str, folder: &str, count: u16) -> Result<(), Error> {
     // the run of a program that was killed may not have ended yet
-    let options = Options::new(program, folder).wait(30);
+    let options = Options::new().program(program).wait(30);
     if !Path::new(folder).exists() {
-        Store::create(&options, &STORE, 2)?.close()?;
+        Store::create(folder, &STORE, 2, &options)?;
     }
     for _ in 1..TRIES {
-        match install_all(&options, count) {
+        match install_all(folder, &options, count) {
             Err(Error::Ended | Error::CommitUnknown(..)) => {
                 println!("the run ended: begin another one");
             }
             done => return done,
         }
     }
-    install_all(&options, count)
+    install_all(folder, &options, count)
 }
 
 fn main() -> ExitCode {

@@ -13,13 +13,15 @@ pub enum Error {
     CannotOpen,
     /// The folder has a journal, is in use, or can't be made.
     CannotMake,
+    /// A hive's file can't be read.
+    CannotRead,
     /// The run ended before its time. What was durable is kept; open the store again.
     Ended,
     /// It isn't known whether a commit was done: ask [`Store::kept`](crate::Store::kept) of this
     /// unit in a new run. The cause says why no answer came.
     CommitUnknown(Uuid, Box<Error>),
     /// A name that no call can carry, and why. Nothing was sent.
-    Name(String, &'static str),
+    WrongName(String, &'static str),
     /// The system refused to start the program, or to pass lines to it.
     Io(io::Error),
     /// The program printed a line that isn't a reply to the call.
@@ -50,11 +52,12 @@ impl fmt::Display for Error {
             Error::Refused(why) => write!(f, "{why}"),
             Error::CannotOpen => write!(f, "cannot open store"),
             Error::CannotMake => write!(f, "cannot make store"),
+            Error::CannotRead => write!(f, "cannot read file"),
             Error::Ended => write!(f, "the run ended early"),
             Error::CommitUnknown(unit, cause) => {
                 write!(f, "it isn't known whether {unit} committed: {cause}")
             }
-            Error::Name(name, why) => write!(f, "no call carries the name {name:?}: {why}"),
+            Error::WrongName(name, why) => write!(f, "no call carries the name {name:?}: {why}"),
             Error::Io(why) => write!(f, "{why}"),
             Error::OtherProcess => write!(f, "another process opened the store"),
             Error::Reply(reply) => write!(f, "not a reply: {reply:?}"),

@@ -26,7 +26,7 @@ impl<'a> Key<'a> {
         if !self.path.is_empty() {
             for name in self.path.split('\\') {
                 if name.is_empty() {
-                    return Err(Error::Name(
+                    return Err(Error::WrongName(
                         self.path.to_owned(),
                         "a name of the path is empty",
                     ));
@@ -57,13 +57,13 @@ pub(crate) fn value_name_word(name: &str) -> Result<String, Error> {
 // the rules of E4 BadName; so no name brings a blank or an end of line into a line
 fn check(name: &str, most: usize) -> Result<(), Error> {
     if !name.bytes().all(|byte| (0x20..=0x7e).contains(&byte)) {
-        return Err(Error::Name(
+        return Err(Error::WrongName(
             name.to_owned(),
             "it has a character that isn't printable ASCII",
         ));
     }
     if name.len() > most {
-        return Err(Error::Name(name.to_owned(), "it is too long"));
+        return Err(Error::WrongName(name.to_owned(), "it is too long"));
     }
     Ok(())
 }

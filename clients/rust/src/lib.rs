@@ -17,7 +17,7 @@ mod value;
 pub use error::Error;
 pub use key::Key;
 pub use refusal::Refusal;
-pub use requests::{Creation, Info, Requests};
+pub use requests::{Creation, KeyInfo, Requests};
 pub use session::Session;
 pub use store::{moment_of, Options, Store};
 pub use transaction::Transaction;

@@ -4,6 +4,7 @@ use std::{error, fmt};
 
 /// Why a store refused a call. `docs/SCRIPTS.md` and `docs/USING.md` say when each comes.
 #[derive(Clone, Debug, PartialEq, Eq)]
+#[non_exhaustive]
 pub enum Refusal {
     /// Memory was refused.
     NoMemory,

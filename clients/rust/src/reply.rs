@@ -1,10 +1,16 @@
 //! How replies are read.
 
 use crate::key::name_of_word;
-use crate::{Error, Info, Kind, Refusal, Value};
+use crate::{Error, KeyInfo, Kind, Refusal, Value};
 
 /// The reply, or the refusal that it tells.
 pub(crate) fn answered(reply: String) -> Result<String, Error> {
+    match reply.as_str() {
+        "cannot open store" => return Err(Error::CannotOpen),
+        "cannot make store" => return Err(Error::CannotMake),
+        "cannot read file" => return Err(Error::CannotRead),
+        _ => {}
+    }
     match Refusal::parse(&reply) {
         Some(why) => Err(Error::Refused(why)),
         None => Ok(reply),
@@ -33,12 +39,12 @@ pub(crate) fn names(reply: &str, word: &str) -> Option<Vec<String>> {
 }
 
 /// `info SUBKEYS VALUES TIME`
-pub(crate) fn info(reply: &str) -> Option<Info> {
+pub(crate) fn info(reply: &str) -> Option<KeyInfo> {
     let words: Vec<&str> = reply.split(' ').collect();
     let ["info", subkeys, values, written] = words[..] else {
         return None;
     };
-    Some(Info {
+    Some(KeyInfo {
         subkeys: subkeys.parse().ok()?,
         values: values.parse().ok()?,
         written: written.parse().ok()?,

@@ -39,7 +39,7 @@ pub(crate) mod scope {
     }
 }
 
-/// What [`Requests::create`] did.
+/// What [`Requests::create_key`] did.
 #[derive(Clone, Copy, Debug, PartialEq, Eq)]
 pub enum Creation<A> {
     /// The key was made, and those above it that were missing.
@@ -55,7 +55,7 @@ pub enum Creation<A> {
 
 /// What a key has.
 #[derive(Clone, Copy, Debug, PartialEq, Eq)]
-pub struct Info {
+pub struct KeyInfo {
     /// How many subkeys.
     pub subkeys: u32,
     /// How many values.
@@ -72,7 +72,7 @@ pub struct Info {
 pub trait Requests: Scope {
     /// Creates a key, and the keys above it that are missing, 32 at most. Refused: TooDeep,
     /// TooLarge, Conflict, NotActive, NotFound (no such hive).
-    fn create(&self, key: Key<'_>) -> Result<Creation<Self::Accepted>, Error> {
+    fn create_key(&self, key: Key<'_>) -> Result<Creation<Self::Accepted>, Error> {
         let reply = self.write(&format!("create {}", key.word()?))?;
         if reply == "opened" {
             return Ok(Creation::Opened);
@@ -89,14 +89,14 @@ pub trait Requests: Scope {
     }
 
     /// Deletes a key without subkeys. Refused: NotFound, HasSubkeys, Fixed, Conflict, NotActive.
-    fn delete(&self, key: Key<'_>) -> Result<Self::Accepted, Error> {
+    fn delete_key(&self, key: Key<'_>) -> Result<Self::Accepted, Error> {
         let reply = self.write(&format!("delete {}", key.word()?))?;
         understood(Self::accepted(&reply), reply)
     }
 
     /// Writes a value of a key. The empty name is the default value's. Refused: NotFound (no such
     /// key), TooLarge (over 1,048,576 bytes, for one), Conflict, NotActive.
-    fn set(&self, key: Key<'_>, name: &str, value: &Value) -> Result<Self::Accepted, Error> {
+    fn set_value(&self, key: Key<'_>, name: &str, value: &Value) -> Result<Self::Accepted, Error> {
         let (key, name) = (key.word()?, value_name_word(name)?);
         let reply = self.write(&format!(
             "set {key} {name} {} {}",
@@ -107,13 +107,13 @@ pub trait Requests: Scope {
     }
 
     /// Deletes a value. Refused: NotFound, Conflict, NotActive.
-    fn unset(&self, key: Key<'_>, name: &str) -> Result<Self::Accepted, Error> {
+    fn delete_value(&self, key: Key<'_>, name: &str) -> Result<Self::Accepted, Error> {
         let reply = self.write(&format!("unset {} {}", key.word()?, value_name_word(name)?))?;
         understood(Self::accepted(&reply), reply)
     }
 
     /// A value. Refused: NotFound, NotActive.
-    fn get(&self, key: Key<'_>, name: &str) -> Result<Value, Error> {
+    fn get_value(&self, key: Key<'_>, name: &str) -> Result<Value, Error> {
         let reply = self.ask(&format!("get {} {}", key.word()?, value_name_word(name)?))?;
         understood(reply::value(&reply), reply)
     }
@@ -126,13 +126,13 @@ pub trait Requests: Scope {
     }
 
     /// The names of a key's values, as those of subkeys.
-    fn values(&self, key: Key<'_>) -> Result<Vec<String>, Error> {
+    fn value_names(&self, key: Key<'_>) -> Result<Vec<String>, Error> {
         let reply = self.ask(&format!("values {}", key.word()?))?;
         understood(reply::names(&reply, "values"), reply)
     }
 
     /// What a key has. Refused: NotFound, NotActive.
-    fn info(&self, key: Key<'_>) -> Result<Info, Error> {
+    fn key_info(&self, key: Key<'_>) -> Result<KeyInfo, Error> {
         let reply = self.ask(&format!("info {}", key.word()?))?;
         understood(reply::info(&reply), reply)
     }

@@ -1,10 +1,12 @@
 //! A run of the program on a store: one line is sent, and one reply read, at a time.
 
 use crate::reply::{answered, number, understood};
+use crate::store::file_word;
 use crate::{moment_of, Error, Options, Refusal};
 use std::collections::BTreeSet;
 use std::io::{self, BufRead, BufReader, Read, Write};
 use std::os::unix::process::CommandExt;
+use std::path::Path;
 use std::process::{self, Child, ChildStdin, ChildStdout, Command, ExitStatus, Stdio};
 use std::time::SystemTime;
 
@@ -33,10 +35,10 @@ pub struct Run {
 
 impl Run {
     /// Starts the program; answers the number of the store's last change too.
-    pub(crate) fn start(options: &Options) -> Result<(Run, u64), Error> {
+    pub(crate) fn start(folder: &Path, options: &Options) -> Result<(Run, u64), Error> {
         let mut child = Command::new(&options.program)
             .args(["wait", &options.wait.to_string(), "run"])
-            .arg(options.folder_word())
+            .arg(file_word(folder))
             .arg("/dev/stdin")
             .stdin(Stdio::piped())
             .stdout(Stdio::piped())
@@ -59,9 +61,6 @@ impl Run {
             moment: 0,
         };
         let opened = answered(run.read_reply()?)?;
-        if opened == "cannot open store" {
-            return Err(Error::CannotOpen);
-        }
         let last = understood(number(&opened, "opened"), opened)?;
         Ok((run, last))
     }

@@ -9,34 +9,57 @@ use std::path::{Path, PathBuf};
 use std::process::{Command, Stdio};
 use std::time::{SystemTime, UNIX_EPOCH};
 
-/// Which program runs on which folder.
+/// Which program opens a store, and how long it waits for one that is in use.
 #[derive(Clone, Debug)]
 pub struct Options {
     pub(crate) program: PathBuf,
-    folder: PathBuf,
     pub(crate) wait: u32,
 }
 
 impl Options {
-    /// The program, which is looked for on the path if it is a single name; and the store's folder.
-    pub fn new(program: impl Into<PathBuf>, folder: impl Into<PathBuf>) -> Self {
+    /// The program `regtx` of the path, which doesn't wait.
+    pub fn new() -> Self {
         Options {
-            program: program.into(),
-            folder: folder.into(),
+            program: "regtx".into(),
             wait: 0,
         }
     }
 
-    /// How many seconds an opening waits for a store that is in use: up to 86,400, a day; 0 at
-    /// first.
+    /// The program, which is looked for on the path if it is a single name.
+    pub fn program(mut self, program: impl Into<PathBuf>) -> Self {
+        self.program = program.into();
+        self
+    }
+
+    /// How many seconds an opening waits for a store that is in use: up to 86,400, a day.
     pub fn wait(mut self, seconds: u32) -> Self {
         self.wait = seconds;
         self
     }
+}
 
-    // a folder whose name begins with a hyphen isn't taken for an option so
-    pub(crate) fn folder_word(&self) -> PathBuf {
-        Path::new(".").join(&self.folder)
+impl Default for Options {
+    fn default() -> Self {
+        Options::new()
+    }
+}
+
+/// A file as a word: one whose name begins with a hyphen isn't taken for an option so.
+pub(crate) fn file_word(file: impl AsRef<Path>) -> PathBuf {
+    Path::new(".").join(file)
+}
+
+/// Carries out a command that makes a store.
+fn make(command: &mut Command) -> Result<(), Error> {
+    let made = command
+        .stdin(Stdio::null())
+        .stderr(Stdio::inherit())
+        .output()?;
+    let text = String::from_utf8_lossy(&made.stdout);
+    match answered(text.trim_end().to_owned())?.as_str() {
+        "ok" => Ok(()),
+        "" => Err(Error::Ended),
+        reply => Err(Error::Reply(reply.to_owned())),
     }
 }
 
@@ -50,28 +73,53 @@ pub struct Store {
 }
 
 impl Store {
-    /// Makes a store of so many empty hives (1 to 16) in the folder, and opens it. Each store needs
-    /// an id of its own. Hive files that lie in the folder without a journal are written over.
-    pub fn create(options: &Options, id: &Uuid, hives: u8) -> Result<Store, Error> {
-        let made = Command::new(&options.program)
-            .arg("new")
-            .arg(options.folder_word())
-            .args([id.to_string(), hives.to_string()])
-            .stdin(Stdio::null())
-            .stderr(Stdio::inherit())
-            .output()?;
-        let text = String::from_utf8_lossy(&made.stdout);
-        match answered(text.trim_end().to_owned())?.as_str() {
-            "ok" => Store::open(options),
-            "cannot make store" => Err(Error::CannotMake),
-            "" => Err(Error::Ended),
-            reply => Err(Error::Reply(reply.to_owned())),
-        }
+    /// Makes a store of so many empty hives (1 to 16) in the folder. Each store needs an id of its
+    /// own. Hive files that lie in the folder without a journal are written over.
+    pub fn create(
+        folder: impl AsRef<Path>,
+        id: &Uuid,
+        hives: u8,
+        options: &Options,
+    ) -> Result<(), Error> {
+        let mut command = Command::new(&options.program);
+        let words = [id.to_string(), hives.to_string()];
+        make(command.arg("new").arg(file_word(folder)).args(words))
+    }
+
+    /// Makes a store of copies of the clean hives in files, 1 to 16: hive 0 is a copy of the first.
+    pub fn import_files<F: AsRef<Path>>(
+        folder: impl AsRef<Path>,
+        id: &Uuid,
+        files: &[F],
+        options: &Options,
+    ) -> Result<(), Error> {
+        let mut command = Command::new(&options.program);
+        command.arg("import").arg(file_word(folder));
+        make(
+            command
+                .arg(id.to_string())
+                .args(files.iter().map(file_word)),
+        )
+    }
+
+    /// Copies a store of the first layout to one that keeps outcomes of commits. Refused:
+    /// Unsupported, if the old one keeps them already.
+    pub fn upgrade(
+        old: impl AsRef<Path>,
+        new: impl AsRef<Path>,
+        options: &Options,
+    ) -> Result<(), Error> {
+        let mut command = Command::new(&options.program);
+        make(
+            command
+                .arg("upgrade")
+                .args([file_word(old), file_word(new)]),
+        )
     }
 
     /// Opens the store in the folder, and repairs it if the last run was killed.
-    pub fn open(options: &Options) -> Result<Store, Error> {
-        let (run, opened_at) = Run::start(options)?;
+    pub fn open(folder: impl AsRef<Path>, options: &Options) -> Result<Store, Error> {
+        let (run, opened_at) = Run::start(folder.as_ref(), options)?;
         Ok(Store {
             run: RefCell::new(run),
             opened_at,

@@ -30,7 +30,7 @@ const WRONG: [&str; 7] = [
 ];
 
 fn is_name<T>(answer: &Result<T, Error>) -> bool {
-    matches!(answer, Err(Error::Name(..)))
+    matches!(answer, Err(Error::WrongName(..)))
 }
 
 #[test]
@@ -38,18 +38,18 @@ fn value_names_are_quoted() {
     let scratch = Scratch::new();
     let store = scratch.store();
     for (at, (name, _)) in (0..).zip(NAMES) {
-        store.set(SOFTWARE, name, &Value::dword(at)).unwrap();
+        store.set_value(SOFTWARE, name, &Value::dword(at)).unwrap();
     }
     for (at, (name, _)) in (0..).zip(NAMES) {
         assert_eq!(
-            store.get(SOFTWARE, name).unwrap().to_u32(),
+            store.get_value(SOFTWARE, name).unwrap().to_u32(),
             Some(at),
             "{name:?}"
         );
     }
     let mut wanted: Vec<&str> = NAMES.iter().map(|(name, _)| *name).collect();
     wanted.sort_unstable_by_key(|name| name.to_uppercase());
-    assert_eq!(store.values(SOFTWARE).unwrap(), wanted);
+    assert_eq!(store.value_names(SOFTWARE).unwrap(), wanted);
     store.close().unwrap();
     let replies = scratch.replies("values 0:Software\n");
     let mut printed: Vec<&str> = replies[0].split(' ').skip(2).collect();
@@ -68,8 +68,8 @@ fn key_names_are_quoted() {
         .filter(|(name, _)| !name.is_empty() && !name.contains('\\'))
     {
         let path = format!(r"Some Vendor\{name}");
-        store.create(Key::new(0, &path)).unwrap();
-        assert_eq!(store.info(Key::new(0, &path)).unwrap().subkeys, 0);
+        store.create_key(Key::new(0, &path)).unwrap();
+        assert_eq!(store.key_info(Key::new(0, &path)).unwrap().subkeys, 0);
         assert!(store
             .subkeys(Key::new(0, "Some Vendor"))
             .unwrap()
@@ -89,17 +89,17 @@ fn wrong_names_send_nothing() {
     let store = scratch.store();
     for name in WRONG {
         let key = Key::new(0, name);
-        assert!(is_name(&store.create(key)), "{name:?}");
-        assert!(is_name(&store.delete(key)));
-        assert!(is_name(&store.set(key, "v", &Value::none([]))));
-        assert!(is_name(&store.set(SOFTWARE, name, &Value::none([]))));
-        assert!(is_name(&store.unset(SOFTWARE, name)));
-        assert!(is_name(&store.get(SOFTWARE, name)));
-        assert!(is_name(&store.subkeys(key)) && is_name(&store.values(key)));
-        assert!(is_name(&store.info(key)));
+        assert!(is_name(&store.create_key(key)), "{name:?}");
+        assert!(is_name(&store.delete_key(key)));
+        assert!(is_name(&store.set_value(key, "v", &Value::none([]))));
+        assert!(is_name(&store.set_value(SOFTWARE, name, &Value::none([]))));
+        assert!(is_name(&store.delete_value(SOFTWARE, name)));
+        assert!(is_name(&store.get_value(SOFTWARE, name)));
+        assert!(is_name(&store.subkeys(key)) && is_name(&store.value_names(key)));
+        assert!(is_name(&store.key_info(key)));
     }
     for path in [r"\Software", r"Software\", r"Software\\X", r"\"] {
-        assert!(is_name(&store.create(Key::new(0, path))), "{path:?}");
+        assert!(is_name(&store.create_key(Key::new(0, path))), "{path:?}");
     }
     store.close().unwrap();
     let replies = scratch.replies("keys 0:\nvalues 0:\nvalues 0:Software\n");
@@ -112,11 +112,17 @@ fn names_have_their_longest() {
     let scratch = Scratch::new();
     let store = scratch.store();
     let (key, value) = ("k".repeat(256), "v".repeat(16_384));
-    store.create(Key::new(0, &key[1..])).unwrap();
-    store.set(SOFTWARE, &value[1..], &Value::none([])).unwrap();
-    assert!(is_name(&store.create(Key::new(0, &key))));
-    assert!(is_name(&store.set(SOFTWARE, &value, &Value::none([]))));
-    assert_eq!(store.values(SOFTWARE).unwrap(), [&value[1..]]);
+    store.create_key(Key::new(0, &key[1..])).unwrap();
+    store
+        .set_value(SOFTWARE, &value[1..], &Value::none([]))
+        .unwrap();
+    assert!(is_name(&store.create_key(Key::new(0, &key))));
+    assert!(is_name(&store.set_value(
+        SOFTWARE,
+        &value,
+        &Value::none([])
+    )));
+    assert_eq!(store.value_names(SOFTWARE).unwrap(), [&value[1..]]);
     store.close().unwrap();
 }
 
@@ -134,8 +140,10 @@ fn listed_names_are_unicode() {
 fn names_are_matched_by_folded_letters() {
     let scratch = Scratch::new();
     let store: Store = scratch.store();
-    store.set(SOFTWARE, "Version", &Value::dword(7)).unwrap();
-    let found = store.get(Key::new(0, "sOFTWARE"), "VERSION").unwrap();
+    store
+        .set_value(SOFTWARE, "Version", &Value::dword(7))
+        .unwrap();
+    let found = store.get_value(Key::new(0, "sOFTWARE"), "VERSION").unwrap();
     assert_eq!(found.to_u32(), Some(7));
     store.close().unwrap();
 }

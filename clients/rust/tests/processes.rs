@@ -45,8 +45,8 @@ fn is_refused<T>(answer: Result<T, Error>) -> bool {
 /// How many calls aren't refused of what another process opened.
 fn misused(store: &Store, session: &Session, tx: &Transaction) -> i32 {
     let refused = [
-        is_refused(store.get(SOFTWARE, "v")),
-        is_refused(store.set(SOFTWARE, "v", &Value::dword(9))),
+        is_refused(store.get_value(SOFTWARE, "v")),
+        is_refused(store.set_value(SOFTWARE, "v", &Value::dword(9))),
         is_refused(store.session()),
         is_refused(store.transaction(&unit(9))),
         is_refused(store.kept(&unit(9))),
@@ -54,7 +54,7 @@ fn misused(store: &Store, session: &Session, tx: &Transaction) -> i32 {
         is_refused(store.at(None)),
         is_refused(session.subkeys(SOFTWARE)),
         is_refused(session.transaction(&unit(9))),
-        is_refused(tx.get(SOFTWARE, "v")),
+        is_refused(tx.get_value(SOFTWARE, "v")),
         is_refused(tx.is_active()),
     ];
     refused.iter().map(|refused| i32::from(!refused)).sum()
@@ -64,10 +64,10 @@ fn misused(store: &Store, session: &Session, tx: &Transaction) -> i32 {
 fn a_fork_refuses_what_it_did_not_open() {
     let scratch = Scratch::new();
     let store = scratch.store();
-    store.set(SOFTWARE, "v", &Value::dword(7)).unwrap();
+    store.set_value(SOFTWARE, "v", &Value::dword(7)).unwrap();
     let session = store.session().unwrap();
     let tx = store.transaction(&unit(1)).unwrap();
-    tx.create(Key::new(0, "Mine")).unwrap();
+    tx.create_key(Key::new(0, "Mine")).unwrap();
     let mut others = Vec::new();
     for _ in 0..10 {
         // SAFETY: the new process makes calls of the client alone, and leaves without unwinding
@@ -82,7 +82,7 @@ fn a_fork_refuses_what_it_did_not_open() {
         others.push(process);
     }
     for _ in 0..500 {
-        assert_eq!(store.get(SOFTWARE, "v").unwrap().to_u32(), Some(7));
+        assert_eq!(store.get_value(SOFTWARE, "v").unwrap().to_u32(), Some(7));
     }
     for other in others {
         assert_eq!(status_of(other), 0);

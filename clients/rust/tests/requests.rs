@@ -3,8 +3,9 @@
 mod common;
 
 use common::{spoil, unit, Scratch, ID, SOFTWARE};
-use regtx_client::{moment_of, Creation, Error, Info, Key, Options, Refusal};
+use regtx_client::{moment_of, Creation, Error, Key, KeyInfo, Refusal};
 use regtx_client::{Requests, Store, Uuid, Value};
+use std::fs;
 use std::time::{Duration, SystemTime, UNIX_EPOCH};
 
 const ROOT: Key = Key::new(0, "");
@@ -22,7 +23,7 @@ fn writes_answer_their_numbers() {
     let store = scratch.store();
     assert_eq!(store.opened_at(), 0);
     let key = Key::new(0, r"Software\Vendor\Product");
-    let created = store.create(key).unwrap();
+    let created = store.create_key(key).unwrap();
     assert_eq!(
         created,
         Creation::Created {
@@ -30,10 +31,10 @@ fn writes_answer_their_numbers() {
             accepted: 2
         }
     );
-    assert_eq!(store.create(key).unwrap(), Creation::Opened);
-    assert_eq!(store.set(key, "v", &Value::dword(1)).unwrap(), 3);
-    assert_eq!(store.unset(key, "v").unwrap(), 4);
-    assert_eq!(store.delete(key).unwrap(), 5);
+    assert_eq!(store.create_key(key).unwrap(), Creation::Opened);
+    assert_eq!(store.set_value(key, "v", &Value::dword(1)).unwrap(), 3);
+    assert_eq!(store.delete_value(key, "v").unwrap(), 4);
+    assert_eq!(store.delete_key(key).unwrap(), 5);
     assert_eq!(store.flush().unwrap(), 5);
     store.close().unwrap();
     let replies = scratch.replies("keys 0:Software\nkeys 0:Software\\Vendor\n");
@@ -50,18 +51,18 @@ fn reads_tell_what_is_there() {
     assert_eq!(moment, 133_536_384_000_000_000);
     store.at(Some(moment)).unwrap();
     for name in ["b", "A", "c"] {
-        store.set(SOFTWARE, name, &Value::none([])).unwrap();
+        store.set_value(SOFTWARE, name, &Value::none([])).unwrap();
     }
-    store.create(Key::new(0, r"Software\X")).unwrap();
-    assert_eq!(store.values(SOFTWARE).unwrap(), ["A", "b", "c"]);
+    store.create_key(Key::new(0, r"Software\X")).unwrap();
+    assert_eq!(store.value_names(SOFTWARE).unwrap(), ["A", "b", "c"]);
     assert_eq!(store.subkeys(SOFTWARE).unwrap(), ["X"]);
     assert_eq!(store.subkeys(Key::new(1, "")).unwrap(), [""; 0]);
-    let info = Info {
+    let info = KeyInfo {
         subkeys: 1,
         values: 3,
         written: moment,
     };
-    assert_eq!(store.info(SOFTWARE).unwrap(), info);
+    assert_eq!(store.key_info(SOFTWARE).unwrap(), info);
     store.close().unwrap();
     assert_eq!(
         scratch.replies("info 0:Software\n"),
@@ -73,8 +74,8 @@ fn reads_tell_what_is_there() {
 fn writes_tell_the_time() {
     let scratch = Scratch::new();
     let store = scratch.store();
-    let written = || store.info(SOFTWARE).unwrap().written;
-    let set = || store.set(SOFTWARE, "v", &Value::dword(1)).unwrap();
+    let written = || store.key_info(SOFTWARE).unwrap().written;
+    let set = || store.set_value(SOFTWARE, "v", &Value::dword(1)).unwrap();
     for _ in 0..2 {
         let before = moment_of(SystemTime::now() - Duration::from_millis(1));
         set();
@@ -86,7 +87,7 @@ fn writes_tell_the_time() {
     }
     store.at(Some(7)).unwrap();
     let tx = store.transaction(&unit(1)).unwrap();
-    tx.set(SOFTWARE, "v", &Value::dword(2)).unwrap();
+    tx.set_value(SOFTWARE, "v", &Value::dword(2)).unwrap();
     store.at(None).unwrap();
     tx.commit().unwrap();
     assert!(written() > 7);
@@ -100,18 +101,27 @@ fn writes_tell_the_time() {
 fn refusals_change_nothing() {
     let scratch = Scratch::new();
     let store = scratch.store();
-    store.create(Key::new(0, r"Software\Vendor")).unwrap();
-    assert_eq!(refusal(store.get(SOFTWARE, "v")), Refusal::NotFound);
-    assert_eq!(refusal(store.get(Key::new(9, ""), "v")), Refusal::NotFound);
-    assert_eq!(refusal(store.unset(SOFTWARE, "v")), Refusal::NotFound);
+    store.create_key(Key::new(0, r"Software\Vendor")).unwrap();
+    assert_eq!(refusal(store.get_value(SOFTWARE, "v")), Refusal::NotFound);
+    assert_eq!(
+        refusal(store.get_value(Key::new(9, ""), "v")),
+        Refusal::NotFound
+    );
+    assert_eq!(
+        refusal(store.delete_value(SOFTWARE, "v")),
+        Refusal::NotFound
+    );
     assert_eq!(
         refusal(store.subkeys(Key::new(0, "None"))),
         Refusal::NotFound
     );
-    assert_eq!(refusal(store.delete(SOFTWARE)), Refusal::HasSubkeys);
-    assert_eq!(refusal(store.delete(ROOT)), Refusal::Fixed);
+    assert_eq!(refusal(store.delete_key(SOFTWARE)), Refusal::HasSubkeys);
+    assert_eq!(refusal(store.delete_key(ROOT)), Refusal::Fixed);
     let deep = [r"d"; 33].join("\\");
-    assert_eq!(refusal(store.create(Key::new(0, &deep))), Refusal::TooDeep);
+    assert_eq!(
+        refusal(store.create_key(Key::new(0, &deep))),
+        Refusal::TooDeep
+    );
     assert_eq!(store.flush().unwrap(), 2);
     store.close().unwrap();
 }
@@ -124,7 +134,7 @@ fn places_are_limited() {
     assert_eq!(refusal(store.session()), Refusal::NoSeat);
     drop(sessions);
     let session = store.session().unwrap();
-    session.create(SOFTWARE).unwrap();
+    session.create_key(SOFTWARE).unwrap();
     let all: Vec<_> = (0..1024)
         .map(|_| session.transaction(&unit(1)).unwrap())
         .collect();
@@ -176,13 +186,13 @@ fn each_refusal_has_its_number_and_name() {
 fn damaged_stores_are_refused() {
     let scratch = Scratch::new();
     assert_eq!(
-        refusal(Store::open(&scratch.options())),
+        refusal(Store::open(scratch.at("store"), &scratch.options())),
         Refusal::JournalDamaged
     );
     scratch.store().close().unwrap();
     // behind the base block: the first bin
     spoil(&scratch.at("store/hive01.dat"), 4096);
-    let why = refusal(Store::open(&scratch.options()));
+    let why = refusal(Store::open(scratch.at("store"), &scratch.options()));
     assert_eq!(
         why,
         Refusal::HiveDamaged {
@@ -192,7 +202,7 @@ fn damaged_stores_are_refused() {
     );
     spoil(&scratch.at("store/journal"), 0);
     assert_eq!(
-        refusal(Store::open(&scratch.options())),
+        refusal(Store::open(scratch.at("store"), &scratch.options())),
         Refusal::JournalDamaged
     );
 }
@@ -201,19 +211,60 @@ fn damaged_stores_are_refused() {
 fn stores_are_made_once_and_of_sixteen_hives_at_most() {
     let scratch = Scratch::new();
     scratch.store().close().unwrap();
-    let again = Store::create(&scratch.options(), &ID, 1);
+    let again = Store::create(scratch.at("store"), &ID, 1, &scratch.options());
     assert!(matches!(again, Err(Error::CannotMake)), "{again:?}");
-    let other = Options::new(&scratch.program, scratch.at("other"));
-    let over = Store::create(&other, &ID, 17);
+    let (other, options) = (scratch.at("other"), scratch.options());
+    let over = Store::create(&other, &ID, 17, &options);
     assert!(
         matches!(&over, Err(Error::Reply(text)) if text == "wrong words"),
         "{over:?}"
     );
     let id = Uuid::random().unwrap();
-    Store::create(&other, &id, 16).unwrap().close().unwrap();
+    Store::create(&other, &id, 16, &options).unwrap();
     assert!(scratch
         .printed(&["check", "other"])
         .starts_with(&format!("store {id}\n")));
+}
+
+#[test]
+fn stores_are_made_of_files() {
+    let scratch = Scratch::new();
+    scratch.store().close().unwrap();
+    let (options, copies) = (scratch.options(), scratch.at("copies"));
+    let import = |files: &[&str]| {
+        let files: Vec<_> = files.iter().map(|file| scratch.at(file)).collect();
+        Store::import_files(&copies, &ID, &files, &options)
+    };
+    let (first, second) = ("store/hive00.dat", "store/hive01.dat");
+    assert!(matches!(import(&[first, "none"]), Err(Error::CannotRead)));
+    assert_eq!(refusal(import(&["store/journal"])).name(), "HiveDamaged");
+    import(&[second, first]).unwrap();
+    assert!(matches!(import(&[first]), Err(Error::CannotMake)));
+    let store = Store::open(&copies, &options).unwrap();
+    assert_eq!(store.subkeys(Key::new(1, "")).unwrap(), ["Software"]);
+    store.close().unwrap();
+}
+
+#[test]
+fn old_stores_are_upgraded() {
+    let scratch = Scratch::new();
+    scratch.store().close().unwrap();
+    let (options, old, new) = (scratch.options(), scratch.at("store"), scratch.at("new"));
+    let upgrade = || Store::upgrade(&old, &new, &options);
+    assert_eq!(refusal(upgrade()), Refusal::Unsupported);
+    // a store of the first layout: its journal says so, and it has no hive of outcomes
+    let mut journal = fs::read(old.join("journal")).unwrap();
+    journal[..8].copy_from_slice(b"KTMJRNL1");
+    fs::write(old.join("journal"), journal).unwrap();
+    fs::remove_file(old.join("hive02.dat")).unwrap();
+    let store = scratch.open();
+    assert_eq!(refusal(store.kept(&unit(1))), Refusal::Unsupported);
+    assert!(matches!(upgrade(), Err(Error::CannotOpen)));
+    store.close().unwrap();
+    upgrade().unwrap();
+    let store = Store::open(&new, &options).unwrap();
+    assert_eq!(store.kept(&unit(1)).unwrap(), None);
+    assert_eq!(store.subkeys(ROOT).unwrap(), ["Software"]);
 }
 
 #[test]

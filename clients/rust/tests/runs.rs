@@ -11,8 +11,12 @@ use std::time::Duration;
 #[test]
 fn a_missing_program_is_told() {
     let scratch = Scratch::new();
-    let options = Options::new(scratch.at("none"), scratch.at("store"));
-    for answer in [Store::open(&options), Store::create(&options, &ID, 1)] {
+    let (folder, options) = (
+        scratch.at("store"),
+        Options::new().program(scratch.at("none")),
+    );
+    let opened = Store::open(&folder, &options).map(|_| ());
+    for answer in [opened, Store::create(&folder, &ID, 1, &options)] {
         assert!(matches!(answer, Err(Error::Io(why)) if why.kind() == ErrorKind::NotFound));
     }
 }
@@ -20,11 +24,11 @@ fn a_missing_program_is_told() {
 #[test]
 fn other_programs_are_told() {
     let scratch = Scratch::new();
-    let open = |program: &str| Store::open(&Options::new(program, scratch.at("store")));
+    let open = |program: &str| Store::open(scratch.at("store"), &Options::new().program(program));
     assert!(matches!(open("true"), Err(Error::Ended)));
     assert!(matches!(open("echo"), Err(Error::Reply(text)) if text.starts_with("wait 0 run ")));
     let folder = scratch.at("no").join("folder");
-    let none = Store::create(&Options::new(&scratch.program, folder), &ID, 1);
+    let none = Store::create(folder, &ID, 1, &scratch.options());
     assert!(matches!(none, Err(Error::CannotMake)));
 }
 
@@ -33,18 +37,18 @@ fn a_store_in_use_is_waited_for() {
     let scratch = Scratch::new();
     let store = scratch.store();
     assert!(matches!(
-        Store::open(&scratch.options()),
+        Store::open(scratch.at("store"), &scratch.options()),
         Err(Error::CannotOpen)
     ));
     assert!(matches!(
-        Store::open(&scratch.options().wait(1)),
+        Store::open(scratch.at("store"), &scratch.options().wait(1)),
         Err(Error::CannotOpen)
     ));
     let other = thread::spawn(move || {
         thread::sleep(Duration::from_millis(100));
         store.close()
     });
-    Store::open(&scratch.options().wait(60))
+    Store::open(scratch.at("store"), &scratch.options().wait(60))
         .unwrap()
         .close()
         .unwrap();
@@ -56,7 +60,7 @@ fn two_stores_end_by_themselves() {
     let (one, two) = (Scratch::new(), Scratch::new());
     let (first, second) = (one.store(), two.store());
     first.close().unwrap();
-    second.set(SOFTWARE, "v", &Value::dword(1)).unwrap();
+    second.set_value(SOFTWARE, "v", &Value::dword(1)).unwrap();
     second.close().unwrap();
 }
 
@@ -65,16 +69,16 @@ fn a_folder_may_begin_with_a_hyphen() {
     let scratch = Scratch::new();
     let (home, program) = (scratch.at(""), scratch.program.display());
     let lines = format!("cd '{}' && exec '{program}' \"$@\"", home.display());
-    let options = Options::new(scratch.script("inside", &lines), "--help");
-    Store::create(&options, &ID, 1).unwrap().close().unwrap();
-    Store::open(&options).unwrap().close().unwrap();
+    let options = Options::new().program(scratch.script("inside", &lines));
+    Store::create("--help", &ID, 1, &options).unwrap();
+    Store::open("--help", &options).unwrap().close().unwrap();
 }
 
 #[test]
 fn a_refused_request_is_no_failure_of_the_run() {
     let scratch = Scratch::new();
     let store = scratch.store();
-    store.get(SOFTWARE, "v").unwrap_err();
+    store.get_value(SOFTWARE, "v").unwrap_err();
     store.close().unwrap();
 }
 
@@ -84,7 +88,7 @@ fn a_killed_run_has_ended() {
     scratch.store().close().unwrap();
     let (store, victim) = scratch.open_to_kill();
     victim.kill();
-    assert!(matches!(store.get(SOFTWARE, "v"), Err(Error::Ended)));
+    assert!(matches!(store.get_value(SOFTWARE, "v"), Err(Error::Ended)));
     assert!(matches!(store.flush(), Err(Error::Ended)));
     assert!(matches!(store.close(), Err(Error::Ended)));
 }
@@ -95,7 +99,7 @@ fn a_commit_without_an_answer_is_unknown() {
     scratch.store().close().unwrap();
     let (store, victim) = scratch.open_to_kill();
     let tx = store.transaction(&unit(7)).unwrap();
-    tx.set(SOFTWARE, "v", &Value::dword(1)).unwrap();
+    tx.set_value(SOFTWARE, "v", &Value::dword(1)).unwrap();
     // its moment is known, so that no other line is sent before the commit
     store.at(Some(7)).unwrap();
     victim.kill();
@@ -122,7 +126,7 @@ fn some_refusals_leave_a_commit_unknown() {
     ] {
         let store = Scratch::new().fake(&["ok", "ok", why, "ok"], "exit 1");
         let tx = store.transaction(&unit(1)).unwrap();
-        tx.set(SOFTWARE, "v", &Value::dword(1)).unwrap();
+        tx.set_value(SOFTWARE, "v", &Value::dword(1)).unwrap();
         assert!(
             matches!(tx.commit(), Err(Error::CommitUnknown(..))),
             "{why}"
@@ -130,7 +134,7 @@ fn some_refusals_leave_a_commit_unknown() {
     }
     let store = Scratch::new().fake(&["ok", "ok", "E11 JournalFull", "ok"], "exit 1");
     let tx = store.transaction(&unit(1)).unwrap();
-    tx.set(SOFTWARE, "v", &Value::dword(1)).unwrap();
+    tx.set_value(SOFTWARE, "v", &Value::dword(1)).unwrap();
     assert!(matches!(
         tx.commit(),
         Err(Error::Refused(Refusal::JournalFull))
@@ -142,10 +146,10 @@ fn some_refusals_leave_a_commit_unknown() {
 fn what_a_drop_meets_is_told_later() {
     let store = Scratch::new().fake(&["ok", "E9 NoSuchHandle", "accepted 5"], "exit 1");
     drop(store.transaction(&unit(1)).unwrap());
-    let told = store.set(SOFTWARE, "v", &Value::dword(1));
+    let told = store.set_value(SOFTWARE, "v", &Value::dword(1));
     assert!(matches!(told, Err(Error::Refused(Refusal::NoSuchHandle))));
     // that call sent nothing
-    assert_eq!(store.set(SOFTWARE, "v", &Value::dword(1)).unwrap(), 5);
+    assert_eq!(store.set_value(SOFTWARE, "v", &Value::dword(1)).unwrap(), 5);
     store.close().unwrap();
 
     let store = Scratch::new().fake(&["ok", "E9 NoSuchHandle"], "exit 1");
@@ -186,7 +190,7 @@ fn replies_are_read_whole() {
         "",
     ] {
         let store = Scratch::new().fake(&[reply], "exit 0");
-        let answer = store.get(SOFTWARE, "v");
+        let answer = store.get_value(SOFTWARE, "v");
         assert!(
             matches!(&answer, Err(Error::Reply(text)) if text == reply),
             "{answer:?}"
@@ -212,9 +216,9 @@ fn replies_are_read_whole() {
         "half",
         "echo 'opened 0'\nread -r at\necho ok\nread -r line\nprintf 'accepted 1'",
     );
-    let store = Store::open(&Options::new(half, "store")).unwrap();
+    let store = Store::open("store", &Options::new().program(half)).unwrap();
     assert!(matches!(
-        store.set(SOFTWARE, "v", &Value::dword(1)),
+        store.set_value(SOFTWARE, "v", &Value::dword(1)),
         Err(Error::Ended)
     ));
 }

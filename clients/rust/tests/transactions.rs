@@ -16,7 +16,7 @@ fn a_commit_changes_all_hives_at_once() {
     let scratch = Scratch::new();
     let store = scratch.store();
     let tx = store.transaction(&unit(1)).unwrap();
-    let created = tx.create(SERVICES).unwrap();
+    let created = tx.create_key(SERVICES).unwrap();
     assert_eq!(
         created,
         Creation::Created {
@@ -24,11 +24,11 @@ fn a_commit_changes_all_hives_at_once() {
             accepted: ()
         }
     );
-    assert_eq!(tx.create(SOFTWARE).unwrap(), Creation::Opened);
-    tx.set(SOFTWARE, "v", &Value::dword(1)).unwrap();
-    assert_eq!(tx.get(SOFTWARE, "v").unwrap().to_u32(), Some(1));
-    assert!(refused(&store.get(SOFTWARE, "v"), Refusal::NotFound));
-    assert!(refused(&store.info(SERVICES), Refusal::NotFound));
+    assert_eq!(tx.create_key(SOFTWARE).unwrap(), Creation::Opened);
+    tx.set_value(SOFTWARE, "v", &Value::dword(1)).unwrap();
+    assert_eq!(tx.get_value(SOFTWARE, "v").unwrap().to_u32(), Some(1));
+    assert!(refused(&store.get_value(SOFTWARE, "v"), Refusal::NotFound));
+    assert!(refused(&store.key_info(SERVICES), Refusal::NotFound));
     assert_eq!(tx.unit(), &unit(1));
     assert_eq!(tx.commit().unwrap(), Some(2));
     assert_eq!(store.subkeys(Key::new(1, "")).unwrap(), ["Services"]);
@@ -43,15 +43,15 @@ fn a_drop_rolls_back() {
     let store = scratch.store();
     let write = || -> Result<(), Error> {
         let tx = store.transaction(&unit(1))?;
-        tx.set(SOFTWARE, "v", &Value::dword(1))?;
-        tx.delete(Key::new(0, "None"))
+        tx.set_value(SOFTWARE, "v", &Value::dword(1))?;
+        tx.delete_key(Key::new(0, "None"))
     };
     assert!(refused(&write(), Refusal::NotFound));
     // its claim is gone
     let tx = store.transaction(&unit(2)).unwrap();
-    tx.set(SOFTWARE, "v", &Value::dword(2)).unwrap();
+    tx.set_value(SOFTWARE, "v", &Value::dword(2)).unwrap();
     tx.rollback().unwrap();
-    assert_eq!(store.values(SOFTWARE).unwrap(), [""; 0]);
+    assert_eq!(store.value_names(SOFTWARE).unwrap(), [""; 0]);
     assert_eq!(store.kept(&unit(1)).unwrap(), None);
     store.close().unwrap();
     assert_eq!(scratch.replies("values 0:Software\n"), ["values 0"]);
@@ -64,12 +64,12 @@ fn two_sessions_conflict() {
     let (one, two) = (store.session().unwrap(), store.session().unwrap());
     let first = one.transaction(&unit(1)).unwrap();
     let second = two.transaction(&unit(2)).unwrap();
-    first.set(SOFTWARE, "v", &Value::dword(1)).unwrap();
-    let lost = second.set(SOFTWARE, "w", &Value::dword(2));
+    first.set_value(SOFTWARE, "v", &Value::dword(1)).unwrap();
+    let lost = second.set_value(SOFTWARE, "w", &Value::dword(2));
     assert!(refused(&lost, Refusal::Conflict));
-    second.create(SERVICES).unwrap();
+    second.create_key(SERVICES).unwrap();
     assert_eq!(first.commit().unwrap(), Some(2));
-    second.set(SOFTWARE, "w", &Value::dword(2)).unwrap();
+    second.set_value(SOFTWARE, "w", &Value::dword(2)).unwrap();
     assert_eq!(second.commit().unwrap(), Some(3));
     two.end().unwrap();
     drop(one);
@@ -84,12 +84,12 @@ fn a_write_alone_rolls_back_what_conflicts() {
     let store = scratch.store();
     let tx = store.transaction(&unit(1)).unwrap();
     let other = store.transaction(&unit(2)).unwrap();
-    tx.set(SOFTWARE, "v", &Value::dword(1)).unwrap();
-    other.create(SERVICES).unwrap();
+    tx.set_value(SOFTWARE, "v", &Value::dword(1)).unwrap();
+    other.create_key(SERVICES).unwrap();
     assert!(tx.is_active().unwrap());
-    store.set(SOFTWARE, "v", &Value::dword(9)).unwrap();
+    store.set_value(SOFTWARE, "v", &Value::dword(9)).unwrap();
     assert!(!tx.is_active().unwrap() && other.is_active().unwrap());
-    assert!(refused(&tx.get(SOFTWARE, "v"), Refusal::NotActive));
+    assert!(refused(&tx.get_value(SOFTWARE, "v"), Refusal::NotActive));
     assert!(refused(&tx.commit(), Refusal::NotActive));
     assert_eq!(other.commit().unwrap(), Some(3));
     store.close().unwrap();
@@ -103,7 +103,7 @@ fn outcomes_are_kept_for_later_runs() {
     let store = scratch.store();
     for (number, key) in [(1, SERVICES), (2, Key::new(1, "X"))] {
         let tx = store.transaction(&unit(number)).unwrap();
-        tx.create(key).unwrap();
+        tx.create_key(key).unwrap();
         tx.commit().unwrap();
     }
     // without writes nothing is kept
@@ -131,20 +131,20 @@ fn places_are_freed() {
     }
     for _ in 0..40 {
         let session = store.session().unwrap();
-        session.create(SOFTWARE).unwrap();
+        session.create_key(SOFTWARE).unwrap();
         session.transaction(&unit(1)).unwrap().rollback().unwrap();
     }
     assert_eq!(store.fold().unwrap(), 1);
     let session = store.session().unwrap();
     session.transaction(&unit(1)).unwrap().rollback().unwrap();
-    session.set(SOFTWARE, "v", &Value::dword(1)).unwrap();
+    session.set_value(SOFTWARE, "v", &Value::dword(1)).unwrap();
     session.end().unwrap();
     // a fold also ends those that were leaked
     std::mem::forget(store.transaction(&unit(1)).unwrap());
     std::mem::forget(store.session().unwrap());
     assert_eq!(store.fold().unwrap(), 2);
     let sessions: Vec<_> = (1..32).map(|_| store.session().unwrap()).collect();
-    store.set(SOFTWARE, "v", &Value::dword(2)).unwrap();
+    store.set_value(SOFTWARE, "v", &Value::dword(2)).unwrap();
     drop(sessions);
     store.close().unwrap();
 }
@@ -152,7 +152,9 @@ fn places_are_freed() {
 #[test]
 fn one_helper_writes_alone_and_in_a_transaction() {
     fn fill(place: &impl Requests, name: &str) -> Result<(), Error> {
-        place.set(SOFTWARE, name, &Value::dword(1)).map(|_| ())
+        place
+            .set_value(SOFTWARE, name, &Value::dword(1))
+            .map(|_| ())
     }
     let scratch = Scratch::new();
     let store = scratch.store();
@@ -160,7 +162,7 @@ fn one_helper_writes_alone_and_in_a_transaction() {
     let tx = store.transaction(&unit(1)).unwrap();
     fill(&tx, "within").unwrap();
     tx.commit().unwrap();
-    assert_eq!(store.values(SOFTWARE).unwrap(), ["alone", "within"]);
+    assert_eq!(store.value_names(SOFTWARE).unwrap(), ["alone", "within"]);
     store.close().unwrap();
 }
 
@@ -170,7 +172,7 @@ fn a_large_transaction_is_refused_at_its_commit() {
     let store = scratch.store();
     let tx = store.transaction(&unit(1)).unwrap();
     let whole = (0..5).try_for_each(|number| {
-        tx.set(
+        tx.set_value(
             SOFTWARE,
             &format!("v{number}"),
             &Value::binary(vec![0; 1_048_576]),
@@ -180,6 +182,6 @@ fn a_large_transaction_is_refused_at_its_commit() {
         &whole.and_then(|()| tx.commit()),
         Refusal::TooLarge
     ));
-    assert_eq!(store.values(SOFTWARE).unwrap(), [""; 0]);
+    assert_eq!(store.value_names(SOFTWARE).unwrap(), [""; 0]);
     store.close().unwrap();
 }

@@ -53,7 +53,7 @@ fn each_type_is_written_and_read() {
     let store = scratch.store();
     let tx = store.transaction(&unit(1)).unwrap();
     for (name, value, _) in samples() {
-        tx.set(SOFTWARE, name, &value).unwrap();
+        tx.set_value(SOFTWARE, name, &value).unwrap();
     }
     tx.commit().unwrap();
     store.close().unwrap();
@@ -68,7 +68,7 @@ fn each_type_is_written_and_read() {
     assert_eq!(scratch.replies(&script), wanted);
     let store = scratch.open();
     for (name, value, _) in samples() {
-        assert_eq!(store.get(SOFTWARE, name).unwrap(), value, "{name}");
+        assert_eq!(store.get_value(SOFTWARE, name).unwrap(), value, "{name}");
     }
     store.close().unwrap();
 }
@@ -92,7 +92,7 @@ fn what_the_program_writes_is_read() {
         assert!(told.starts_with("committed "), "{told}");
     }
     let store = scratch.open();
-    let get = |name| store.get(SOFTWARE, name).unwrap();
+    let get = |name| store.get_value(SOFTWARE, name).unwrap();
     assert_eq!(get("sz").to_text().unwrap(), "1 2");
     assert_eq!(get("expand").to_text().unwrap(), "%A%");
     assert_eq!(get("dword").to_u32().unwrap(), u32::MAX);
@@ -133,10 +133,10 @@ fn data_has_a_mebibyte_at_most() {
     let scratch = Scratch::new();
     let store = scratch.store();
     let most = Value::binary(vec![0xab; 1_048_576]);
-    store.set(SOFTWARE, "v", &most).unwrap();
-    let refused = store.set(SOFTWARE, "v", &Value::binary(vec![0; 1_048_577]));
+    store.set_value(SOFTWARE, "v", &most).unwrap();
+    let refused = store.set_value(SOFTWARE, "v", &Value::binary(vec![0; 1_048_577]));
     assert!(matches!(refused, Err(Error::Refused(Refusal::TooLarge))));
-    assert_eq!(store.get(SOFTWARE, "v").unwrap(), most);
+    assert_eq!(store.get_value(SOFTWARE, "v").unwrap(), most);
     store.close().unwrap();
 }
 

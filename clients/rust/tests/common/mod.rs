@@ -42,20 +42,21 @@ impl Scratch {
     }
 
     pub fn options(&self) -> Options {
-        Options::new(&self.program, self.at("store"))
+        Options::new().program(&self.program)
     }
 
     /// A new store of two hives, with one key in the first.
     pub fn store(&self) -> Store {
         use regtx_client::Requests;
-        let store = Store::create(&self.options(), &ID, 2).unwrap();
-        store.create(SOFTWARE).unwrap();
+        Store::create(self.at("store"), &ID, 2, &self.options()).unwrap();
+        let store = self.open();
+        store.create_key(SOFTWARE).unwrap();
         store
     }
 
     /// The store by another run.
     pub fn open(&self) -> Store {
-        Store::open(&self.options()).unwrap()
+        Store::open(self.at("store"), &self.options()).unwrap()
     }
 
     /// What a command of the program prints; no client is between.
@@ -93,15 +94,16 @@ impl Scratch {
         let next = "next() { read -r line; case $line in 'at '*) echo ok; read -r line;; esac; }";
         let lines =
             format!("{next}\necho 'opened 0'\n{answers}while read -r line; do :; done\n{end}");
-        Store::open(&Options::new(self.script("fake", &lines), "store")).unwrap()
+        let options = Options::new().program(self.script("fake", &lines));
+        Store::open("store", &options).unwrap()
     }
 
     /// The store by a run whose process is known.
     pub fn open_to_kill(&self) -> (Store, Victim) {
         let (pid, program) = (self.at("pid"), self.program.display());
         let lines = format!("echo $$ > '{}'\nexec '{program}' \"$@\"", pid.display());
-        let options = Options::new(self.script("noting", &lines), self.at("store"));
-        let store = Store::open(&options).unwrap();
+        let options = Options::new().program(self.script("noting", &lines));
+        let store = Store::open(self.at("store"), &options).unwrap();
         (
             store,
             Victim(fs::read_to_string(pid).unwrap().trim().to_owned()),
