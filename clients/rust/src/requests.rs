@@ -8,7 +8,7 @@ use std::fmt::Write;
 
 pub(crate) mod scope {
     use crate::run::Run;
-    use crate::Error;
+    use crate::{Error, Transaction};
     use std::cell::RefCell;
 
     /// In what a request is asked: a session, or a transaction.
@@ -18,6 +18,9 @@ pub(crate) mod scope {
 
         /// The run, and the session of it.
         fn place(&self) -> (&RefCell<Run>, u32);
+
+        /// Begins a transaction for what takes several writes; none in a transaction.
+        fn begin(&self) -> Result<Option<Transaction<'_>>, Error>;
 
         /// The line of a request.
         fn line(&self, request: &str) -> String;
@@ -131,6 +134,51 @@ pub trait Requests: Scope {
         understood(reply::names(&reply, "values"), reply)
     }
 
+    /// A key's values, each with its name before it, in the order of their names. A name past
+    /// ASCII can't be asked for: [`Error::WrongName`]. Refused: NotFound, NotActive.
+    fn items(&self, key: Key<'_>) -> Result<Vec<(String, Value)>, Error> {
+        let names = self.value_names(key)?.into_iter();
+        names
+            .map(|name| Ok((name.clone(), self.get_value(key, &name)?)))
+            .collect()
+    }
+
+    /// The paths of a key and of all keys below it: each before those below it, siblings in the
+    /// order of their names. Errors are those of `items`.
+    fn walk(&self, key: Key<'_>) -> Result<Vec<String>, Error> {
+        let mut found = Vec::new();
+        let mut left = vec![key.path.to_owned()];
+        while let Some(path) = left.pop() {
+            let names = self.subkeys(Key::new(key.hive, &path))?;
+            let above = if path.is_empty() { "" } else { "\\" };
+            left.extend(
+                names
+                    .iter()
+                    .rev()
+                    .map(|name| format!("{path}{above}{name}")),
+            );
+            found.push(path);
+        }
+        Ok(found)
+    }
+
+    /// Deletes a key with all below it, in one transaction; answers how many keys. In a transaction
+    /// that is begun already, a refusal may come after some of them: roll it back then. Refused:
+    /// NotFound, Fixed, Conflict, NotActive.
+    fn delete_tree(&self, key: Key<'_>) -> Result<u32, Error>
+    where
+        Self: Sized,
+    {
+        match self.begin()? {
+            Some(tx) => {
+                let keys = delete_all(&tx, key)?;
+                tx.commit()?;
+                Ok(keys)
+            }
+            None => delete_all(self, key),
+        }
+    }
+
     /// What a key has. Refused: NotFound, NotActive.
     fn key_info(&self, key: Key<'_>) -> Result<KeyInfo, Error> {
         let reply = self.ask(&format!("info {}", key.word()?))?;
@@ -139,6 +187,14 @@ pub trait Requests: Scope {
 }
 
 impl<S: Scope> Requests for S {}
+
+fn delete_all(place: &impl Requests, key: Key<'_>) -> Result<u32, Error> {
+    let paths = place.walk(key)?;
+    for path in paths.iter().rev() {
+        place.delete_key(Key::new(key.hive, path))?;
+    }
+    Ok(u32::try_from(paths.len()).expect("a store has fewer than 2^32 keys"))
+}
 
 fn hex(data: &[u8]) -> String {
     if data.is_empty() {

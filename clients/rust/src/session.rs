@@ -2,6 +2,7 @@
 
 use crate::requests::scope::Scope;
 use crate::run::Run;
+use crate::transaction::transact;
 use crate::{reply, Error, Transaction, Uuid};
 use std::cell::RefCell;
 
@@ -30,6 +31,16 @@ impl<'a> Session<'a> {
         Transaction::begin(self.run, self.number, unit)
     }
 
+    /// Carries out work in a transaction; see [`Store::transact`](crate::Store::transact).
+    pub fn transact(
+        &self,
+        unit: &Uuid,
+        tries: u32,
+        work: impl FnMut(&Transaction<'_>) -> Result<(), Error>,
+    ) -> Result<Option<u64>, Error> {
+        transact(|| self.transaction(unit), tries, work)
+    }
+
     /// Ends the session.
     pub fn end(self) -> Result<(), Error> {
         let run = self.run;
@@ -53,6 +64,10 @@ impl Scope for Session<'_> {
 
     fn place(&self) -> (&RefCell<Run>, u32) {
         (self.run, self.number)
+    }
+
+    fn begin(&self) -> Result<Option<Transaction<'_>>, Error> {
+        self.transaction(&Uuid::random()?).map(Some)
     }
 
     fn line(&self, request: &str) -> String {

@@ -3,6 +3,7 @@
 use crate::reply::{answered, number, understood};
 use crate::requests::scope::Scope;
 use crate::run::{Run, FIRST_SESSION};
+use crate::transaction::transact;
 use crate::{Error, Refusal, Session, Transaction, Uuid};
 use std::cell::RefCell;
 use std::path::{Path, PathBuf};
@@ -136,6 +137,21 @@ impl Store {
         Transaction::begin(&self.run, FIRST_SESSION, unit)
     }
 
+    /// Carries out work in a transaction, and commits: the number of the change, none if there were
+    /// no writes. What work answers but `Ok` rolls the transaction back.
+    ///
+    /// If another writer is in the way (Conflict, NotActive), all of it is rolled back and tried
+    /// again, so many times in all. It waits a millisecond before the second time, and then twice
+    /// as long each time, a tenth of a second at most.
+    pub fn transact(
+        &self,
+        unit: &Uuid,
+        tries: u32,
+        work: impl FnMut(&Transaction<'_>) -> Result<(), Error>,
+    ) -> Result<Option<u64>, Error> {
+        transact(|| self.transaction(unit), tries, work)
+    }
+
     /// Opens a further session. Refused: NoSeat, if 32 are open.
     pub fn session(&self) -> Result<Session<'_>, Error> {
         Session::open(&self.run)
@@ -186,6 +202,10 @@ impl Scope for Store {
 
     fn place(&self) -> (&RefCell<Run>, u32) {
         (&self.run, FIRST_SESSION)
+    }
+
+    fn begin(&self) -> Result<Option<Transaction<'_>>, Error> {
+        self.transaction(&Uuid::random()?).map(Some)
     }
 
     fn line(&self, request: &str) -> String {

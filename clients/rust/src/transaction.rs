@@ -3,8 +3,10 @@
 use crate::reply::{number, understood};
 use crate::requests::scope::Scope;
 use crate::run::Run;
-use crate::{Error, Uuid};
+use crate::{Error, Refusal, Uuid};
 use std::cell::RefCell;
+use std::thread;
+use std::time::Duration;
 
 /// A transaction: its writes become one change by [`commit`](Self::commit), over all hives.
 ///
@@ -108,6 +110,10 @@ impl Scope for Transaction<'_> {
         (self.run, self.session)
     }
 
+    fn begin(&self) -> Result<Option<Transaction<'_>>, Error> {
+        Ok(None)
+    }
+
     fn line(&self, request: &str) -> String {
         format!("tx {} {request}", self.label)
     }
@@ -115,4 +121,32 @@ impl Scope for Transaction<'_> {
     fn accepted(reply: &str) -> Option<()> {
         matches!(reply, "ok" | "").then_some(())
     }
+}
+
+/// Carries out work in a transaction, so many times at most; see `Store::transact`.
+pub(crate) fn transact<'a>(
+    begin: impl Fn() -> Result<Transaction<'a>, Error>,
+    tries: u32,
+    mut work: impl FnMut(&Transaction<'a>) -> Result<(), Error>,
+) -> Result<Option<u64>, Error> {
+    let mut pause = Duration::from_millis(1);
+    for _ in 1..tries {
+        match try_work(&begin, &mut work) {
+            Err(Error::Refused(Refusal::Conflict | Refusal::NotActive)) => {
+                thread::sleep(pause);
+                pause = (2 * pause).min(Duration::from_millis(100));
+            }
+            done => return done,
+        }
+    }
+    try_work(&begin, &mut work)
+}
+
+fn try_work<'a>(
+    begin: &impl Fn() -> Result<Transaction<'a>, Error>,
+    work: &mut impl FnMut(&Transaction<'a>) -> Result<(), Error>,
+) -> Result<Option<u64>, Error> {
+    let tx = begin()?;
+    work(&tx)?;
+    tx.commit()
 }
