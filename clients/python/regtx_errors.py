@@ -14,7 +14,18 @@ def shown(text: str) -> str:
 
 
 class RegtxError(Exception):
-    """What goes wrong with a store, or with a run on it."""
+    """What goes wrong with a store, or with a run on it.
+
+    `hints` is what the program told on standard error, such as why the system refused a file; "" if it told nothing.
+    """
+
+    hints = ""
+
+    def __str__(self) -> str:
+        return f"{self._text()} ({self.hints})" if self.hints else self._text()
+
+    def _text(self) -> str:
+        return super().__str__()
 
 
 class Refused(RegtxError):
@@ -28,7 +39,7 @@ class Refused(RegtxError):
         self.reply, self.line = reply, line
         self.code, self.name = reply.split(" ")[:2]
 
-    def __str__(self) -> str:
+    def _text(self) -> str:
         return self.reply if self.line is None else f"{self.reply}: {shown(self.line)}"
 
 
@@ -101,7 +112,7 @@ class CommandFailed(RegtxError):
         super().__init__(printed, status)
         self.printed, self.status = printed, status
 
-    def __str__(self) -> str:
+    def _text(self) -> str:
         return f"{shown(self.printed) or 'nothing was printed'} ({ending(self.status)})"
 
 
@@ -124,7 +135,7 @@ class RunEnded(RegtxError):
         super().__init__(why, line, status)
         self.line, self.status = line, status
 
-    def __str__(self) -> str:
+    def _text(self) -> str:
         return self.args[0]
 
 
@@ -138,14 +149,14 @@ class CommitUnknown(RegtxError):
         super().__init__(unit)
         self.unit = unit
 
-    def __str__(self) -> str:
+    def _text(self) -> str:
         return f"whether {self.unit} has committed isn't known: ask kept() in another run"
 
 
 class OtherProcess(RegtxError):
     """A store, or what is of it, was used in another process than the one that opened it, such as after a fork. Nothing was sent."""
 
-    def __str__(self) -> str:
+    def _text(self) -> str:
         return "the store was opened in another process: open one here"
 
 
@@ -174,3 +185,9 @@ def failure(printed: str, status: int) -> RegtxError:
     if status < 0:
         return RunEnded(f"the program ended by {ending(status)}{last(printed)}", None, status)
     return {"cannot open store": CannotOpen, "cannot make store": CannotMake}.get(printed, CommandFailed)(printed, status)
+
+
+def hinted(error: RegtxError, told: bytes) -> RegtxError:
+    """The error with what was told on standard error."""
+    error.hints = "; ".join(told.decode(errors="replace").split("\n")).strip("; ")
+    return error

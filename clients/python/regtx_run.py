@@ -8,14 +8,35 @@ import subprocess
 import threading
 import uuid
 import weakref
-from typing import Callable, List, Optional, Set, Tuple, Union
+from typing import Callable, Dict, List, Optional, Set, Tuple, Union
 
-from regtx_errors import OtherProcess, RunEnded, ending, failure, last, refusal, shown
+from regtx_errors import OtherProcess, RegtxError, RunEnded, ending, failure, hinted, last, refusal, shown
 from regtx_names import moment_now
 
 Folder = Union[str, "os.PathLike[str]"]
 # the greatest numbers that lines and the program's words can carry
 MOST_MOMENT, MOST_WAIT = 0xffff_ffff_ffff_ffff, 86_400
+# how many bytes of standard error an error has at most
+MOST_HINTS = 4_096
+
+
+class _Hints:
+    """The standard error of a program, which tells there why something can't be done. It is a file in memory, if there are such."""
+
+    def __init__(self) -> None:
+        self._read = 0
+        try:
+            self.file = os.fdopen(os.memfd_create("regtx"), "rb", buffering=0)
+        except (AttributeError, OSError):
+            self.file = None
+
+    def on(self, error: RegtxError) -> RegtxError:
+        """The error with what was told since the last one."""
+        if self.file is None or self.file.closed:
+            return error
+        told = os.pread(self.file.fileno(), MOST_HINTS, self._read)
+        self._read += len(told)
+        return hinted(error, told)
 
 
 class Run:
@@ -24,12 +45,14 @@ class Run:
     NUMBER = re.compile(r"(?:created [0-9]+ )?accepted ([0-9]+)|(?:opened|committed|flushed|folded) ([0-9]+)")
 
     def __init__(self, program: Folder, folder: Folder, wait: int):
+        self._hints = _Hints()
         # a process group of its own: Ctrl-C is for the caller, who can still roll back and close then
         self._child = subprocess.Popen([*_command(program, wait), "run", os.path.abspath(folder), "/dev/stdin"],
-                                       stdin=subprocess.PIPE, stdout=subprocess.PIPE, start_new_session=True)
+                                       stdin=subprocess.PIPE, stdout=subprocess.PIPE, stderr=self._hints.file, env=_environment(),
+                                       start_new_session=True)
         self._process = os.getpid()
         _RUNS.add(self)
-        weakref.finalize(self, _drop, self._child, self._process)
+        weakref.finalize(self, _drop, self._child, self._process, self._hints)
         # one thread at a time has the pipe, and what is sent before a line for its sake
         self.lock = threading.RLock()
         # the session and the moment that the program has; -1 if that isn't known. The moment that was chosen, if one was
@@ -59,7 +82,7 @@ class Run:
             self._end()
             raise
         rest, status = self._end()
-        raise failure((reply + rest).rstrip("\n"), status)
+        raise self._hints.on(failure((reply + rest).rstrip("\n"), status))
 
     def check_process(self) -> None:
         """Raises in another process than the one that began the run: replies would go to whoever reads first."""
@@ -128,12 +151,12 @@ class Run:
         if not reply.endswith("\n") or reply.startswith("line "):
             rest, status = self._end()
             self._over = f"the run ended by {ending(status)}{last(reply + rest)}"
-            raise RunEnded(f"{self._over}, before it answered: {shown(line)}", line, status)
+            raise self._hints.on(RunEnded(f"{self._over}, before it answered: {shown(line)}", line, status))
         reply = reply[:-1]
         refused = refusal(reply, line)
         if refused:
             self._was_refused = True
-            raise refused
+            raise self._hints.on(refused)
         self._note(reply)
         return reply
 
@@ -174,7 +197,7 @@ class Run:
                 # the first line may be the reply to the line within which it was; a failure at the end is one of these
                 lines, wanted = [line for line in lines if line.startswith(("E1 ", "E13 ", "E14 "))], [0, 1]
             if lines or status not in wanted:
-                raise failure("\n".join(lines), status)
+                raise self._hints.on(failure("\n".join(lines), status))
 
 
 def _finish(child: "subprocess.Popen[bytes]") -> Tuple[str, int]:
@@ -187,8 +210,10 @@ def _finish(child: "subprocess.Popen[bytes]") -> Tuple[str, int]:
     return rest, child.wait()
 
 
-def _drop(child: "subprocess.Popen[bytes]", process: int) -> None:
+def _drop(child: "subprocess.Popen[bytes]", process: int, hints: _Hints) -> None:
     """Ends a run that nobody can close any more, and waits for that: its store is free then, and no zombie is left."""
+    if hints.file is not None:
+        hints.file.close()
     if child.returncode is None and os.getpid() == process:
         _finish(child)
 
@@ -210,8 +235,13 @@ def _command(program: Folder, wait: int) -> List[str]:
     return [os.fspath(program), *(["wait", str(wait)] if wait else [])]
 
 
+def _environment() -> Dict[str, str]:
+    """The caller's, by which the program tells why something can't be done though standard error is no terminal."""
+    return dict(os.environ, REGTX_HINTS="1")
+
+
 def carry_out(program: Folder, *words: str) -> None:
-    ended = subprocess.run([os.fspath(program), *words], stdin=subprocess.DEVNULL, stdout=subprocess.PIPE)
+    ended = subprocess.run([os.fspath(program), *words], stdin=subprocess.DEVNULL, capture_output=True, env=_environment())
     printed = ended.stdout.decode(errors="replace").rstrip("\n")
     if (printed, ended.returncode) != ("ok", 0):
-        raise failure(printed, ended.returncode)
+        raise hinted(failure(printed, ended.returncode), ended.stderr[:MOST_HINTS])

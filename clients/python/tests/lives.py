@@ -1,4 +1,4 @@
-"""Stores that are used after a fork, stores that nobody closes, and the times of writes."""
+"""Stores that are used after a fork, stores that nobody closes, times of writes, and what programs tell on standard error."""
 import gc
 import os
 import subprocess
@@ -6,7 +6,7 @@ import sys
 from datetime import datetime, timedelta, timezone
 
 import regtx
-from ours import ID, expect_error, leave, raised, script, store_of
+from ours import ID, expect_error, leave, raised, script, store_of, wrapper
 from regtx import Store, Value
 from scratch import expect
 
@@ -104,3 +104,24 @@ def times(program):
             t.set_value("0:K", "v", Value.dword(1))
             store.at(None)
         yield expect("a commit has a time of its own", store.key_info("0:K").written_at > before, True)
+
+
+def hints(program):
+    """What a program tells on standard error, once it is asked to, is in the errors; each of it in one."""
+    def told(text):
+        return wrapper(program, "telling", f'tell() {{ test "$REGTX_HINTS" = 1 && echo "regtx: $1" >&2; }}\n{text}')
+
+    path = told("tell one; tell two; echo cannot open store; exit 1")
+    yield expect_error("not opened", lambda: Store("x", path), regtx.CannotOpen, "cannot open store (status 1) (regtx: one; regtx: two)")
+    path = told("tell why; echo cannot make store; exit 1")
+    error = raised(lambda: Store.create("x", ID, 1, path))
+    yield expect("not made", (type(error), error.hints), (regtx.CannotMake, "regtx: why"))
+    path = told("echo opened 0; read line; tell full; echo E13 DiskFault; read line; echo E14 Faulted; read line; tell end; exit 3")
+    store = Store("x", path)
+    for kind, wanted in [(regtx.DiskFault, "regtx: full"), (regtx.Faulted, ""), (regtx.RunEnded, "regtx: end")]:
+        error = raised(store.flush)
+        yield expect(wanted, (type(error), error.hints), (kind, wanted))
+    path = told("echo opened 0; read line; tell late; echo E13 DiskFault; exit 1")
+    yield expect_error("at the end", Store("x", path).close, regtx.DiskFault, "E13 DiskFault (regtx: late)")
+    with store_of(program, "hints") as store:
+        yield expect("nothing", raised(lambda: store.subkeys("0:None")).hints, "")
