@@ -77,6 +77,11 @@ enum {
 /* The text of a code, such as "E2 NotFound"; of static storage. */
 const char *regtx_client_text(int code);
 
+/* What the program told on standard error at the last failure of a call of this thread, such as
+ * which file the system refused: lines, without the end of the last one. Empty, if it told nothing.
+ * It lasts until the next failure. */
+const char *regtx_hints(void);
+
 /* UUIDs: of a store, and of a unit of work, whose outcome is kept. */
 typedef struct {
     unsigned char bytes[16];

@@ -3,6 +3,8 @@
 
 #include "regtx_run.h"
 
+#include "regtx_hints.h"
+
 #include <ctype.h>
 #include <errno.h>
 #include <fcntl.h>
@@ -17,8 +19,6 @@
 #include <time.h>
 #include <unistd.h>
 
-extern char **environ;
-
 /* the longest line without names and data */
 enum { SHORT_LINE = 96 };
 
@@ -32,15 +32,19 @@ static int make_pipe(int ends[2])
 static int spawn_by(posix_spawn_file_actions_t *actions, regtx_store *store, char *const words[])
 {
     posix_spawnattr_t how;
-    int failed = posix_spawnattr_init(&how);
-    if (failed)
+    char **environment = regtx_hints_environment();
+    int failed = environment ? posix_spawnattr_init(&how) : ENOMEM;
+    if (failed) {
+        free(environment);
         return failed;
+    }
     failed = posix_spawnattr_setflags(&how, POSIX_SPAWN_SETPGROUP);
     if (failed == 0)
         failed = posix_spawnattr_setpgroup(&how, 0);
     if (failed == 0)
-        failed = posix_spawnp(&store->child, words[0], actions, &how, words, environ);
+        failed = posix_spawnp(&store->child, words[0], actions, &how, words, environment);
     posix_spawnattr_destroy(&how);
+    free(environment);
     return failed;
 }
 
@@ -52,6 +56,8 @@ static int spawn(regtx_store *store, char *const words[], int input, int output)
         failed = posix_spawn_file_actions_adddup2(&actions, input, STDIN_FILENO);
         if (failed == 0)
             failed = posix_spawn_file_actions_adddup2(&actions, output, STDOUT_FILENO);
+        if (failed == 0 && store->hints >= 0)
+            failed = posix_spawn_file_actions_adddup2(&actions, store->hints, STDERR_FILENO);
         if (failed == 0)
             failed = spawn_by(&actions, store, words);
         posix_spawn_file_actions_destroy(&actions);
@@ -78,10 +84,13 @@ static int start(regtx_store *store, char *const words[])
         close_both(script[0], script[1]);
         return REGTX_IO;
     }
+    store->hints = regtx_hints_open();
     int code = spawn(store, words, script[0], replies[1]);
     close_both(script[0], replies[1]);
-    if (code)
+    if (code) {
         close_both(script[1], replies[0]);
+        close_both(store->hints, -1);
+    }
     store->script = script[1];
     store->replies = replies[0];
     store->maker = getpid();
@@ -190,10 +199,15 @@ int regtx_exchange(regtx_store *store, const char *line, size_t size)
         code = regtx_read_line(store);
     if (code != REGTX_OK && code != REGTX_REPLY)
         store->broken = code;
-    if (code != REGTX_OK)
+    if (code != REGTX_OK) {
+        regtx_hints_take(store->hints, &store->told);
         return code;
+    }
     code = regtx_refusal_of(store->text);
-    store->was_refused |= code != REGTX_OK;
+    if (code) {
+        store->was_refused = true;
+        regtx_hints_take(store->hints, &store->told);
+    }
     return code;
 }
 
@@ -246,6 +260,7 @@ static int end_run(regtx_store *store)
         last = REGTX_REPLY;
     close(store->replies);
     int reaped = reap(store, &status);
+    regtx_hints_take(store->hints, &store->told);
     if (store->broken || reaped)
         return store->broken ? store->broken : reaped;
     return code != REGTX_ENDED ? code : judge_end(store, status, last);
@@ -258,6 +273,7 @@ int regtx_end(regtx_store *store)
         code = end_run(store);
     else
         close_both(store->script, store->replies);
+    close_both(store->hints, -1);
     free(store->text);
     free(store);
     return code;
@@ -287,6 +303,8 @@ int regtx_launch(const char *words[], size_t place, size_t files, regtx_store **
     while (copied > 0)
         free((char *)words[place + --copied]);
     if (code) {
+        off_t told = 0;
+        regtx_hints_take(-1, &told);
         free(*store);
         *store = NULL;
     }

@@ -12,6 +12,8 @@ enum { SESSIONS = 32, TRANSACTIONS = 1024, NO_SESSION = SESSIONS };
 struct regtx_store {
     pid_t child, maker;  /* the program, and the process that opened the store */
     int script, replies; /* pipes */
+    int hints;           /* a file that is the program's standard error; or negative */
+    off_t told;          /* how much of it was read */
     char *text;          /* what was read: a reply, its end as a zero, and what came behind it */
     size_t room, used, line;
     int broken; /* a failure after which lines and replies are out of step; or 0 */

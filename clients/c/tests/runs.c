@@ -145,6 +145,31 @@ static void the_end_of_a_run_is_judged(void)
     CHECK(regtx_close(fake("", "printf E13; exit 1")) == REGTX_REPLY);
 }
 
+/* What a program tells on standard error, if it is asked to. */
+static void hints_are_told(void)
+{
+    regtx_store *store;
+    regtx_uuid id = unit(0);
+    const char *tell = "tell() { test \"$REGTX_HINTS\" = 1 && echo \"regtx: $1\" >&2; }\n";
+    char lines[512];
+    snprintf(lines, sizeof lines, "%stell one; tell two; echo cannot open store; exit 1", tell);
+    CHECK(regtx_open("x", shell_script(lines), 0, &store) == REGTX_CANNOT_OPEN);
+    CHECK(strcmp(regtx_hints(), "regtx: one\nregtx: two") == 0);
+    snprintf(lines, sizeof lines, "%stell why; echo cannot make store; exit 1", tell);
+    CHECK(regtx_create("x", &id, 1, shell_script(lines)) == REGTX_CANNOT_MAKE);
+    CHECK(strcmp(regtx_hints(), "regtx: why") == 0);
+    snprintf(lines, sizeof lines,
+             "%secho opened 0; read line; tell full; echo E13 DiskFault; read line\n"
+             "echo E14 Faulted; read line; tell end; exit 3",
+             tell);
+    CHECK(regtx_open("x", shell_script(lines), 0, &store) == REGTX_OK);
+    CHECK(regtx_flush(store, NULL) == REGTX_DISK_FAULT
+          && strcmp(regtx_hints(), "regtx: full") == 0);
+    CHECK(regtx_flush(store, NULL) == REGTX_FAULTED && strcmp(regtx_hints(), "") == 0);
+    CHECK(regtx_close(store) == REGTX_ENDED && strcmp(regtx_hints(), "regtx: end") == 0);
+    CHECK(regtx_open("x", "./none", 0, &store) == REGTX_IO && strcmp(regtx_hints(), "") == 0);
+}
+
 static void replies_are_read_whole(void)
 {
     static const char *const values[] = {
@@ -188,5 +213,6 @@ void test_runs(void)
     a_commit_that_is_not_sent_is_not_done();
     some_refusals_leave_a_commit_unknown();
     the_end_of_a_run_is_judged();
+    hints_are_told();
     replies_are_read_whole();
 }
