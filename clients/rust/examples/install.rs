@@ -26,7 +26,7 @@ fn unit_of(part: u16) -> Uuid {
 fn installed(store: &impl Requests) -> Result<u32, Error> {
     match store.get_value(SETUP, "Parts") {
         Ok(value) => Ok(value.to_u32().unwrap_or(0)),
-        Err(Error::Refused(Refusal::NotFound)) => Ok(0),
+        Err(Error::Refused(Refusal::NotFound, _)) => Ok(0),
         Err(why) => Err(why),
     }
 }
@@ -70,7 +70,7 @@ fn run(program: &str, folder: &str, count: u16) -> Result<(), Error> {
     }
     for _ in 1..TRIES {
         match install_all(folder, &options, count) {
-            Err(Error::Ended | Error::CommitUnknown(..)) => {
+            Err(Error::Ended(_) | Error::CommitUnknown(..)) => {
                 println!("the run ended: begin another one");
             }
             done => return done,

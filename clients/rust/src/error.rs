@@ -7,16 +7,18 @@ use std::{error, fmt, io};
 #[derive(Debug)]
 #[non_exhaustive]
 pub enum Error {
-    /// The store refused the call, and changed nothing.
-    Refused(Refusal),
+    /// The store refused the call, and changed nothing. Its text is [`Error::hints`].
+    Refused(Refusal, String),
     /// The folder is in use by another run, isn't a folder, or can't be opened.
-    CannotOpen,
-    /// The folder has a journal, is in use, or can't be made.
-    CannotMake,
-    /// A hive's file can't be read.
-    CannotRead,
-    /// The run ended before its time. What was durable is kept; open the store again.
-    Ended,
+    /// Its text is [`Error::hints`].
+    CannotOpen(String),
+    /// The folder has a journal, is in use, or can't be made. Its text is [`Error::hints`].
+    CannotMake(String),
+    /// A hive's file can't be read. Its text is [`Error::hints`].
+    CannotRead(String),
+    /// The run ended before its time. What was durable is kept; open the store again. Its text is
+    /// [`Error::hints`].
+    Ended(String),
     /// It isn't known whether a commit was done: ask [`Store::kept`](crate::Store::kept) of this
     /// unit in a new run. The cause says why no answer came.
     CommitUnknown(Uuid, Box<Error>),
@@ -31,10 +33,42 @@ pub enum Error {
 }
 
 impl Error {
+    /// What the program told on standard error, such as why the system refused a file; empty if it
+    /// told nothing.
+    pub fn hints(&self) -> &str {
+        match self {
+            Error::Refused(_, hints)
+            | Error::CannotOpen(hints)
+            | Error::CannotMake(hints)
+            | Error::CannotRead(hints)
+            | Error::Ended(hints) => hints,
+            Error::CommitUnknown(_, cause) => cause.hints(),
+            _ => "",
+        }
+    }
+
+    /// The run ended, yet without hints.
+    pub(crate) fn ended() -> Error {
+        Error::Ended(String::new())
+    }
+
+    /// The same error with what was told.
+    pub(crate) fn hinted(mut self, told: String) -> Error {
+        if let Error::Refused(_, hints)
+        | Error::CannotOpen(hints)
+        | Error::CannotMake(hints)
+        | Error::CannotRead(hints)
+        | Error::Ended(hints) = &mut self
+        {
+            *hints = told;
+        }
+        self
+    }
+
     /// Whether a commit that is answered so may be done all the same.
     pub(crate) fn leaves_commit_open(&self) -> bool {
         match self {
-            Error::Refused(why) => {
+            Error::Refused(why, _) => {
                 matches!(
                     why,
                     Refusal::NoMemory | Refusal::DiskFault | Refusal::Faulted
@@ -49,18 +83,23 @@ impl Error {
 impl fmt::Display for Error {
     fn fmt(&self, f: &mut fmt::Formatter<'_>) -> fmt::Result {
         match self {
-            Error::Refused(why) => write!(f, "{why}"),
-            Error::CannotOpen => write!(f, "cannot open store"),
-            Error::CannotMake => write!(f, "cannot make store"),
-            Error::CannotRead => write!(f, "cannot read file"),
-            Error::Ended => write!(f, "the run ended early"),
+            Error::Refused(why, _) => write!(f, "{why}"),
+            Error::CannotOpen(_) => write!(f, "cannot open store"),
+            Error::CannotMake(_) => write!(f, "cannot make store"),
+            Error::CannotRead(_) => write!(f, "cannot read file"),
+            Error::Ended(_) => write!(f, "the run ended early"),
             Error::CommitUnknown(unit, cause) => {
-                write!(f, "it isn't known whether {unit} committed: {cause}")
+                // the cause has the hints
+                return write!(f, "it isn't known whether {unit} committed: {cause}");
             }
             Error::WrongName(name, why) => write!(f, "no call carries the name {name:?}: {why}"),
             Error::Io(why) => write!(f, "{why}"),
             Error::OtherProcess => write!(f, "another process opened the store"),
             Error::Reply(reply) => write!(f, "not a reply: {reply:?}"),
+        }?;
+        match self.hints() {
+            "" => Ok(()),
+            hints => write!(f, " ({hints})"),
         }
     }
 }
@@ -68,7 +107,7 @@ impl fmt::Display for Error {
 impl error::Error for Error {
     fn source(&self) -> Option<&(dyn error::Error + 'static)> {
         match self {
-            Error::Refused(why) => Some(why),
+            Error::Refused(why, _) => Some(why),
             Error::CommitUnknown(_, cause) => Some(&**cause),
             Error::Io(why) => Some(why),
             _ => None,

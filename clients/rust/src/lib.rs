@@ -3,6 +3,7 @@
 #![warn(missing_docs)]
 
 mod error;
+mod hints;
 mod key;
 mod refusal;
 mod reply;

@@ -3,16 +3,16 @@
 use crate::key::name_of_word;
 use crate::{Error, KeyInfo, Kind, Refusal, Value};
 
-/// The reply, or the refusal that it tells.
+/// The reply, or the refusal that it tells, yet without hints.
 pub(crate) fn answered(reply: String) -> Result<String, Error> {
     match reply.as_str() {
-        "cannot open store" => return Err(Error::CannotOpen),
-        "cannot make store" => return Err(Error::CannotMake),
-        "cannot read file" => return Err(Error::CannotRead),
+        "cannot open store" => return Err(Error::CannotOpen(String::new())),
+        "cannot make store" => return Err(Error::CannotMake(String::new())),
+        "cannot read file" => return Err(Error::CannotRead(String::new())),
         _ => {}
     }
     match Refusal::parse(&reply) {
-        Some(why) => Err(Error::Refused(why)),
+        Some(why) => Err(Error::Refused(why, String::new())),
         None => Ok(reply),
     }
 }

@@ -1,5 +1,6 @@
 //! A run of the program on a store: one line is sent, and one reply read, at a time.
 
+use crate::hints::{Hints, ASKED};
 use crate::reply::{answered, number, understood};
 use crate::store::file_word;
 use crate::{moment_of, Error, Options, Refusal};
@@ -18,6 +19,7 @@ pub struct Run {
     child: Child,
     /// The process that opened the store.
     maker: u32,
+    hints: Hints,
     /// Where lines go; none once the script has ended.
     script: Option<ChildStdin>,
     replies: BufReader<ChildStdout>,
@@ -36,12 +38,15 @@ pub struct Run {
 impl Run {
     /// Starts the program; answers the number of the store's last change too.
     pub(crate) fn start(folder: &Path, options: &Options) -> Result<(Run, u64), Error> {
+        let hints = Hints::open();
         let mut child = Command::new(&options.program)
             .args(["wait", &options.wait.to_string(), "run"])
             .arg(file_word(folder))
             .arg("/dev/stdin")
             .stdin(Stdio::piped())
             .stdout(Stdio::piped())
+            .stderr(hints.stdio())
+            .env(ASKED.0, ASKED.1)
             // Ctrl-C is for the caller, who can still flush and close then
             .process_group(0)
             .spawn()?;
@@ -50,6 +55,7 @@ impl Run {
         let mut run = Run {
             child,
             maker: process::id(),
+            hints,
             script,
             replies,
             was_refused: false,
@@ -60,9 +66,20 @@ impl Run {
             chosen: None,
             moment: 0,
         };
-        let opened = answered(run.read_reply()?)?;
-        let last = understood(number(&opened, "opened"), opened)?;
-        Ok((run, last))
+        match run.read_opened() {
+            Ok(last) => Ok((run, last)),
+            Err(why) => {
+                // its last words come with its end, which says no more than this error
+                let _ = run.finish();
+                Err(why.hinted(run.hints.take()))
+            }
+        }
+    }
+
+    /// The number of the store's last change, which the program tells first.
+    fn read_opened(&mut self) -> Result<u64, Error> {
+        let opened = answered(self.read_reply()?)?;
+        understood(number(&opened, "opened"), opened)
     }
 
     /// The reply to a line of a session. An error that wasn't told is told instead, and then
@@ -119,7 +136,12 @@ impl Run {
     /// The reply to a line.
     pub(crate) fn exchange(&mut self, line: &str) -> Result<String, Error> {
         self.check_process()?;
-        let script = self.script.as_mut().ok_or(Error::Ended)?;
+        let reply = self.send(line);
+        reply.map_err(|why| why.hinted(self.hints.take()))
+    }
+
+    fn send(&mut self, line: &str) -> Result<String, Error> {
+        let script = self.script.as_mut().ok_or(Error::ended())?;
         // one write for each line: the program waits for its end
         match script.write_all(format!("{line}\n").as_bytes()) {
             // what the run printed before it ended may be the reply
@@ -127,7 +149,7 @@ impl Run {
             sent => sent?,
         }
         let reply = answered(self.read_reply()?);
-        self.was_refused |= matches!(reply, Err(Error::Refused(_)));
+        self.was_refused |= matches!(reply, Err(Error::Refused(..)));
         reply
     }
 
@@ -136,7 +158,7 @@ impl Run {
         self.replies.read_until(b'\n', &mut line)?;
         // half a line is none: the run was killed while it wrote
         if line.pop() != Some(b'\n') {
-            return Err(Error::Ended);
+            return Err(Error::ended());
         }
         String::from_utf8(line)
             .map_err(|wrong| Error::Reply(String::from_utf8_lossy(wrong.as_bytes()).into_owned()))
@@ -192,6 +214,12 @@ impl Run {
         if self.check_process().is_err() {
             return Ok(());
         }
+        let finished = self.finish();
+        finished.map_err(|why| why.hinted(self.hints.take()))
+    }
+
+    fn finish(&mut self) -> Result<(), Error> {
+        drop(self.script.take());
         let mut rest = String::new();
         let read = self.replies.read_to_string(&mut rest);
         let status = self.child.wait()?;
@@ -206,10 +234,10 @@ impl Run {
             (Some(0), None) => Ok(()),
             (Some(1), None) if self.was_refused => Ok(()),
             (Some(_), Some(last)) => match Refusal::parse(last) {
-                Some(why) => Err(Error::Refused(why)),
+                Some(why) => Err(Error::Refused(why, String::new())),
                 None => Err(Error::Reply(last.to_owned())),
             },
-            _ => Err(Error::Ended),
+            _ => Err(Error::ended()),
         }
     }
 }

@@ -1,5 +1,6 @@
 //! Stores.
 
+use crate::hints::{self, ASKED};
 use crate::reply::{answered, number, understood};
 use crate::requests::scope::Scope;
 use crate::run::{Run, FIRST_SESSION};
@@ -54,14 +55,15 @@ pub(crate) fn file_word(file: impl AsRef<Path>) -> PathBuf {
 fn make(command: &mut Command) -> Result<(), Error> {
     let made = command
         .stdin(Stdio::null())
-        .stderr(Stdio::inherit())
+        .env(ASKED.0, ASKED.1)
         .output()?;
     let text = String::from_utf8_lossy(&made.stdout);
-    match answered(text.trim_end().to_owned())?.as_str() {
+    let reply = answered(text.trim_end().to_owned()).and_then(|reply| match reply.as_str() {
         "ok" => Ok(()),
-        "" => Err(Error::Ended),
-        reply => Err(Error::Reply(reply.to_owned())),
-    }
+        "" => Err(Error::ended()),
+        _ => Err(Error::Reply(reply)),
+    });
+    reply.map_err(|why| why.hinted(hints::text(&made.stderr)))
 }
 
 /// A store that is open, by a run of the program. No other program uses it meanwhile.
@@ -163,7 +165,7 @@ impl Store {
     pub fn kept(&self, unit: &Uuid) -> Result<Option<u64>, Error> {
         match self.ask(&format!("kept {unit}")) {
             Ok(reply) => understood(number(&reply, "committed"), reply).map(Some),
-            Err(Error::Refused(Refusal::NotFound)) => Ok(None),
+            Err(Error::Refused(Refusal::NotFound, _)) => Ok(None),
             Err(why) => Err(why),
         }
     }

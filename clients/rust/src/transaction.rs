@@ -132,7 +132,7 @@ pub(crate) fn transact<'a>(
     let mut pause = Duration::from_millis(1);
     for _ in 1..tries {
         match try_work(&begin, &mut work) {
-            Err(Error::Refused(Refusal::Conflict | Refusal::NotActive)) => {
+            Err(Error::Refused(Refusal::Conflict | Refusal::NotActive, _)) => {
                 thread::sleep(pause);
                 pause = (2 * pause).min(Duration::from_millis(100));
             }

@@ -12,7 +12,7 @@ const ROOT: Key = Key::new(0, "");
 
 fn refusal<T: std::fmt::Debug>(answer: Result<T, Error>) -> Refusal {
     match answer {
-        Err(Error::Refused(why)) => why,
+        Err(Error::Refused(why, _)) => why,
         other => panic!("no refusal: {other:?}"),
     }
 }
@@ -212,7 +212,7 @@ fn stores_are_made_once_and_of_sixteen_hives_at_most() {
     let scratch = Scratch::new();
     scratch.store().close().unwrap();
     let again = Store::create(scratch.at("store"), &ID, 1, &scratch.options());
-    assert!(matches!(again, Err(Error::CannotMake)), "{again:?}");
+    assert!(matches!(again, Err(Error::CannotMake(_))), "{again:?}");
     let (other, options) = (scratch.at("other"), scratch.options());
     let over = Store::create(&other, &ID, 17, &options);
     assert!(
@@ -236,10 +236,13 @@ fn stores_are_made_of_files() {
         Store::import_files(&copies, &ID, &files, &options)
     };
     let (first, second) = ("store/hive00.dat", "store/hive01.dat");
-    assert!(matches!(import(&[first, "none"]), Err(Error::CannotRead)));
+    assert!(matches!(
+        import(&[first, "none"]),
+        Err(Error::CannotRead(_))
+    ));
     assert_eq!(refusal(import(&["store/journal"])).name(), "HiveDamaged");
     import(&[second, first]).unwrap();
-    assert!(matches!(import(&[first]), Err(Error::CannotMake)));
+    assert!(matches!(import(&[first]), Err(Error::CannotMake(_))));
     let store = Store::open(&copies, &options).unwrap();
     assert_eq!(store.subkeys(Key::new(1, "")).unwrap(), ["Software"]);
     store.close().unwrap();
@@ -259,7 +262,7 @@ fn old_stores_are_upgraded() {
     fs::remove_file(old.join("hive02.dat")).unwrap();
     let store = scratch.open();
     assert_eq!(refusal(store.kept(&unit(1))), Refusal::Unsupported);
-    assert!(matches!(upgrade(), Err(Error::CannotOpen)));
+    assert!(matches!(upgrade(), Err(Error::CannotOpen(_))));
     store.close().unwrap();
     upgrade().unwrap();
     let store = Store::open(&new, &options).unwrap();

@@ -25,11 +25,11 @@ fn a_missing_program_is_told() {
 fn other_programs_are_told() {
     let scratch = Scratch::new();
     let open = |program: &str| Store::open(scratch.at("store"), &Options::new().program(program));
-    assert!(matches!(open("true"), Err(Error::Ended)));
+    assert!(matches!(open("true"), Err(Error::Ended(_))));
     assert!(matches!(open("echo"), Err(Error::Reply(text)) if text.starts_with("wait 0 run ")));
     let folder = scratch.at("no").join("folder");
     let none = Store::create(folder, &ID, 1, &scratch.options());
-    assert!(matches!(none, Err(Error::CannotMake)));
+    assert!(matches!(none, Err(Error::CannotMake(_))));
 }
 
 #[test]
@@ -38,11 +38,11 @@ fn a_store_in_use_is_waited_for() {
     let store = scratch.store();
     assert!(matches!(
         Store::open(scratch.at("store"), &scratch.options()),
-        Err(Error::CannotOpen)
+        Err(Error::CannotOpen(_))
     ));
     assert!(matches!(
         Store::open(scratch.at("store"), &scratch.options().wait(1)),
-        Err(Error::CannotOpen)
+        Err(Error::CannotOpen(_))
     ));
     let other = thread::spawn(move || {
         thread::sleep(Duration::from_millis(100));
@@ -88,9 +88,12 @@ fn a_killed_run_has_ended() {
     scratch.store().close().unwrap();
     let (store, victim) = scratch.open_to_kill();
     victim.kill();
-    assert!(matches!(store.get_value(SOFTWARE, "v"), Err(Error::Ended)));
-    assert!(matches!(store.flush(), Err(Error::Ended)));
-    assert!(matches!(store.close(), Err(Error::Ended)));
+    assert!(matches!(
+        store.get_value(SOFTWARE, "v"),
+        Err(Error::Ended(_))
+    ));
+    assert!(matches!(store.flush(), Err(Error::Ended(_))));
+    assert!(matches!(store.close(), Err(Error::Ended(_))));
 }
 
 #[test]
@@ -108,7 +111,7 @@ fn a_commit_without_an_answer_is_unknown() {
         panic!("{answer:?}")
     };
     assert_eq!(asked, unit(7));
-    assert!(matches!(*cause, Error::Ended));
+    assert!(matches!(*cause, Error::Ended(_)));
     drop(store);
     let store = scratch.open();
     assert_eq!(store.kept(&unit(7)).unwrap(), None);
@@ -137,7 +140,7 @@ fn some_refusals_leave_a_commit_unknown() {
     tx.set_value(SOFTWARE, "v", &Value::dword(1)).unwrap();
     assert!(matches!(
         tx.commit(),
-        Err(Error::Refused(Refusal::JournalFull))
+        Err(Error::Refused(Refusal::JournalFull, _))
     ));
     store.close().unwrap();
 }
@@ -147,7 +150,10 @@ fn what_a_drop_meets_is_told_later() {
     let store = Scratch::new().fake(&["ok", "E9 NoSuchHandle", "accepted 5"], "exit 1");
     drop(store.transaction(&unit(1)).unwrap());
     let told = store.set_value(SOFTWARE, "v", &Value::dword(1));
-    assert!(matches!(told, Err(Error::Refused(Refusal::NoSuchHandle))));
+    assert!(matches!(
+        told,
+        Err(Error::Refused(Refusal::NoSuchHandle, _))
+    ));
     // that call sent nothing
     assert_eq!(store.set_value(SOFTWARE, "v", &Value::dword(1)).unwrap(), 5);
     store.close().unwrap();
@@ -156,12 +162,15 @@ fn what_a_drop_meets_is_told_later() {
     drop(store.session().unwrap());
     assert!(matches!(
         store.close(),
-        Err(Error::Refused(Refusal::NoSuchHandle))
+        Err(Error::Refused(Refusal::NoSuchHandle, _))
     ));
 
     let store = Scratch::new().fake(&["ok", "E9 NoSuchHandle"], "exit 1");
     let told = store.transaction(&unit(1)).unwrap().rollback();
-    assert!(matches!(told, Err(Error::Refused(Refusal::NoSuchHandle))));
+    assert!(matches!(
+        told,
+        Err(Error::Refused(Refusal::NoSuchHandle, _))
+    ));
     store.close().unwrap();
 }
 
@@ -170,11 +179,38 @@ fn the_end_of_a_run_is_judged() {
     let closed = |end: &str| Scratch::new().fake(&[], end).close();
     closed("exit 0").unwrap();
     let fault = closed("echo 'E13 DiskFault'; exit 1");
-    assert!(matches!(fault, Err(Error::Refused(Refusal::DiskFault))));
-    assert!(matches!(closed("exit 1"), Err(Error::Ended)));
-    assert!(matches!(closed("exit 2"), Err(Error::Ended)));
-    assert!(matches!(closed("kill -KILL $$"), Err(Error::Ended)));
+    assert!(matches!(fault, Err(Error::Refused(Refusal::DiskFault, _))));
+    assert!(matches!(closed("exit 1"), Err(Error::Ended(_))));
+    assert!(matches!(closed("exit 2"), Err(Error::Ended(_))));
+    assert!(matches!(closed("kill -KILL $$"), Err(Error::Ended(_))));
     assert!(matches!(closed("echo E13; exit 1"), Err(Error::Reply(text)) if text == "E13"));
+}
+
+#[test]
+fn hints_are_in_the_errors() {
+    let scratch = Scratch::new();
+    // what a program tells on standard error, if it is asked to
+    let telling = |text: &str| {
+        let tell = "tell() { test \"$REGTX_HINTS\" = 1 && echo \"regtx: $1\" >&2; }";
+        Options::new().program(scratch.script("telling", &format!("{tell}\n{text}")))
+    };
+    let options = telling("tell one; tell two; echo cannot open store; exit 1");
+    let why = Store::open("store", &options).unwrap_err();
+    assert_eq!(why.hints(), "regtx: one; regtx: two");
+    let shown = "cannot open store (regtx: one; regtx: two)";
+    assert_eq!(why.to_string(), shown);
+    let options = telling("tell why; echo cannot make store; exit 1");
+    let made = Store::create("store", &ID, 1, &options);
+    assert!(matches!(made, Err(Error::CannotMake(hints)) if hints == "regtx: why"));
+    let options = telling(
+        "echo opened 0; read line; tell full; echo E13 DiskFault; read line; echo E14 Faulted\n\
+         read line; tell end; exit 3",
+    );
+    let store = Store::open("store", &options).unwrap();
+    let told = [store.flush(), store.flush()].map(|answer| answer.unwrap_err().to_string());
+    assert_eq!(told, ["E13 DiskFault (regtx: full)", "E14 Faulted"]);
+    let ended = store.close();
+    assert!(matches!(ended, Err(Error::Ended(hints)) if hints == "regtx: end"));
 }
 
 #[test]
@@ -219,6 +255,6 @@ fn replies_are_read_whole() {
     let store = Store::open("store", &Options::new().program(half)).unwrap();
     assert!(matches!(
         store.set_value(SOFTWARE, "v", &Value::dword(1)),
-        Err(Error::Ended)
+        Err(Error::Ended(_))
     ));
 }

@@ -8,7 +8,7 @@ use regtx_client::{Creation, Error, Key, Refusal, Requests, Value};
 const SERVICES: Key = Key::new(1, "Services");
 
 fn refused<T>(answer: &Result<T, Error>, with: Refusal) -> bool {
-    matches!(answer, Err(Error::Refused(why)) if *why == with)
+    matches!(answer, Err(Error::Refused(why, _)) if *why == with)
 }
 
 #[test]

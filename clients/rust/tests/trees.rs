@@ -21,7 +21,7 @@ fn at(path: &str) -> Key<'_> {
 }
 
 fn refused<T>(answer: Result<T, Error>, with: Refusal) -> bool {
-    matches!(answer, Err(Error::Refused(why)) if why == with)
+    matches!(answer, Err(Error::Refused(why, _)) if why == with)
 }
 
 fn tree(scratch: &Scratch) -> Store {

@@ -135,7 +135,7 @@ fn data_has_a_mebibyte_at_most() {
     let most = Value::binary(vec![0xab; 1_048_576]);
     store.set_value(SOFTWARE, "v", &most).unwrap();
     let refused = store.set_value(SOFTWARE, "v", &Value::binary(vec![0; 1_048_577]));
-    assert!(matches!(refused, Err(Error::Refused(Refusal::TooLarge))));
+    assert!(matches!(refused, Err(Error::Refused(Refusal::TooLarge, _))));
     assert_eq!(store.get_value(SOFTWARE, "v").unwrap(), most);
     store.close().unwrap();
 }
