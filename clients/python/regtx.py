@@ -19,8 +19,8 @@ import uuid
 from typing import Callable, List, Optional, Sequence, Tuple
 
 from regtx_errors import (  # noqa: F401
-    BadName, CannotMake, CannotOpen, CommandFailed, CommitUnknown, Conflict, DecodeError, DiskFault, Faulted, HasSubkeys,
-    HistoryFull, HiveDamaged, JournalDamaged, NoMemory, NotActive, NotFound, OtherProcess, Refused, RegtxError, RunEnded, ScopeEnded,
+    BadName, CannotMake, CannotOpen, CannotRead, CommandFailed, CommitUnknown, Conflict, DecodeError, DiskFault, Faulted,
+    HasSubkeys, HistoryFull, HiveDamaged, JournalDamaged, NoMemory, NotActive, NotFound, OtherProcess, Refused, RegtxError, RunEnded, ScopeEnded,
     TooLarge, Unsupported)
 from regtx_names import KeyInfo, key_path, key_word, moment_of, read_name, unit_word, value_name_word
 from regtx_run import Folder, Run, carry_out

@@ -124,6 +124,10 @@ class CannotMake(CommandFailed):
     """The folder has a store, is in use by another program, or can't be made."""
 
 
+class CannotRead(CommandFailed):
+    """A hive's file can't be read."""
+
+
 class RunEnded(RegtxError):
     """The run has ended, or can't be used any more.
 
@@ -184,7 +188,8 @@ def failure(printed: str, status: int) -> RegtxError:
         return refused
     if status < 0:
         return RunEnded(f"the program ended by {ending(status)}{last(printed)}", None, status)
-    return {"cannot open store": CannotOpen, "cannot make store": CannotMake}.get(printed, CommandFailed)(printed, status)
+    told = {"cannot open store": CannotOpen, "cannot make store": CannotMake, "cannot read file": CannotRead}
+    return told.get(printed, CommandFailed)(printed, status)
 
 
 def hinted(error: RegtxError, told: bytes) -> RegtxError:
