@@ -224,5 +224,5 @@ int regtx_fold(regtx_store *store, uint64_t *number)
 int regtx_at(regtx_store *store, uint64_t moment)
 {
     store->chosen = moment;
-    return moment == REGTX_NOW ? REGTX_OK : regtx_stamp(store);
+    return moment == REGTX_NOW ? regtx_check_process(store) : regtx_stamp(store);
 }

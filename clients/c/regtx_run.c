@@ -187,27 +187,30 @@ int regtx_failure_of(const char *line)
     return regtx_refusal_of(line);
 }
 
-int regtx_exchange(regtx_store *store, const char *line, size_t size)
+int regtx_check_process(const regtx_store *store)
 {
     /* two processes would read each other's replies */
-    if (store->maker != getpid())
-        return REGTX_OTHER_PROCESS;
-    if (store->broken)
-        return store->broken;
-    int code = write_line(store, line, size);
+    return store->maker == getpid() ? REGTX_OK : REGTX_OTHER_PROCESS;
+}
+
+int regtx_exchange(regtx_store *store, const char *line, size_t size)
+{
+    int code = regtx_check_process(store);
+    if (code == REGTX_OK)
+        code = store->broken;
+    if (code)
+        return code;
+    code = write_line(store, line, size);
     if (code == REGTX_OK)
         code = regtx_read_line(store);
-    if (code != REGTX_OK && code != REGTX_REPLY)
+    if (code == REGTX_OK) {
+        code = regtx_refusal_of(store->text);
+        store->was_refused |= code != REGTX_OK;
+    } else if (code != REGTX_REPLY) {
         store->broken = code;
-    if (code != REGTX_OK) {
-        regtx_hints_take(store->hints, &store->told);
-        return code;
     }
-    code = regtx_refusal_of(store->text);
-    if (code) {
-        store->was_refused = true;
+    if (code)
         regtx_hints_take(store->hints, &store->told);
-    }
     return code;
 }
 
@@ -269,7 +272,7 @@ static int end_run(regtx_store *store)
 int regtx_end(regtx_store *store)
 {
     int code = REGTX_OK;
-    if (store->maker == getpid())
+    if (regtx_check_process(store) == REGTX_OK)
         code = end_run(store);
     else
         close_both(store->script, store->replies);

@@ -45,6 +45,9 @@ int regtx_refusal_of(const char *line);
 /* The same, or what a line tells that isn't a reply to one, such as REGTX_CANNOT_OPEN. */
 int regtx_failure_of(const char *line);
 
+/* REGTX_OTHER_PROCESS in another process than the one that opened the store. */
+int regtx_check_process(const regtx_store *store);
+
 /* Sends a line, and reads its reply into store->text, unless it is a refusal, which is answered.
  * After a failure no line is sent any more. */
 int regtx_exchange(regtx_store *store, const char *line, size_t size);

@@ -62,6 +62,7 @@ static int misused(regtx_store *store, regtx_tx tx, uint32_t session)
                    regtx_kept(store, &uuid, NULL),
                    regtx_flush(store, NULL),
                    regtx_fold(store, NULL),
+                   regtx_at(store, REGTX_NOW),
                    regtx_at(store, 7),
                    regtx_commit(store, tx, NULL),
                    regtx_session_end(store, session)};
