@@ -52,8 +52,7 @@ def main() -> None:
     install_once(folder, program)
     install_once(folder, program)
     with regtx.Store(folder, program, wait=30) as store:
-        for name in store.value_names(PRODUCT):
-            value = store.get_value(PRODUCT, name)
+        for name, value in store.items(PRODUCT):
             print(f"{name}: {regtx.Kind(value.kind).name} {value.value!r}")
         try:
             with store.transaction() as t:
