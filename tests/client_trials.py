@@ -32,7 +32,7 @@ def shown_runs(page):
 
 
 def bounded(seconds, *words):
-    """The words of a command that is ended after so long, with the programs that it started."""
+    """The words of a command that is ended after so long. A run that it began ends by itself then."""
     return ["timeout", "--signal=KILL", str(seconds), *words]
 
 
