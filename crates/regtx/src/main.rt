@@ -2,10 +2,10 @@
 //! `script_runner`, `registry_runner`, `crash_lab` and `crash_sweep`, stores and hives to those that the page names.
 //!
 //! Everything is printed to standard output, each reply at once if a script comes from a pipe or a keyboard. If
-//! standard error is a terminal, it shows why something can't be done. If standard output is no terminal, standard
-//! error also shows how far a long script is read. The status is 0 if no refusal was printed. It is 1 if one was, a
-//! script or a file can't be read, a store can't be made or opened, or a write fails. It is 2 at a line that is none or
-//! at wrong words.
+//! standard error is a terminal, or `REGTX_HINTS` is `1`, it shows why something can't be done. If standard output is
+//! no terminal, standard error also shows on a terminal how far a long script is read. The status is 0 if no refusal
+//! was printed. It is 1 if one was, a script or a file can't be read, a store can't be made or opened, or a write fails.
+//! It is 2 at a line that is none or at wrong words.
 #![tactic(auto)]
 
 mod about;
@@ -56,7 +56,7 @@ use std::time::Clock;
 use std::{env, io};
 
 fn main(rt: HostRuntime) -> ExitCode {
-    let output = TerminalOutput::to(&rt.stderr(), &rt.stdout());
+    let output = TerminalOutput::to(&rt, &rt.stderr(), &rt.stdout());
     let alloc = rt.alloc();
     let status = match words_given(&rt, alloc) {
         Ok((wait, words)) => answer(

@@ -5,10 +5,13 @@ use progress_line::{ProgressLine, Work, WorkStage};
 use script_syntax::Status;
 use std::fs;
 use std::io::{self, Eprint, IsTerminal};
-use std::rt::Files;
+use std::rt::{Env, Files};
 use std::time::Clock;
 
-/// What standard error shows, which is nothing unless it is a terminal.
+/// The variable of the environment by which a caller asks for hints, if it is `1`.
+const ASKED_BY: &str = "REGTX_HINTS";
+
+/// What standard error shows, which is nothing unless it is a terminal or hints are asked for.
 #[derive(Clone, Copy)]
 pub struct TerminalOutput {
     // why something can't be done
@@ -19,11 +22,17 @@ pub struct TerminalOutput {
 
 impl TerminalOutput {
     /// What standard error and standard output allow. If the replies go to a terminal too, they show enough of long
-    /// work, and a line between them would spoil them.
-    pub fn to<E: IsTerminal, O: IsTerminal>(errors: &E, replies: &O) -> TerminalOutput {
-        let hints = errors.is_terminal();
-        let line = hints && !replies.is_terminal();
-        TerminalOutput { hints, line }
+    /// work, and a line between them would spoil them. Hints are also for whoever reads standard error and asks for them.
+    pub fn to<R: Env, E: IsTerminal, O: IsTerminal>(
+        rt: &R,
+        errors: &E,
+        replies: &O,
+    ) -> TerminalOutput {
+        let is_terminal = errors.is_terminal();
+        TerminalOutput {
+            hints: is_terminal || are_hints_asked(rt),
+            line: is_terminal && !replies.is_terminal(),
+        }
     }
 
     /// A line for work that begins with this stage, if lines are shown.
@@ -63,6 +72,12 @@ impl TerminalOutput {
             }
         }
     }
+}
+
+// whether the environment asks for hints
+fn are_hints_asked<R: Env>(rt: &R) -> bool {
+    let mut text = [0; 1];
+    matches!(rt.var(ASKED_BY, &mut text), Ok(1)) && text == *b"1"
 }
 
 // says how the command of this name is used; whether there is one
