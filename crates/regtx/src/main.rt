@@ -25,6 +25,7 @@ mod tasks;
 mod terminal;
 mod usages;
 mod value_commands;
+mod value_words;
 mod words;
 
 use crate::about::{print_about, print_usages};

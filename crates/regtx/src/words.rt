@@ -2,7 +2,7 @@
 
 use crate::command_error::CommandError;
 use crate::tasks::{ExportForm, HiveCount, Sources, Task};
-use crate::value_commands::{Reading, Writing};
+use crate::value_words::parse_value_task;
 use clap::{Arg, ArgAction, ArgMatches, Command};
 use refusals::limits::MOST_HIVES;
 use std::alloc::{AllocError, Global};
@@ -13,6 +13,18 @@ const MOST_WORDS: usize = 64;
 
 /// What the words ask for. Any other words are wrong.
 pub fn parse_task<'a>(alloc: Global, words: &'a [String]) -> Result<Task<'a>, CommandError<'a>> {
+    if let Some(task) = parse_value_task(words) {
+        return task;
+    }
+    // clap would leave it out
+    if words.iter().any(|word| word.as_str() == "--") {
+        return Err(CommandError::WrongWords);
+    }
+    parse_command(alloc, words)
+}
+
+// what the words of a command that clap reads ask for
+fn parse_command<'a>(alloc: Global, words: &'a [String]) -> Result<Task<'a>, CommandError<'a>> {
     let matches = command(alloc)?.try_get_matches_from(words)?;
     match matches.subcommand() {
         Some(("play", given)) => Ok(Task::Play {
@@ -65,7 +77,6 @@ fn parse_file_task<'a>(
         "export" => export_task(alloc, ExportForm::Reg, given),
         "export-json" => export_task(alloc, ExportForm::Json, given),
         "export-tsv" => export_task(alloc, ExportForm::Tsv, given),
-        "get" | "ls" | "set" | "del" => parse_value_task(name, given),
         "check" => Ok(Task::Check {
             source: text(given, "SOURCE")?,
         }),
@@ -73,38 +84,6 @@ fn parse_file_task<'a>(
         "usage" => Ok(Task::Usage {
             word: given.get_str("COMMAND"),
         }),
-        _ => Err(CommandError::WrongWords),
-    }
-}
-
-// what the words of a command for values ask for
-fn parse_value_task<'a>(name: &str, given: &ArgMatches<'a>) -> Result<Task<'a>, CommandError<'a>> {
-    let folder = text(given, "DIR")?;
-    let key = text(given, "KEY")?;
-    match name {
-        "get" => {
-            let name = given.get_str("NAME");
-            let reading = Reading::Value { key, name };
-            Ok(Task::Read { folder, reading })
-        }
-        "ls" => {
-            let reading = Reading::Key { key };
-            Ok(Task::Read { folder, reading })
-        }
-        "set" => {
-            let writing = Writing::Set {
-                key,
-                name: text(given, "NAME")?,
-                kind: text(given, "TYPE")?,
-                text: text(given, "VALUE")?,
-            };
-            Ok(Task::Write { folder, writing })
-        }
-        "del" => {
-            let name = given.get_str("NAME");
-            let writing = Writing::Delete { key, name };
-            Ok(Task::Write { folder, writing })
-        }
         _ => Err(CommandError::WrongWords),
     }
 }
@@ -149,10 +128,6 @@ fn command<'a>(alloc: Global) -> Result<Command<'a>, AllocError> {
     let all = with_export(alloc, all, "export")?;
     let all = with_export(alloc, all, "export-json")?;
     let all = with_export(alloc, all, "export-tsv")?;
-    let all = with_ls(alloc, all)?;
-    let all = with_named(alloc, all, "get")?;
-    let all = with_named(alloc, all, "del")?;
-    let all = with_set(alloc, all)?;
     let all = with_one(alloc, all, "check", "SOURCE")?;
     let all = with_usage(alloc, all)?;
     all.subcommand(Command::new(alloc, "about"))
@@ -173,41 +148,6 @@ fn with_export<'a>(
 ) -> Result<Command<'a>, AllocError> {
     let export = Command::new(alloc, name).arg(one(alloc, "SOURCE"))?;
     all.subcommand(export.arg(others(alloc))?)
-}
-
-// the same, and `ls`
-fn with_ls<'a>(alloc: Global, all: Command<'a>) -> Result<Command<'a>, AllocError> {
-    let ls = Command::new(alloc, "ls").arg(one(alloc, "DIR"))?;
-    all.subcommand(ls.arg(one(alloc, "KEY"))?)
-}
-
-// the same, and a command of this name for a key and the name of a value, which may be left out
-fn with_named<'a>(
-    alloc: Global,
-    all: Command<'a>,
-    name: &'a str,
-) -> Result<Command<'a>, AllocError> {
-    let named = Command::new(alloc, name).disable_help_flag(true);
-    let named = named.arg(one(alloc, "DIR"))?;
-    let named = named.arg(one(alloc, "KEY"))?;
-    all.subcommand(named.arg(any_text(alloc, "NAME"))?)
-}
-
-// the same, and `set`
-fn with_set<'a>(alloc: Global, all: Command<'a>) -> Result<Command<'a>, AllocError> {
-    let set = Command::new(alloc, "set").disable_help_flag(true);
-    let set = set.arg(one(alloc, "DIR"))?;
-    let set = set.arg(one(alloc, "KEY"))?;
-    let set = set.arg(any_text(alloc, "NAME").required(true))?;
-    let set = set.arg(one(alloc, "TYPE"))?;
-    all.subcommand(set.arg(any_text(alloc, "VALUE").required(true))?)
-}
-
-// a word that may begin with a hyphen
-fn any_text<'a>(alloc: Global, name: &'a str) -> Arg<'a> {
-    Arg::new(alloc, name)
-        .action(ArgAction::Set)
-        .allow_hyphen_values(true)
 }
 
 // the same, and `usage`

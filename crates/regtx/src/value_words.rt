@@ -1,0 +1,74 @@
+//! The words of `get`, `ls`, `set` and `del`, which are taken as they stand: a name or a text may be `--`, or begin with a
+//! hyphen.
+
+use crate::command_error::CommandError;
+use crate::tasks::Task;
+use crate::value_commands::{Reading, Writing};
+
+/// What the words ask for, of which the first two are the program and the command; `None` if the command is none of these.
+pub fn parse_value_task<'a>(words: &'a [String]) -> Option<Result<Task<'a>, CommandError<'a>>> {
+    let [_, command, rest @ ..] = words else {
+        return None;
+    };
+    match command.as_str() {
+        "get" => Some(get_task(rest)),
+        "ls" => Some(ls_task(rest)),
+        "set" => Some(set_task(rest)),
+        "del" => Some(del_task(rest)),
+        _ => None,
+    }
+}
+
+// `get DIR KEY [NAME]`
+fn get_task<'a>(words: &'a [String]) -> Result<Task<'a>, CommandError<'a>> {
+    let (folder, key, name) = key_and_name(words)?;
+    let reading = Reading::Value { key, name };
+    Ok(Task::Read { folder, reading })
+}
+
+// `ls DIR KEY`
+fn ls_task<'a>(words: &'a [String]) -> Result<Task<'a>, CommandError<'a>> {
+    let [folder, key] = words else {
+        return Err(CommandError::WrongWords);
+    };
+    let reading = Reading::Key { key: key.as_str() };
+    Ok(Task::Read {
+        folder: folder.as_str(),
+        reading,
+    })
+}
+
+// `set DIR KEY NAME TYPE VALUE`
+fn set_task<'a>(words: &'a [String]) -> Result<Task<'a>, CommandError<'a>> {
+    let [folder, key, name, kind, text] = words else {
+        return Err(CommandError::WrongWords);
+    };
+    let writing = Writing::Set {
+        key: key.as_str(),
+        name: name.as_str(),
+        kind: kind.as_str(),
+        text: text.as_str(),
+    };
+    Ok(Task::Write {
+        folder: folder.as_str(),
+        writing,
+    })
+}
+
+// `del DIR KEY [NAME]`
+fn del_task<'a>(words: &'a [String]) -> Result<Task<'a>, CommandError<'a>> {
+    let (folder, key, name) = key_and_name(words)?;
+    let writing = Writing::Delete { key, name };
+    Ok(Task::Write { folder, writing })
+}
+
+// a store, a key of it, and the name of a value, which may be left out
+fn key_and_name<'a>(
+    words: &'a [String],
+) -> Result<(&'a str, &'a str, Option<&'a str>), CommandError<'a>> {
+    match words {
+        [folder, key] => Ok((folder.as_str(), key.as_str(), None)),
+        [folder, key, name] => Ok((folder.as_str(), key.as_str(), Some(name.as_str()))),
+        _ => Err(CommandError::WrongWords),
+    }
+}
