@@ -1,9 +1,9 @@
 -- What one call more makes of a record.
-use Rattle.std.proofs.Common.{◌≡◌, ◌≢◌, ◌⊎◌, inl, inr, ℕ, ◌<◌, ◌≤◌, List, [], ◌∷◌, length, Bool, true, false, refl, sym, ap, subst, ◌∙◌, arith}
+use Rattle.std.proofs.Common.{◌≡◌, ◌≢◌, inl, inr, ℕ, ◌<◌, ◌≤◌, List, ◌∷◌, length, Bool, true, false, refl, sym, ap, subst, ◌∙◌, arith}
 use Rattle.std.specs.Prelude.{◌==◌, nat_le, if◌then◌else◌, OnErr, Result, Ok, Err}
 use Rattle.std.proofs.lemmas.Bool.{eqb-false, ne_eqb, le-leb, leb-true, cases_Bool}
 use Rattle.disk_model.specs.Call.{KeepsOthers, Passes, ReadGives}
-use Rattle.disk_model.specs.FileState.{Cuts, FileState, MayCut, MayWrite, PutsPart, Syncs, Writes}
+use Rattle.disk_model.specs.FileState.{Cuts, FileState, MayCut, MayWrite, Syncs, Writes}
 use Rattle.file_disk.specs.declared.record.Bytes.{Bytes}
 use Rattle.file_disk.specs.declared.record.Call.{Call}
 use Rattle.file_disk.specs.declared.record.Call.TheVariants as call

@@ -1,7 +1,7 @@
 -- What a read gives of each file is one of the contents that a crash may leave.
 use Rattle.std.specs.Prelude.{◌==◌, ℕ, nat_le, if◌then◌else◌, Bool, true, false, List, [], ◌∷◌, length, refl}
 use Rattle.std.proofs.Common.{inr}
-use Rattle.disk_model.specs.FileState.{FileState, IsSound, at_rest}
+use Rattle.disk_model.specs.FileState.{FileState, IsSound}
 use Rattle.disk_model.specs.MemSound.{sound-at_rest}
 use Rattle.disk_model.proofs.Sound.{sound-after_write, sound-writes, sound-may_cut, sound-cuts}
 use Rattle.file_disk.specs.declared.record.Call.{Call}

@@ -16,7 +16,8 @@ use std::rt::Files;
 /// after a file was made. So names that an earlier run left are kept too. The journal is `journal`, and hive 0 has the
 /// files `hive00.dat` and `hive00.log`, and so on.
 ///
-/// No other program that locks folders in this way can lock the folder until this is dropped.
+/// Until this is dropped, no other program that locks folders in this way can lock the folder, unless both only read it.
+/// If the folder was moved by the time a file is first opened, the call fails, also if another folder is at its path.
 ///
 /// What is proved of its files has a premise: each answer of the system is one that they allow, from what the world `W`
 /// says that they first hold.
@@ -37,7 +38,8 @@ impl<R: Files<File = File> + Drop, W: World> FileDisk<R, W> {
     }
 
     /// The same for a folder whose files are only read: none is written or made, and each write and cut fails. The files
-    /// may be such as this program isn't allowed to write, or lie on a medium that takes no writes.
+    /// may be such as this program isn't allowed to write, or lie on a medium that takes no writes. Several programs may
+    /// read a folder at once. Refused if another one has it to write.
     pub fn open_read_only(rt: R, alloc: Global, folder: &str) -> Result<FileDisk<R, W>, LockError> {
         FileDisk::open(rt, alloc, folder, Access::ReadOnly)
     }

@@ -3,9 +3,9 @@ ghost use Rattle.std.specs.Prelude.{◌≡◌, ◌≤◌, length, IfOk};
 
 use std::alloc::{AllocError, AllocFailed, Global};
 use std::fmt;
-use std::fs::{File, OpenOptions, TryLockError};
+use std::fs::{self, File, OpenOptions, TryLockError};
 use std::io::{self, ErrorKind};
-use std::os::unix::fs::FileExt;
+use std::os::unix::fs::{FileExt, MetadataExt};
 use std::rt::Files;
 
 /// How many files the folder of a store may have: a journal, two files for each of 16 hives, and two for the hive of
@@ -38,7 +38,7 @@ const LONGEST_NAME: usize = 11;
 pub struct Denial {
     /// The file of the refused call; none if it was a sync of the folder itself.
     pub file: Option<FileName>,
-    /// Its error.
+    /// Its error. The kind `StaleNetworkFileHandle` says that the folder isn't at its path any more.
     pub error: io::Error,
 }
 
@@ -88,7 +88,9 @@ pub(crate) enum Access {
 /// A folder whose files are opened as they are first asked for and stay open. A file that isn't there reads as empty,
 /// and is made by the first write.
 ///
-/// No other program that locks folders in this way can lock it until this is dropped.
+/// Until this is dropped, no other program that locks folders in this way can lock it to write. To read it, others can if
+/// this only reads it too. A file is opened by the folder's path: if another folder is there by then, or none, the call
+/// fails, and no file of the other one is read, written or made.
 #[derive(Drop)]
 pub(crate) struct Folder<R: Files<File = File> + Drop> {
     rt: R,
@@ -109,8 +111,8 @@ pub(crate) struct Folder<R: Files<File = File> + Drop> {
 }
 
 impl<R: Files<File = File> + Drop> Folder<R> {
-    /// Locks a folder. One that isn't there has no files, and none can be made in it, also if somebody makes the folder
-    /// later: nothing locks it. What isn't a folder is refused.
+    /// Locks a folder, with others if it is only read. One that isn't there has no files, and none can be made in it, also
+    /// if somebody makes the folder later: nothing locks it. What isn't a folder is refused.
     pub(crate) fn open_locked(
         rt: R,
         alloc: Global,
@@ -127,7 +129,7 @@ impl<R: Files<File = File> + Drop> Folder<R> {
             if !handle.metadata()?.is_dir() {
                 return Err(LockError::Denied(ErrorKind::NotADirectory.into()));
             }
-            lock(handle)?;
+            lock(handle, access)?;
         }
         let mut files = Vec::with_capacity(alloc, MOST_FILES as usize)?;
         for _file in 0..MOST_FILES {
@@ -327,7 +329,9 @@ impl<R: Files<File = File> + Drop> Folder<R> {
         let mut how = how;
         how.read(true).write(self.access == Access::ReadWrite);
         self.name(number)?;
-        match how.open(&self.rt, self.path.as_str()) {
+        let opened = how.open(&self.rt, self.path.as_str());
+        self.look_whether_it_is_there()?;
+        match opened {
             Ok(file) => {
                 if let Some(slot) = self.files.get_mut(number as usize) {
                     *slot = Some(file);
@@ -335,6 +339,22 @@ impl<R: Files<File = File> + Drop> Folder<R> {
                 Ok(())
             }
             Err(error) if error.kind() == ErrorKind::NotFound => Ok(()),
+            Err(error) => Err(error),
+        }
+    }
+
+    // refuses if the locked folder isn't at its path any more: then what was opened by the path isn't its file
+    fn look_whether_it_is_there(&self) -> io::Result<()> {
+        let Some(handle) = &self.handle else {
+            return Ok(());
+        };
+        let locked = handle.metadata()?;
+        match fs::metadata(&self.rt, self.folder.as_str()) {
+            Ok(found) if (found.dev(), found.ino()) == (locked.dev(), locked.ino()) => Ok(()),
+            Ok(_) => Err(ErrorKind::StaleNetworkFileHandle.into()),
+            Err(error) if error.kind() == ErrorKind::NotFound => {
+                Err(ErrorKind::StaleNetworkFileHandle.into())
+            }
             Err(error) => Err(error),
         }
     }
@@ -364,9 +384,13 @@ fn has_no_sync(kind: ErrorKind) -> bool {
     )
 }
 
-// takes the lock on a folder, if no other program has it
-fn lock(handle: &File) -> Result<(), LockError> {
-    match handle.try_lock() {
+// takes the lock on a folder, if no other program has it; programs that only read share it
+fn lock(handle: &File, access: Access) -> Result<(), LockError> {
+    let locked = match access {
+        Access::ReadWrite => handle.try_lock(),
+        Access::ReadOnly => handle.try_lock_shared(),
+    };
+    match locked {
         Ok(()) => Ok(()),
         Err(TryLockError::WouldBlock) => Err(LockError::InUse),
         Err(TryLockError::Error(error)) => Err(error.into()),

@@ -1,5 +1,4 @@
-use Rattle.std.proofs.Common.{◌≡◌, ◌∷◌, ◌∙◌, ℕ, Bool, List, true, false, sym, ap}
-use Rattle.file_disk.specs.declared.record.Call.{Call}
+use Rattle.std.proofs.Common.{◌∷◌, ◌∙◌, Bool, true, false, ap}
 use Rattle.file_disk.specs.declared.record.Call.TheVariants as call
 use Rattle.file_disk.specs.Records.{calls_in}
 use Rattle.file_disk.proofs.Moments.{back, is_cut, may_be_cut, others_cut, passes}

@@ -1,5 +1,3 @@
-use Rattle.std.proofs.Common.{◌≡◌, ◌∷◌, ◌∙◌, ℕ, Bool, List, true, false, sym, ap}
-use Rattle.file_disk.specs.declared.record.Call.{Call}
 use Rattle.file_disk.specs.declared.record.Call.TheVariants as call
 use Rattle.file_disk.specs.Records.{calls_in}
 use Rattle.file_disk.proofs.Moments.{allowed, back, passes, same_denied, same_measured}

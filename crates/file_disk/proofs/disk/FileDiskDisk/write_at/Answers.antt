@@ -1,5 +1,4 @@
-use Rattle.std.proofs.Common.{◌≡◌, ◌∷◌, ◌∙◌, ℕ, Bool, List, true, false, sym, ap}
-use Rattle.file_disk.specs.declared.record.Call.{Call}
+use Rattle.std.proofs.Common.{◌∷◌, ◌∙◌, Bool, true, false, ap}
 use Rattle.file_disk.specs.declared.record.Call.TheVariants as call
 use Rattle.file_disk.specs.Records.{calls_in}
 use Rattle.file_disk.proofs.Moments.{back, is_written, may_be_written, others_written, passes}
