@@ -9,7 +9,7 @@ const HEADER: &str = "Windows Registry Editor Version 5.00\n";
 #[test]
 fn statements_are_those_of_the_file(rt: HostRuntime) -> Result<(), Fail> {
     let alloc = rt.alloc();
-    let cases: [(&str, &str); 8] = [
+    let cases: [(&str, &str); 10] = [
         ("", ""),
         (
             "[H\\A]\n@=\"d\"\n\"p\\\\q\"=\"\\\"x\"\n\"e\"=\"\"\n\"n\"=dword:2A",
@@ -36,6 +36,14 @@ fn statements_are_those_of_the_file(rt: HostRuntime) -> Result<(), Fail> {
             "[A]\n\"v\"=hex:01,\\\n\\\n",
             "2 create A|line 3: not understood|",
         ),
+        (
+            "[A;B] ; c\r\n\"v\"=\"a;b\";c\n\"w\"=dword:1\t;\n\"x\"=hex:01,\\ ; c\n 02;c\n\"y\"=hex: ; c\n\"z\"=- ;-",
+            "2 create A;B|3 set v 1 61003b0062000000|4 set w 4 01000000|5 set x 3 0102|7 set y 3 |8 unset z|",
+        ),
+        (
+            "[A];x]\n[B] ; [C]\n[-D];\n[E] F",
+            "2 create A];x|3 create B] ; [C|4 delete D|line 5: not understood|",
+        ),
     ];
     for (body, wanted) in cases {
         let file = format!(in alloc; "{HEADER}{body}")?;
@@ -47,17 +55,13 @@ fn statements_are_those_of_the_file(rt: HostRuntime) -> Result<(), Fail> {
 #[test]
 fn a_fault_is_told_where_it_stands(rt: HostRuntime) -> Result<(), Fail> {
     let alloc = rt.alloc();
-    let cases: [(&[u8], &str); 14] = [
+    let cases: [(&[u8], &str); 15] = [
         (b"", "line 1: no header|"),
         (b"REGEDIT5\n", "line 1: no header|"),
         (b"\xff\xfeR", "line 1: not text|"),
         (
-            b"REGEDIT4\n[A]\n\"w\"=hex(7):61,00,00",
-            "2 create A|line 3: code page|",
-        ),
-        (
-            b"REGEDIT4\n[A]\n\"w\"=\"a\nb\xc3\xa4\"",
-            "2 create A|line 3: code page|",
+            b"Windows Registry Editor Version 5.00\n[A]\n\"w\"=\"\xe4\"",
+            "2 create A|line 3: not text|",
         ),
         (b"\xef\xbb\xbf REGEDIT4\r\n@=\"x\"", "line 2: no key|"),
         (
@@ -76,18 +80,57 @@ fn a_fault_is_told_where_it_stands(rt: HostRuntime) -> Result<(), Fail> {
             b"REGEDIT4\n[A]\n\"v\"=hex:01,",
             "2 create A|line 3: not understood|",
         ),
-        (b"REGEDIT4\n[A] ; c", "line 2: not understood|"),
         (
-            b"REGEDIT4\n[A]\n\"v\"=hex:1,\\\n\xff\n",
+            b"REGEDIT4\n[A]\n\"v\"=hex:01, ; c",
+            "2 create A|line 3: not understood|",
+        ),
+        (
+            b"REGEDIT4\n[A]\n\"v\"=\"a\" b ; c",
+            "2 create A|line 3: not understood|",
+        ),
+        (b"REGEDIT4 ; c\n[A]", "line 1: no header|"),
+        (
+            b"Windows Registry Editor Version 5.00\n[A]\n\"v\"=hex:1,\\\n\xff\n",
             "2 create A|line 3: not text|",
         ),
         (
-            b"REGEDIT4\n[A]\n\"v\"=hex:x\\\n\xff\n",
+            b"Windows Registry Editor Version 5.00\n[A]\n\"v\"=hex:x\\\n\xff\n",
             "2 create A|line 3: not understood|",
         ),
         (
             b"REGEDIT4\n[A]\n\"v\"=dword:123456789",
             "2 create A|line 3: not understood|",
+        ),
+    ];
+    for (file, wanted) in cases {
+        assert!(&rt; is_shown(alloc, file, wanted)?);
+    }
+    Ok(())
+}
+
+#[test]
+fn the_old_form_is_text_in_a_code_page(rt: HostRuntime) -> Result<(), Fail> {
+    let alloc = rt.alloc();
+    let cases: [(&[u8], &str); 5] = [
+        (
+            b"REGEDIT4\n[A]\n\"w\"=\"a\nb\x80\x81\x9f\xc3\xa4\"",
+            "2 create A|3 set w 1 61000a006200ac2081007801c300a4000000|",
+        ),
+        (
+            b" REGEDIT4 \r\n[\xe4]\r\n\"\x8c\"=-\r\n",
+            "2 create \u{e4}|3 unset \u{152}|",
+        ),
+        (
+            b"REGEDIT4\n[A]\n\"w\"=hex(7):61,00,\\\n80,00,00\n\"x\"=hex(1):\n\"y\"=hex(2):e4\n\"z\"=hex:80\n\"q\"=hex(b):80",
+            "2 create A|3 set w 7 61000000ac2000000000|5 set x 1 |6 set y 2 e400|7 set z 3 80|8 set q 11 80|",
+        ),
+        (
+            b"\xef\xbb\xbfREGEDIT4\n[A]\n\"w\"=\"\xc3\xa4\"\n\"x\"=hex(2):80",
+            "2 create A|3 set w 1 e4000000|4 set x 2 ac20|",
+        ),
+        (
+            b"Windows Registry Editor Version 5.00\n[A]\n\"w\"=\"\xc3\xa4\"\n\"x\"=hex(2):80",
+            "2 create A|3 set w 1 e4000000|4 set x 2 80|",
         ),
     ];
     for (file, wanted) in cases {

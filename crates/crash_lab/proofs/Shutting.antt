@@ -5,7 +5,7 @@ use Rattle.disk_model.specs.declared.tear.Tear.{Tear}
 use Rattle.recovery.specs.Recovered.{IsNoStore, IsFileRefusal, seen_in}
 use Rattle.refusals.specs.declared.refusal.Refusal.{Refusal}
 use Rattle.refusals.specs.declared.refusal.Refusal.TheVariants.{DiskFault, NoMemory}
-use Rattle.script_runner.specs.Running.{MayNotOpen}
+use Rattle.store_driver.specs.Openings.{MayNotOpen}
 use Rattle.crash_lab.specs.Crashes.{IsLeftBy, MayNotReopen}
 
 -- no refusal of files is that of a device that fails

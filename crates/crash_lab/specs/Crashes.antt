@@ -8,7 +8,7 @@ use Rattle.recovery.specs.Recovered.{IsNoStore, seen_in}
 use Rattle.refusals.specs.declared.refusal.Refusal.{Refusal}
 use Rattle.refusals.specs.declared.refusal.Refusal.TheVariants.{NoMemory}
 use Rattle.commit_journal.specs.Store.{Store}
-use Rattle.script_runner.specs.Running.{IsOpenedOn, session_0}
+use Rattle.store_driver.specs.Openings.{IsOpenedOn, session_0}
 
 -- each file is left as the tear says
 abbrev pub IsLeftBy : Tear → (ℕ → FileState) → (ℕ → FileState) → Type 0

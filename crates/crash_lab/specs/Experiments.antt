@@ -15,7 +15,7 @@ use Rattle.script_syntax.specs.declared.line.Line.TheVariants.{Hives, History, L
 use Rattle.script_syntax.specs.declared.reply.ReplyLine.{ReplyLine}
 use Rattle.script_syntax.specs.declared.reply.ReplyLine.TheVariants as reply
 use Rattle.script_runner.specs.Plays.{is_refusal}
-use Rattle.script_runner.specs.Running.{opened_text}
+use Rattle.script_runner.specs.Plays.{opened_text}
 use Rattle.script_runner.specs.Scripts.{Script, Answers, Asks, IsLabelled, script_at}
 use Rattle.tree_printer.specs.TreeTexts.{tree_text}
 use Rattle.crash_lab.specs.LabStates.{LabState, CrashesAreSafe, nothing_asked}

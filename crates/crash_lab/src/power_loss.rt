@@ -8,8 +8,9 @@ use crate::device::Device;
 use disk_model::{MemDisk, Tear};
 use engine::Engine;
 use refusals::Refusal;
-use script_runner::{HistoryLimit, make_journal_room, open_store};
+use script_runner::{HistoryLimit, make_journal_room};
 use std::alloc::{AllocError, Global};
+use store_driver::open_store;
 
 /// A store that was opened after a loss of power.
 #[derive(Drop)]

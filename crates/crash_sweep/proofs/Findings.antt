@@ -9,7 +9,7 @@ use Rattle.recovery.specs.Recovered.{IsNoStore, seen_in}
 use Rattle.refusals.specs.declared.refusal.Refusal.{Refusal}
 use Rattle.refusals.specs.declared.refusal.Refusal.TheVariants.{DiskFault, NoMemory}
 use Rattle.commit_journal.specs.Store.{Store}
-use Rattle.script_runner.specs.Running.{IsOpenedOn, MayNotOpen, session_0}
+use Rattle.store_driver.specs.Openings.{IsOpenedOn, MayNotOpen, session_0}
 use Rattle.crash_sweep.specs.Findings.{CrashGivesFinding, Opens, FindingIsRight}
 use Rattle.crash_sweep.specs.declared.finding.NumberRange.{NumberRange}
 use Rattle.crash_sweep.specs.declared.finding.Finding.{Finding}

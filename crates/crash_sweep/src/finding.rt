@@ -9,9 +9,9 @@ use crate::watched_disk::FileChange;
 use disk_model::{Disk, MemDisk, Plan, Tear};
 use refusals::Refusal;
 use reg_tree::Trees;
-use script_runner::open_store;
 use std::alloc::{AllocError, Global};
 use std::sync::Arc;
+use store_driver::open_store;
 
 /// The bounds of the number that opens, both included.
 #[derive(Clone, Copy, Debug, PartialEq, Eq)]

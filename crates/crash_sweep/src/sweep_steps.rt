@@ -7,13 +7,12 @@ use crate::watched_disk::WatchedMemDisk;
 use disk_model::Plan;
 use engine::Engine;
 use refusals::Refusal;
-use script_runner::{
-    Interpreter, begin_on, frees_room, is_refusal, next_step, open_store, read_history_limit,
-};
+use script_runner::{Interpreter, begin_on, is_refusal, read_history_limit};
 use script_syntax::{Label, Line, ParseError, ReplyLine, Status, read_line};
 use std::alloc::Global;
 use std::io::Write;
 use std::sync::Arc;
+use store_driver::{frees_room, next_step, open_store};
 use store_model::{Event, Reply};
 
 /// A run of a script, and the table of what opens after each of its device calls.

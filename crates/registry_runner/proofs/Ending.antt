@@ -19,7 +19,8 @@ use Rattle.script_syntax.specs.declared.status.Status.TheVariants.{Refused}
 use Rattle.script_runner.proofs.Runs.{appends_kept, if_ok, keeps_same, kept_appends}
 use Rattle.script_runner.specs.Labels.{NamesNothing, named_by}
 use Rattle.script_runner.specs.Plays.{Ends, is_refusal}
-use Rattle.script_runner.specs.Running.{BeginsAt, opened_text}
+use Rattle.store_driver.specs.Openings.{BeginsAt}
+use Rattle.script_runner.specs.Plays.{opened_text}
 use Rattle.script_runner.specs.declared.end_of_script.EndOfScript.{EndOfScript}
 use Rattle.script_runner.specs.declared.end_of_script.EndOfScript.TheVariants.{Broken}
 use Rattle.script_syntax.specs.declared.line.Line.TheVariants.{Flush}

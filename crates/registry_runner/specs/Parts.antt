@@ -9,7 +9,7 @@ use Rattle.script_syntax.specs.Replies.{reply_line}
 use Rattle.script_syntax.specs.declared.reply.ReplyLine.{ReplyLine}
 use Rattle.script_syntax.specs.declared.reply.ReplyLine.TheVariants as reply
 use Rattle.script_runner.specs.Plays.{is_refusal}
-use Rattle.script_runner.specs.Running.{opened_text}
+use Rattle.script_runner.specs.Plays.{opened_text}
 use Rattle.store_model.specs.Machine.{is_of_device}
 use Rattle.ktm_calls.specs.Denials.{IsOpened}
 use Rattle.ktm_calls.specs.Kinds.{Told}

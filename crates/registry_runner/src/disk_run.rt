@@ -1,18 +1,19 @@
 //! Runs a script over the store that is on a disk.
 ghost use Rattle.std.specs.Prelude.{◌<◌, ◌⊎◌, [], Some, IfOk, true, false};
 ghost use Rattle.recovery.specs.Recovered.{seen_in};
-ghost use Rattle.script_runner.specs.Running.{LeavesLife};
+ghost use Rattle.store_driver.specs.Openings.{LeavesLife};
 ghost use Rattle.registry_runner.specs.Running.{IsRun, LeavesStore};
 
 use crate::parts::{PartKind, PartStart, run_parts};
 use crate::run_end::write_refusal;
 use disk_model::Disk;
-use script_runner::{Status, open_engine};
+use script_runner::Status;
 use std::alloc::Global;
 use std::io;
 use std::io::{BufRead, Write};
 use std::sync::Wait;
 use std::thread::Threads;
+use store_driver::open_engine;
 
 /// Runs a script over the store that is on a disk: opens and repairs the store, prints `opened N` with the number of
 /// its last change, and writes the replies to the script's lines. But no line makes a store. At the end all accepted

@@ -13,14 +13,13 @@ use crate::script::{LineAnswer, Script};
 use ktm_calls::StoreEngine;
 use published_trees::Origin;
 use refusals::Refusal;
-use script_runner::{
-    BUSY_ROOM, EndOfScript, Status, end, is_refusal, next_line, waits_for_disk, wrong,
-};
+use script_runner::{EndOfScript, Status, end, is_refusal, next_line, wrong};
 use script_syntax::ReplyLine;
 use std::alloc::AllocError;
 use std::io;
 use std::io::{BufRead, Write};
 use std::sync::Wait;
+use store_driver::BUSY_ROOM;
 
 /// What came of a part's lines.
 pub struct LinesRead {
@@ -238,7 +237,7 @@ fn has_failed_freeing<E: StoreEngine, O: Origin, R: Wait>(caller: &Caller<'_, E,
 
 // whether a line waits for the disk
 fn waits(line: &[u8]) -> bool {
-    waits_for_disk(line) || line == b"fold".as_slice()
+    line == b"flush".as_slice() || line == b"fold".as_slice() || line.starts_with(b"commit ")
 }
 
 // writes out what was written, if the store is about to wait for the disk

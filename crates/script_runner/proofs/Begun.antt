@@ -1,5 +1,5 @@
 -- A script before its first line.
-use Rattle.std.proofs.Common.{◌≡◌, false, ap}
+use Rattle.std.proofs.Common.{◌≡◌, ap}
 use Rattle.std.specs.Option.{option_and_then}
 use Rattle.std.specs.Ordering.{nat_cmp}
 use Rattle.std.specs.Cmp.Lexicographic.{slice_cmp}
@@ -11,5 +11,5 @@ use Rattle.script_runner.specs.Scripts.{script_at}
 use Rattle.script_runner.specs.declared.labels.Labels.{Labels}
 
 -- no label names anything
-pub begun : (machine : Machine) (labels : Labels) → NamesNothing labels → record { machine = machine; moment = 0; session = 0; labels = named_by labels; failed = false } ≡ script_at machine
-begun machine labels nothing = ap (λ entries. record { machine = machine; moment = 0; session = 0; labels = λ label. option_and_then (λ tx. tx) (lookup (is_at (slice_cmp nat_cmp label)) entries); failed = false }) nothing
+pub begun : (machine : Machine) (labels : Labels) → NamesNothing labels → record { machine = machine; moment = 0; session = 0; labels = named_by labels } ≡ script_at machine
+begun machine labels nothing = ap (λ entries. record { machine = machine; moment = 0; session = 0; labels = λ label. option_and_then (λ tx. tx) (lookup (is_at (slice_cmp nat_cmp label)) entries) }) nothing

@@ -8,11 +8,8 @@ use Rattle.script_syntax.specs.declared.reply.ReplyLine.{ReplyLine}
 use Rattle.script_syntax.specs.declared.reply.ReplyLine.TheVariants as reply
 use Rattle.script_syntax.specs.Statuses.{with_refusal}
 use Rattle.script_runner.specs.Scripts.{Script, fresh_script, limited, hives_asked, history_asked, line_asked}
-use Rattle.script_runner.specs.Plays.{lines_of, AreFirst, AreReadOf, WereRead, wrong_text, Ends, KeepsUpBetweenLines, MayReply, PlaysOverNew, IsPlayed, IsPlayedOn, IsPlayedOverNew}
-use Rattle.script_runner.specs.Faults.{is_device_reply}
-use Rattle.script_runner.specs.OutcomeOfLine.{AnswerOfLine, IsPlayedTo, TakesLine, OutcomeOfLine}
-use Rattle.script_runner.specs.declared.background_work.FlushPolicy.{FlushPolicy}
-use Rattle.script_runner.specs.declared.background_work.FlushPolicy.TheVariants.{OnRequest, WhenHalfFull}
+use Rattle.script_runner.specs.Plays.{lines_of, AreFirst, AreReadOf, WereRead, wrong_text, Ends, PlaysOverNew, IsPlayed, IsPlayedOn, IsPlayedOverNew}
+use Rattle.script_runner.specs.OutcomeOfLine.{AnswerOfLine, TakesLine, OutcomeOfLine}
 use Rattle.script_runner.specs.declared.end_of_script.EndOfScript.{EndOfScript}
 use Rattle.script_runner.specs.declared.end_of_script.EndOfScript.TheVariants.{Ended, Broken, OutOfMemory}
 use Rattle.script_syntax.specs.declared.status.Status.{Status}
@@ -70,43 +67,27 @@ none_read (Some bytes) Broken h = (lines_of bytes, refl)
 none_read (Some bytes) OutOfMemory h = (lines_of bytes, refl)
 
 -- a line that is none ends the run
-pub stops_wrong : (policy : FlushPolicy) (old new : Script) (number : ℕ) (known rest before after : Option (List ℕ)) (line : List ℕ) (status : Status) → TakesLine known rest line → line_asked line ≡ None → status ≡ Wrong → Appends before after (wrong_text number) → new ≡ old → IsPlayedOn policy old number known before after status new
-stops_wrong policy old new number known rest before after line status taken none wrong written same =
-    (line ∷ [], None, wrong_text number, one_read known rest line taken, inl (none, record { last = refl; stopped = refl; printed = refl; wrong = wrong }, same), written)
+pub stops_wrong : (old : Script) (number : ℕ) (known rest before after : Option (List ℕ)) (line : List ℕ) (status : Status) → TakesLine known rest line → line_asked line ≡ None → status ≡ Wrong → Appends before after (wrong_text number) → IsPlayedOn old number known before after status
+stops_wrong old number known rest before after line status taken none wrong written =
+    (line ∷ [], None, wrong_text number, one_read known rest line taken, inl (none, record { last = refl; stopped = refl; printed = refl; wrong = wrong }), written)
 
 -- there is no further line
-pub ends_here : (policy : FlushPolicy) (old new : Script) (number : ℕ) (known before after : Option (List ℕ)) (end_of_script : EndOfScript) (text : List ℕ) (status : Status) → WereRead known [] (Some end_of_script) → Ends end_of_script text status → Appends before after text → new ≡ old → IsPlayedOn policy old number known before after status new
-ends_here policy old new number known before after end_of_script text status read how written same = ([], Some end_of_script, text, read, (how, same), written)
+pub ends_here : (old : Script) (number : ℕ) (known before after : Option (List ℕ)) (end_of_script : EndOfScript) (text : List ℕ) (status : Status) → WereRead known [] (Some end_of_script) → Ends end_of_script text status → Appends before after text → IsPlayedOn old number known before after status
+ends_here old number known before after end_of_script text status read how written = ([], Some end_of_script, text, read, how, written)
 
--- a store in memory isn't one that frees its room
-pub in_memory_alone : (policy : FlushPolicy) → policy ≡ OnRequest → policy ≡ WhenHalfFull → ⊥
-in_memory_alone policy e f = cc
-
--- a run that leaves the script so, and one of a store in memory of which nothing is asked any more
-pub to_end : (policy : FlushPolicy) (old new : Script) (number : ℕ) (known before after : Option (List ℕ)) (status : Status) → IsPlayedOn policy old number known before after status new → IsPlayedTo policy old number known before after status new
-to_end policy old new number known before after status on = (new, on, λ e. refl)
-
-pub to_none : (policy : FlushPolicy) (old end new : Script) (number : ℕ) (known before after : Option (List ℕ)) (status : Status) → policy ≡ OnRequest → IsPlayedOn policy old number known before after status end → IsPlayedTo policy old number known before after status new
-to_none policy old end new number known before after status in_memory on = (end, on, λ e. absurd (in_memory_alone policy in_memory e))
-
--- a store that frees its room may report the device, and one in memory doesn't
-pub may_reply : (policy : FlushPolicy) (reported : ReplyLine) → (policy ≡ OnRequest → is_device_reply reported ≡ false) → MayReply policy reported
-may_reply OnRequest reported other = other refl
-may_reply WhenHalfFull reported other = tt
-
--- a line was answered, the store worked, and the run continues
-pub continues : (policy : FlushPolicy) (old new kept end : Script) (number : ℕ) (known rest before reported mid after : Option (List ℕ)) (refused : Bool) (status : Status)
-    → OutcomeOfLine policy old number known before (Replied refused) new rest reported → KeepsUpBetweenLines policy new kept → Keeps reported mid → IsPlayedOn policy kept (number + 1) rest mid after status end
-    → IsPlayedOn policy old number known before after (with_refusal refused status) end
-continues policy old new kept end number known rest before reported mid after refused status turn worked no_change on =
+-- a line was answered, and the run continues
+pub continues : (old new : Script) (number : ℕ) (known rest before mid after : Option (List ℕ)) (refused : Bool) (status : Status)
+    → OutcomeOfLine old number known before (Replied refused) new rest mid → IsPlayedOn new (number + 1) rest mid after status
+    → IsPlayedOn old number known before after (with_refusal refused status)
+continues old new number known rest before mid after refused status turn on =
     let line = turn.0 in
     let reply = turn.2 in (
       line ∷ on.0,
       on.1,
       reply_line reply ++ on.2,
       more_read known rest line on.0 on.1 turn.3 on.3,
-      inr (turn.1, reply, new, kept, on.2, status, turn.4, turn.5, turn.8, worked, on.4, refl, ap (λ b. with_refusal b status) turn.7),
-      appends_more before mid after (reply_line reply) on.2 (appends_kept before reported mid (reply_line reply) turn.6 no_change) on.5,
+      inr (turn.1, reply, new, on.2, status, turn.4, turn.5, turn.8, on.4, refl, ap (λ b. with_refusal b status) turn.7),
+      appends_more before mid after (reply_line reply) on.2 turn.6 on.5,
     )
 
 -- refusals before and after
@@ -125,59 +106,47 @@ pub broken_is_no_end : Broken ≡ Ended → ⊥
 broken_is_no_end e = cc
 
 -- what was answered to a line that was read, or how it ended the run
-pub taken_so : (policy : FlushPolicy) (old new : Script) (number : ℕ) (known rest before after : Option (List ℕ)) (line : List ℕ) (outcome : LineOutcome) → TakesLine known rest line → AnswerOfLine policy old number line before outcome new after → OutcomeOfLine policy old number known before outcome new rest after
-taken_so policy old new number known rest before after line (Over status) taken (inl stops) =
-    to_end policy old new number known before after status (stops_wrong policy old new number known rest before after line status taken stops.0 stops.1 stops.2 stops.3)
-taken_so policy old new number known rest before after line (Over status) taken (inr stops) =
-    (old, ends_here policy old old number known before after OutOfMemory stops.0 status (none_read known OutOfMemory is_end) stops.1 stops.2 refl, stops.3)
-taken_so policy old new number known rest before after line (Replied refused) taken told = (line, told.0, told.1, taken, told.2, told.3, told.4, told.5, told.6)
+pub taken_so : (old new : Script) (number : ℕ) (known rest before after : Option (List ℕ)) (line : List ℕ) (outcome : LineOutcome) → TakesLine known rest line → AnswerOfLine old number line before outcome new after → OutcomeOfLine old number known before outcome new rest after
+taken_so old new number known rest before after line (Over status) taken (inl stops) = stops_wrong old number known rest before after line status taken stops.0 stops.1 stops.2
+taken_so old new number known rest before after line (Over status) taken (inr stops) = ends_here old number known before after OutOfMemory stops.0 status (none_read known OutOfMemory is_end) stops.1 stops.2
+taken_so old new number known rest before after line (Replied refused) taken told = (line, told.0, told.1, taken, told.2, told.3, told.4, told.5, told.6)
 
 -- a script's second line
 
 -- a line that `history` is
-pub limits : (old end : Script) (known rest before mid after : Option (List ℕ)) (line : List ℕ) (limit : ℕ) (status : Status) → TakesLine known rest line → history_asked line ≡ Some limit → Appends before mid (reply_line reply.Done) → IsPlayedOn OnRequest (limited limit old) 3 rest mid after status end → IsPlayedOverNew old known before after status
-limits old end known rest before mid after line limit status taken asked written on = (
+pub limits : (old : Script) (known rest before mid after : Option (List ℕ)) (line : List ℕ) (limit : ℕ) (status : Status) → TakesLine known rest line → history_asked line ≡ Some limit → Appends before mid (reply_line reply.Done) → IsPlayedOn (limited limit old) 3 rest mid after status → IsPlayedOverNew old known before after status
+limits old known rest before mid after line limit status taken asked written on = (
   line ∷ on.0,
   on.1,
   reply_line reply.Done ++ on.2,
-  end,
   more_read known rest line on.0 on.1 taken on.3,
   inr (limit, on.2, asked, on.4, refl),
   appends_more before mid after (reply_line reply.Done) on.2 written on.5,
 )
 
-or_false : (b : Bool) → b ≡ b || false
-or_false true = refl
-or_false false = refl
-
--- a store in memory makes no step between lines
-idle : (script : Script) → KeepsUpBetweenLines OnRequest script script
-idle script = (None, (refl, refl), ap (λ b. record script { failed = b }) (or_false script.failed))
-
 -- any other that is answered
-pub second_answered : (old new end : Script) (known rest before mid after : Option (List ℕ)) (line : List ℕ) (refused : Bool) (status : Status)
-    → TakesLine known rest line → history_asked line ≡ None → AnswerOfLine OnRequest old 2 line before (Replied refused) new mid → IsPlayedOn OnRequest new 3 rest mid after status end
+pub second_answered : (old new : Script) (known rest before mid after : Option (List ℕ)) (line : List ℕ) (refused : Bool) (status : Status)
+    → TakesLine known rest line → history_asked line ≡ None → AnswerOfLine old 2 line before (Replied refused) new mid → IsPlayedOn new 3 rest mid after status
     → IsPlayedOverNew old known before after (with_refusal refused status)
-second_answered old new end known rest before mid after line refused status taken other told on =
+second_answered old new known rest before mid after line refused status taken other told on =
     let reported = told.1 in (
       line ∷ on.0,
       on.1,
       reply_line reported ++ on.2,
-      end,
       more_read known rest line on.0 on.1 taken on.3,
-      inl (other, inr (told.0, reported, new, new, on.2, status, told.2, told.3, told.6, idle new, on.4, refl, ap (λ b. with_refusal b status) told.5)),
+      inl (other, inr (told.0, reported, new, on.2, status, told.2, told.3, told.6, on.4, refl, ap (λ b. with_refusal b status) told.5)),
       appends_more before mid after (reply_line reported) on.2 told.4 on.5,
     )
 
 -- and one that ends the run
-pub second_ends : (old new : Script) (known rest before after : Option (List ℕ)) (line : List ℕ) (status : Status) → TakesLine known rest line → history_asked line ≡ None → AnswerOfLine OnRequest old 2 line before (Over status) new after → IsPlayedOverNew old known before after status
+pub second_ends : (old new : Script) (known rest before after : Option (List ℕ)) (line : List ℕ) (status : Status) → TakesLine known rest line → history_asked line ≡ None → AnswerOfLine old 2 line before (Over status) new after → IsPlayedOverNew old known before after status
 second_ends old new known rest before after line status taken other (inl stops) =
-    (line ∷ [], None, wrong_text 2, old, one_read known rest line taken, inl (other, inl (stops.0, record { last = refl; stopped = refl; printed = refl; wrong = stops.1 }, refl)), stops.2)
-second_ends old new known rest before after line status taken other (inr stops) = ([], Some OutOfMemory, stops.0, old, none_read known OutOfMemory is_end, (stops.1, refl), stops.2)
+    (line ∷ [], None, wrong_text 2, one_read known rest line taken, inl (other, inl (stops.0, record { last = refl; stopped = refl; printed = refl; wrong = stops.1 })), stops.2)
+second_ends old new known rest before after line status taken other (inr stops) = ([], Some OutOfMemory, stops.0, none_read known OutOfMemory is_end, stops.1, stops.2)
 
 -- there is none
 pub no_second : (old : Script) (known before after : Option (List ℕ)) (end_of_script : EndOfScript) (text : List ℕ) (status : Status) → WereRead known [] (Some end_of_script) → Ends end_of_script text status → Appends before after text → IsPlayedOverNew old known before after status
-no_second old known before after end_of_script text status read how written = ([], Some end_of_script, text, old, read, (how, refl), written)
+no_second old known before after end_of_script text status read how written = ([], Some end_of_script, text, read, how, written)
 
 -- a first line that says how many hives there are
 pub begins : (known rest before mid after : Option (List ℕ)) (line : List ℕ) (hives : ℕ) (old : Script) (status : Status) → TakesLine known rest line → hives_asked line ≡ Some hives → old ≡ fresh_script hives → Appends before mid (reply_line reply.Done) → IsPlayedOverNew old rest mid after status → IsPlayed known before after status
@@ -185,9 +154,9 @@ begins known rest before mid after line hives old status taken asked fresh writt
   line ∷ on.0,
   on.1,
   reply_line reply.Done ++ on.2,
-  more_read known rest line on.0 on.1 taken on.4,
-  inr (hives, on.2, on.3, asked, subst (λ script. PlaysOverNew script on.0 on.1 on.2 status on.3) fresh on.5, refl),
-  appends_more before mid after (reply_line reply.Done) on.2 written on.6,
+  more_read known rest line on.0 on.1 taken on.3,
+  inr (hives, on.2, asked, subst (λ script. PlaysOverNew script on.0 on.1 on.2 status) fresh on.4, refl),
+  appends_more before mid after (reply_line reply.Done) on.2 written on.5,
 )
 
 -- a first line that is none

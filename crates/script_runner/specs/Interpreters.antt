@@ -11,7 +11,7 @@ abbrev pub engine_of : {D : Type 0} → Interpreter D → Shown D
 engine_of interpreter = interpreter.engine
 
 abbrev pub script_of : {D : Type 0} → Interpreter D → Script
-script_of interpreter = record { machine = interpreter.engine.machine; moment = interpreter.moment; session = interpreter.session; labels = named_by interpreter.labels; failed = interpreter.failed }
+script_of interpreter = record { machine = interpreter.engine.machine; moment = interpreter.moment; session = interpreter.session; labels = named_by interpreter.labels }
 
 -- the reply of a line that has waited for a change: by the change's number, or the reply that came instead
 abbrev pub reply_by : (ℕ → ReplyLine) → Result ℕ ReplyLine → ReplyLine

@@ -1,12 +1,8 @@
 pub mod Requests
-pub mod Waits
 pub mod Faults
-pub mod Later
-pub mod Work
 pub mod Scripts
 pub mod Parting
 pub mod Labels
 pub mod Interpreters
 pub mod Plays
 pub mod OutcomeOfLine
-pub mod Running

@@ -7,8 +7,6 @@ use Rattle.script_syntax.specs.declared.reply.ReplyLine.{ReplyLine}
 use Rattle.script_runner.specs.Scripts.{Script, Answers, line_asked}
 use Rattle.script_runner.specs.Plays.{lines_of, Ends, is_refusal, IsPlayedOn, MayReply, wrong_text}
 use Rattle.script_runner.specs.declared.runner.LineOutcome.{LineOutcome}
-use Rattle.script_runner.specs.declared.background_work.FlushPolicy.{FlushPolicy}
-use Rattle.script_runner.specs.declared.background_work.FlushPolicy.TheVariants.{WhenHalfFull}
 use Rattle.script_runner.specs.declared.end_of_script.EndOfScript.TheVariants.{OutOfMemory}
 use Rattle.script_syntax.specs.declared.status.Status.{Status}
 use Rattle.script_syntax.specs.declared.status.Status.TheVariants.{Wrong}
@@ -18,24 +16,18 @@ use Rattle.script_runner.specs.declared.runner.LineOutcome.TheVariants.{Replied,
 abbrev pub TakesLine : Option (List ℕ) → Option (List ℕ) → List ℕ → Type 0
 TakesLine known rest line = IfSome known (λ bytes. (left : List ℕ) × (rest ≡ Some left) × (lines_of bytes ≡ line ∷ lines_of left))
 
--- A run over a store that frees its room leaves the script as it is then; of a store in memory nothing is asked any
--- more.
-abbrev pub IsPlayedTo : FlushPolicy → Script → ℕ → Option (List ℕ) → Option (List ℕ) → Option (List ℕ) → Status → Script → Type 0
-IsPlayedTo policy old number known before after status new = (end : Script) × IsPlayedOn policy old number known before after status end × (policy ≡ WhenHalfFull → new ≡ end)
-
--- A line that was read is answered; or it is none, which ends the run; or no memory is found, which ends it too, and of a
--- store in memory nothing is asked any more.
-abbrev pub AnswerOfLine : FlushPolicy → Script → ℕ → List ℕ → Option (List ℕ) → LineOutcome → Script → Option (List ℕ) → Type 0
-AnswerOfLine policy old number line before (Over status) new after =
-    ((line_asked line ≡ None) × (status ≡ Wrong) × Appends before after (wrong_text number) × (new ≡ old))
-    ⊎ ((text : List ℕ) × Ends OutOfMemory text status × Appends before after text × (policy ≡ WhenHalfFull → new ≡ old))
-AnswerOfLine policy old number line before (Replied refused) new after =
+-- A line that was read is answered; or it is none, which ends the run; or no memory is found, which ends it too.
+abbrev pub AnswerOfLine : Script → ℕ → List ℕ → Option (List ℕ) → LineOutcome → Script → Option (List ℕ) → Type 0
+AnswerOfLine old number line before (Over status) new after =
+    ((line_asked line ≡ None) × (status ≡ Wrong) × Appends before after (wrong_text number))
+    ⊎ ((text : List ℕ) × Ends OutOfMemory text status × Appends before after text)
+AnswerOfLine old number line before (Replied refused) new after =
     (asked : Line) × (reported : ReplyLine) × (line_asked line ≡ Some asked) × Answers old asked reported new × Appends before after (reply_line reported)
-    × (refused ≡ is_refusal reported) × MayReply policy reported
+    × (refused ≡ is_refusal reported) × MayReply reported
 
 -- a line was read and answered, or the run is over
-abbrev pub OutcomeOfLine : FlushPolicy → Script → ℕ → Option (List ℕ) → Option (List ℕ) → LineOutcome → Script → Option (List ℕ) → Option (List ℕ) → Type 0
-OutcomeOfLine policy old number known before (Over status) new rest after = IsPlayedTo policy old number known before after status new
-OutcomeOfLine policy old number known before (Replied refused) new rest after =
+abbrev pub OutcomeOfLine : Script → ℕ → Option (List ℕ) → Option (List ℕ) → LineOutcome → Script → Option (List ℕ) → Option (List ℕ) → Type 0
+OutcomeOfLine old number known before (Over status) new rest after = IsPlayedOn old number known before after status
+OutcomeOfLine old number known before (Replied refused) new rest after =
     (line : List ℕ) × (asked : Line) × (reported : ReplyLine) × TakesLine known rest line × (line_asked line ≡ Some asked) × Answers old asked reported new
-    × Appends before after (reply_line reported) × (refused ≡ is_refusal reported) × MayReply policy reported
+    × Appends before after (reply_line reported) × (refused ≡ is_refusal reported) × MayReply reported

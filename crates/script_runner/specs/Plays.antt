@@ -1,9 +1,8 @@
 -- What a script prints, and how its run ends.
-use Rattle.std.specs.Prelude.{◌≡◌, ⊤, ℕ, ◌+◌, ◌==◌, ◌⊎◌, ◌||◌, Bool, true, false, if◌then◌else◌, List, [], ◌∷◌, ◌++◌, Option, Some, None, IfSome, codes}
+use Rattle.std.specs.Prelude.{◌≡◌, ℕ, ◌+◌, ◌==◌, ◌⊎◌, Bool, true, false, if◌then◌else◌, List, [], ◌∷◌, ◌++◌, Option, Some, None, IfSome, codes}
 use Rattle.std.specs.Fmt.{decimal}
 use Rattle.std.specs.Io.KnownBytes.{Appends}
 use Rattle.refusals.specs.Refusals.{refusal_text}
-use Rattle.refusals.specs.declared.refusal.Refusal.{Refusal}
 use Rattle.refusals.specs.declared.refusal.Refusal.TheVariants.{NoMemory}
 use Rattle.script_syntax.specs.Replies.{reply_line}
 use Rattle.script_syntax.specs.declared.line.Line.{Line}
@@ -11,9 +10,6 @@ use Rattle.script_syntax.specs.declared.reply.ReplyLine.{ReplyLine}
 use Rattle.script_syntax.specs.declared.reply.ReplyLine.TheVariants as reply
 use Rattle.script_runner.specs.Scripts.{Script, Answers, fresh_script, limited, hives_asked, history_asked, line_asked}
 use Rattle.script_runner.specs.Faults.{is_device_reply}
-use Rattle.script_runner.specs.Work.{WorksBetweenLines, is_fault}
-use Rattle.script_runner.specs.declared.background_work.FlushPolicy.{FlushPolicy}
-use Rattle.script_runner.specs.declared.background_work.FlushPolicy.TheVariants.{OnRequest, WhenHalfFull}
 use Rattle.script_syntax.specs.Statuses.{with_refusal}
 use Rattle.script_runner.specs.declared.end_of_script.EndOfScript.{EndOfScript}
 use Rattle.script_runner.specs.declared.end_of_script.EndOfScript.TheVariants.{Ended, Broken, OutOfMemory}
@@ -44,6 +40,10 @@ AreReadOf bytes lines None = AreFirst lines (lines_of bytes)
 abbrev pub WereRead : Option (List ℕ) → List (List ℕ) → Option EndOfScript → Type 0
 WereRead known lines end_of_script = IfSome known (λ bytes. AreReadOf bytes lines end_of_script)
 
+-- what is printed of a store that was opened, before the first line's reply
+abbrev pub opened_text : ℕ → List ℕ
+opened_text number = codes "opened " ++ decimal number ++ codes "\n"
+
 -- what is printed at a line that is none, which ends the run
 abbrev pub wrong_text : ℕ → List ℕ
 wrong_text number = codes "line " ++ decimal number ++ codes ": not understood\n"
@@ -70,35 +70,27 @@ abbrev pub EndsAs : Option EndOfScript → List ℕ → Status → Type 0
 EndsAs None text status = ⊥
 EndsAs (Some end_of_script) text status = Ends end_of_script text status
 
--- Between two lines the store works by this policy. Of the script it changes the machine, and whether the device has
--- failed in that.
-abbrev pub KeepsUpBetweenLines : FlushPolicy → Script → Script → Type 0
-KeepsUpBetweenLines policy old new = (ended : Option Refusal) × WorksBetweenLines policy ended old.machine new.machine × (new ≡ record old { machine = new.machine; failed = old.failed || is_fault ended })
+-- A store in memory has a disk that never fails: none of its replies reports the device.
+abbrev pub MayReply : ReplyLine → Type 0
+MayReply reported = is_device_reply reported ≡ false
 
--- A store that makes no steps between lines is one in memory, whose disk never fails: none of its replies reports the
--- device.
-abbrev pub MayReply : FlushPolicy → ReplyLine → Type 0
-MayReply OnRequest reported = is_device_reply reported ≡ false
-MayReply WhenHalfFull reported = ⊤
-
--- From old, at the line of this number, the lines and the way that reading ended print this text, end with this status
--- and leave the script so. Each line is answered in turn, by a reply that may be given, up to one that is not
--- understood. The store works between the lines by this policy.
-abbrev pub PlaysOn : (ReplyLine → Type 0) → FlushPolicy → Script → ℕ → List (List ℕ) → Option EndOfScript → List ℕ → Status → Script → Type 0
-PlaysOn may policy old number [] end_of_script text status end = EndsAs end_of_script text status × (end ≡ old)
-PlaysOn may policy old number (line ∷ lines) end_of_script text status end =
-    ((line_asked line ≡ None) × IsWrong number lines end_of_script text status × (end ≡ old))
-    ⊎ ((asked : Line) × (reported : ReplyLine) × (new kept : Script) × (rest : List ℕ) × (later : Status) × (line_asked line ≡ Some asked) × Answers old asked reported new
-    × may reported × KeepsUpBetweenLines policy new kept × PlaysOn may policy kept (number + 1) lines end_of_script rest later end × (text ≡ reply_line reported ++ rest)
+-- From old, at the line of this number, the lines and the way that reading ended print this text and end with this
+-- status. Each line is answered in turn, by a reply that may be given, up to one that is not understood.
+abbrev pub PlaysOn : Script → ℕ → List (List ℕ) → Option EndOfScript → List ℕ → Status → Type 0
+PlaysOn old number [] end_of_script text status = EndsAs end_of_script text status
+PlaysOn old number (line ∷ lines) end_of_script text status =
+    ((line_asked line ≡ None) × IsWrong number lines end_of_script text status)
+    ⊎ ((asked : Line) × (reported : ReplyLine) × (new : Script) × (rest : List ℕ) × (later : Status) × (line_asked line ≡ Some asked) × Answers old asked reported new
+    × MayReply reported × PlaysOn new (number + 1) lines end_of_script rest later × (text ≡ reply_line reported ++ rest)
     × (status ≡ with_refusal (is_refusal reported) later))
 
 -- A script over its new store, from line 2 on. If that line is `history`, it is answered `ok`, and says how many changes
 -- the store accepts until its history is folded. Any other is answered as those after it.
-abbrev pub PlaysOverNew : Script → List (List ℕ) → Option EndOfScript → List ℕ → Status → Script → Type 0
-PlaysOverNew old [] end_of_script text status end = PlaysOn (MayReply OnRequest) OnRequest old 2 [] end_of_script text status end
-PlaysOverNew old (line ∷ lines) end_of_script text status end =
-    ((history_asked line ≡ None) × PlaysOn (MayReply OnRequest) OnRequest old 2 (line ∷ lines) end_of_script text status end)
-    ⊎ ((limit : ℕ) × (rest : List ℕ) × (history_asked line ≡ Some limit) × PlaysOn (MayReply OnRequest) OnRequest (limited limit old) 3 lines end_of_script rest status end
+abbrev pub PlaysOverNew : Script → List (List ℕ) → Option EndOfScript → List ℕ → Status → Type 0
+PlaysOverNew old [] end_of_script text status = PlaysOn old 2 [] end_of_script text status
+PlaysOverNew old (line ∷ lines) end_of_script text status =
+    ((history_asked line ≡ None) × PlaysOn old 2 (line ∷ lines) end_of_script text status)
+    ⊎ ((limit : ℕ) × (rest : List ℕ) × (history_asked line ≡ Some limit) × PlaysOn (limited limit old) 3 lines end_of_script rest status
     × (text ≡ reply_line reply.Done ++ rest))
 
 -- the first line says how many hives there are; a script without a line is wrong at line 1
@@ -109,7 +101,7 @@ Plays [] (Some OutOfMemory) text status = Ends OutOfMemory text status
 Plays [] None text status = ⊥
 Plays (line ∷ lines) end_of_script text status =
     ((hives_asked line ≡ None) × IsWrong 1 lines end_of_script text status)
-    ⊎ ((hives : ℕ) × (rest : List ℕ) × (end : Script) × (hives_asked line ≡ Some hives) × PlaysOverNew (fresh_script hives) lines end_of_script rest status end
+    ⊎ ((hives : ℕ) × (rest : List ℕ) × (hives_asked line ≡ Some hives) × PlaysOverNew (fresh_script hives) lines end_of_script rest status
     × (text ≡ reply_line reply.Done ++ rest))
 
 -- some lines were read, and what was written is what they print
@@ -120,10 +112,9 @@ IsPlayed known before after status =
 -- the same from line 2 on, over a new store
 abbrev pub IsPlayedOverNew : Script → Option (List ℕ) → Option (List ℕ) → Option (List ℕ) → Status → Type 0
 IsPlayedOverNew old known before after status =
-    (lines : List (List ℕ)) × (end_of_script : Option EndOfScript) × (text : List ℕ) × (end : Script) × WereRead known lines end_of_script × PlaysOverNew old lines end_of_script text status end
-    × Appends before after text
+    (lines : List (List ℕ)) × (end_of_script : Option EndOfScript) × (text : List ℕ) × WereRead known lines end_of_script × PlaysOverNew old lines end_of_script text status × Appends before after text
 
--- the same from a script's later line on, over a store that works by this policy; it leaves the script so
-abbrev pub IsPlayedOn : FlushPolicy → Script → ℕ → Option (List ℕ) → Option (List ℕ) → Option (List ℕ) → Status → Script → Type 0
-IsPlayedOn policy old number known before after status end =
-    (lines : List (List ℕ)) × (end_of_script : Option EndOfScript) × (text : List ℕ) × WereRead known lines end_of_script × PlaysOn (MayReply policy) policy old number lines end_of_script text status end × Appends before after text
+-- the same from a script's later line on
+abbrev pub IsPlayedOn : Script → ℕ → Option (List ℕ) → Option (List ℕ) → Option (List ℕ) → Status → Type 0
+IsPlayedOn old number known before after status =
+    (lines : List (List ℕ)) × (end_of_script : Option EndOfScript) × (text : List ℕ) × WereRead known lines end_of_script × PlaysOn old number lines end_of_script text status × Appends before after text

@@ -1,5 +1,5 @@
 -- What the lines of a script ask of a store, and the replies to them.
-use Rattle.std.specs.Prelude.{◌≡◌, ◌≢◌, ℕ, ◌⊎◌, Bool, false, List, Option, Some, None, Result, Ok, Err}
+use Rattle.std.specs.Prelude.{◌≡◌, ◌≢◌, ℕ, ◌⊎◌, List, Option, Some, None, Result, Ok, Err}
 use Rattle.refusals.specs.declared.refusal.Refusal.{Refusal}
 use Rattle.refusals.specs.declared.refusal.Refusal.TheVariants.{NoMemory, NoSuchHandle}
 use Rattle.script_syntax.specs.Lines.{line_of}
@@ -21,23 +21,22 @@ use Rattle.disk_model.specs.declared.progress.Progress.TheVariants as progress
 use Rattle.store_model.specs.declared.event.Reply.{Reply}
 use Rattle.store_model.specs.declared.event.Reply.TheVariants as answer
 use Rattle.script_runner.specs.Requests.{operation_of}
-use Rattle.script_runner.specs.Waits.{IsWaited}
+use Rattle.store_driver.specs.Waits.{IsWaited}
 use Rattle.script_runner.specs.declared.operation.Operation.{Operation}
 use Rattle.script_runner.specs.declared.operation.Operation.TheVariants.{Write, Read}
 
--- a script between two lines: the machine, the moment and the session of what follows, the transaction that each label
--- names, and whether the device failed in a step that no line asked for
+-- a script between two lines: the machine, the moment and the session of what follows, and the transaction that each
+-- label names
 pub record Script : Type 0 where
   pub machine : Machine
   pub moment : ℕ
   pub session : ℕ
   pub labels : List ℕ → Option Tx
-  pub failed : Bool
 
--- a script before its first line over a machine: the moment is 0, session 0 is the current one, no label names
--- anything, and nothing has failed
+-- a script before its first line over a machine: the moment is 0, session 0 is the current one, and no label names
+-- anything
 abbrev pub script_at : Machine → Script
-script_at machine = record { machine = machine; moment = 0; session = 0; labels = λ label. None; failed = false }
+script_at machine = record { machine = machine; moment = 0; session = 0; labels = λ label. None }
 
 -- a script that has made its store, of `hives` new hives: session 0 is open
 abbrev pub fresh_script : ℕ → Script

@@ -5,15 +5,11 @@ ghost use Rattle.store_model.specs.Steps.{Step};
 ghost use Rattle.script_syntax.specs.declared.line.Line.{Line as AnyLine};
 ghost use Rattle.script_syntax.specs.declared.reply.ReplyLine.{ReplyLine as AnyReplyLine};
 ghost use Rattle.script_runner.specs.Scripts.{Asks, Answers, AsksAndWaits, event_alone, event_inside, later_line, limited, line_asked, script_at};
-ghost use Rattle.script_runner.specs.Later.{IsLater};
+ghost use Rattle.store_driver.specs.Later.{IsLater};
 ghost use Rattle.script_runner.specs.Interpreters.{engine_of, script_of, reply_by};
-ghost use Rattle.script_runner.specs.Plays.{KeepsUpBetweenLines};
 
 mod single_steps;
 
-use crate::background_work::{FlushPolicy, frees_room, is_fault, work_between_lines};
-use crate::durable_wait::wait;
-use crate::engine_call::ask;
 use crate::history_limit::HistoryLimit;
 use crate::labels::Labels;
 use crate::operation::{Operation, operation_of};
@@ -23,6 +19,7 @@ use engine::Engine;
 use refusals::Refusal;
 use script_syntax::{Label, Line, ParseError, ReplyLine, Request, read_line};
 use std::alloc::{AllocError, Global};
+use store_driver::{ask, wait};
 use store_model::{Event, Reply, Tx};
 use uuid::Uuid;
 
@@ -32,8 +29,6 @@ pub struct Interpreter<D: Disk> {
     moment: u64,
     session: u32,
     labels: Labels,
-    // the device failed in a step that no line asked for
-    failed: bool,
 }
 
 impl<D: Disk + Drop> Drop for Interpreter<D> {
@@ -44,7 +39,6 @@ impl<D: Disk + Drop> Drop for Interpreter<D> {
             moment: _,
             session: _,
             labels: _,
-            failed: _,
         } = self;
     }
 }
@@ -60,7 +54,6 @@ impl<D: Disk> Interpreter<D> {
             moment: 0,
             session: 0,
             labels: Labels::new(alloc),
-            failed: false,
         }
     }
 
@@ -76,49 +69,11 @@ impl<D: Disk> Interpreter<D> {
         self.engine.limit_history(limit.changes());
     }
 
-    /// What the store does between two lines, by this policy. If the device failed in it, that is kept for the end.
-    pub fn work_between_lines(&mut self, policy: FlushPolicy)
-        ensures kept { KeepsUpBetweenLines policy (script_of self.old) (script_of self.new) }
-        ensures later { IsLater D.faithful D.failures (engine_of self.old) (engine_of self.new) }
-    {
-        let ended = work_between_lines(&mut self.engine, policy);
-        self.failed = self.failed || is_fault(ended);
-    }
-
-    /// Whether the store has steps to make between two lines by this policy.
-    pub fn works_at(&self, policy: FlushPolicy) -> bool {
-        match policy {
-            FlushPolicy::OnRequest => false,
-            FlushPolicy::WhenHalfFull => frees_room(&self.engine),
-        }
-    }
-
-    /// Whether the device failed in a step that no line asked for.
-    pub fn has_failed(&self) -> bool
-        ensures { result ≡ (script_of self.now).failed }
-    {
-        self.failed
-    }
-
     /// The store.
     pub fn engine(&self) -> &Engine<D>
         ensures { result.now ≡ engine_of self.now }
     {
         &self.engine
-    }
-
-    /// The store, without the script.
-    pub fn into_engine(self) -> Engine<D>
-        ensures { result ≡ engine_of self }
-    {
-        let Interpreter {
-            engine,
-            moment: _,
-            session: _,
-            labels: _,
-            failed: _,
-        } = self;
-        engine
     }
 
     /// Answers a further line of the script, or `None` if the bytes are no such line. Memory is refused only for

@@ -6,30 +6,20 @@
 //!
 //! The parts of a run are public, for other kinds of runs. [`begin_on`] makes the store that a script's first line asks
 //! for, on a disk in memory that fails as a plan says. [`read_history_limit`] parses its second line, if that is `history`.
-//! [`open_store`] opens the store that is on a disk, and
-//! [`open_engine`] does so without a session. An [`Interpreter`] answers one line after another. [`next_line`], [`end`]
-//! and [`wrong`] read a script's lines and report how they end.
+//! An [`Interpreter`] answers one line after another. [`next_line`], [`end`] and [`wrong`] read a script's lines and report
+//! how they end.
 #![tactic(auto)]
 
-mod background_work;
-mod durable_wait;
 mod end_of_script;
-mod engine_call;
 mod history_limit;
 mod interpreter;
 mod labels;
 mod operation;
 mod replies;
 mod runner;
-mod store_opening;
 mod store_setup;
 
-pub use background_work::{
-    BUSY_ROOM, FlushPolicy, frees_room, next_step, run_until_idle, waits_for_disk,
-};
-pub use durable_wait::wait;
 pub use end_of_script::EndOfScript;
-pub use engine_call::ask;
 pub use history_limit::{HistoryLimit, read_history_limit};
 pub use interpreter::Interpreter;
 pub use labels::Labels;
@@ -37,5 +27,4 @@ pub use operation::{Operation, operation_of};
 pub use replies::reply_of;
 pub use runner::{end, is_refusal, next_line, play, refuse_script, wrong};
 pub use script_syntax::Status;
-pub use store_opening::{open_engine, open_store};
 pub use store_setup::{begin_on, make_journal_room};

@@ -1,14 +1,11 @@
-//! Runs a script over a store of its own in memory, or over an existing store.
+//! Runs a script over a store of its own in memory.
 ghost use Rattle.std.specs.Prelude.{◌≡◌, ℕ, List, [], ◌++◌, ◌∷◌, Some, OnOk, IfOk, IfErr, codes};
-ghost use Rattle.std.specs.Io.KnownBytes.{Appends, Keeps};
+ghost use Rattle.std.specs.Io.KnownBytes.{Appends};
 ghost use Rattle.std.specs.Io.BufRead.{strip_last};
-ghost use Rattle.script_syntax.specs.Replies.{reply_line};
-ghost use Rattle.script_runner.specs.Plays.{Ends, KeepsUpBetweenLines, WereRead, IsPlayed, IsPlayedOverNew, is_refusal, wrong_text};
-ghost use Rattle.script_runner.specs.Later.{IsLater};
-ghost use Rattle.script_runner.specs.Interpreters.{engine_of, script_of};
-ghost use Rattle.script_runner.specs.OutcomeOfLine.{AnswerOfLine, IsPlayedTo, TakesLine, OutcomeOfLine};
+ghost use Rattle.script_runner.specs.Plays.{Ends, WereRead, IsPlayed, IsPlayedOn, IsPlayedOverNew, is_refusal, wrong_text};
+ghost use Rattle.script_runner.specs.Interpreters.{script_of};
+ghost use Rattle.script_runner.specs.OutcomeOfLine.{AnswerOfLine, TakesLine, OutcomeOfLine};
 
-use crate::background_work::FlushPolicy;
 use crate::end_of_script::EndOfScript;
 use crate::history_limit::read_history_limit;
 use crate::interpreter::Interpreter;
@@ -98,7 +95,6 @@ fn run_over_new<D: Disk, R: BufRead, W: Write>(
     ensures { IfOk result (λ status. IsPlayedOverNew (script_of interpreter.old)
         (R.remaining reader.old) (W.contents writer.old) (W.contents writer.new) status) }
 {
-    let policy = FlushPolicy::OnRequest;
     if let Err(end_of_script) = next_line(reader, line) {
         return end(writer, end_of_script);
     }
@@ -106,11 +102,11 @@ fn run_over_new<D: Disk, R: BufRead, W: Write>(
         Ok(Some(limit)) => {
             interpreter.limit_history(limit);
             ReplyLine::Done.write(writer)?;
-            go_on(alloc, interpreter, policy, 3, reader, line, writer)
+            go_on(alloc, interpreter, 3, reader, line, writer)
         }
-        Ok(None) => match answer_line(alloc, interpreter, policy, line, writer, 2)? {
+        Ok(None) => match answer_line(alloc, interpreter, line, writer, 2)? {
             LineOutcome::Replied { is_refusal } => {
-                let status = go_on(alloc, interpreter, policy, 3, reader, line, writer)?;
+                let status = go_on(alloc, interpreter, 3, reader, line, writer)?;
                 Ok(status.after(is_refusal))
             }
             LineOutcome::Over { status } => Ok(status),
@@ -119,121 +115,70 @@ fn run_over_new<D: Disk, R: BufRead, W: Write>(
     }
 }
 
-/// Runs a script from its first line on, over the interpreter's store, which works between the lines by this policy.
-pub(crate) fn play_lines<D: Disk, R: BufRead, W: Write>(
-    alloc: Global,
-    interpreter: &mut Interpreter<D>,
-    policy: FlushPolicy,
-    reader: &mut R,
-    writer: &mut W,
-) -> io::Result<Status>
-    ensures played { IfOk result (λ status. IsPlayedTo policy (script_of interpreter.old) 1
-        (R.remaining reader.old) (W.contents writer.old) (W.contents writer.new) status
-        (script_of interpreter.new)) }
-    ensures later { IsLater D.faithful D.failures (engine_of interpreter.old) (engine_of interpreter.new) }
-{
-    let mut line = Vec::new(alloc);
-    go_on(alloc, interpreter, policy, 1, reader, &mut line, writer)
-}
-
 // runs the script from the line of this number on
 fn go_on<D: Disk, R: BufRead, W: Write>(
     alloc: Global,
     interpreter: &mut Interpreter<D>,
-    policy: FlushPolicy,
     first: u64,
     reader: &mut R,
     line: &mut Vec<u8>,
     writer: &mut W,
 ) -> io::Result<Status>
-    ensures played { IfOk result (λ status. IsPlayedTo policy (script_of interpreter.old) first
-        (R.remaining reader.old) (W.contents writer.old) (W.contents writer.new) status
-        (script_of interpreter.new)) }
-    ensures later { IsLater D.faithful D.failures (engine_of interpreter.old) (engine_of interpreter.new) }
+    ensures { IfOk result (λ status. IsPlayedOn (script_of interpreter.old) first
+        (R.remaining reader.old) (W.contents writer.old) (W.contents writer.new) status) }
 {
     let mut has_refusal = false;
     for number in first..u64::MAX {
-        match take_line(alloc, interpreter, policy, reader, line, writer, number)? {
+        match take_line(alloc, interpreter, reader, line, writer, number)? {
             LineOutcome::Replied { is_refusal } => has_refusal |= is_refusal,
             LineOutcome::Over { status } => return Ok(status.after(has_refusal)),
         }
-        work_between_lines(interpreter, policy, writer)?;
     }
     // a script of so many lines isn't read further
     let status = end(writer, EndOfScript::Broken)?;
     Ok(status.after(has_refusal))
 }
 
-// what the store does between two lines by this policy; the replies so far are written out before, if it does anything
-fn work_between_lines<D: Disk, W: Write>(
-    interpreter: &mut Interpreter<D>,
-    policy: FlushPolicy,
-    writer: &mut W,
-) -> io::Result<()>
-    ensures kept { OnOk result (KeepsUpBetweenLines policy (script_of interpreter.old) (script_of interpreter.new)
-        × Keeps (W.contents writer.old) (W.contents writer.new)) }
-    ensures later { IsLater D.faithful D.failures (engine_of interpreter.old) (engine_of interpreter.new) }
-{
-    write_out(writer, interpreter.works_at(policy))?;
-    interpreter.work_between_lines(policy);
-    Ok(())
-}
-
-// writes out what was written, if the store is about to wait for the disk
-fn write_out<W: Write>(writer: &mut W, waits: bool) -> io::Result<()>
-    ensures { OnOk result (Keeps (W.contents writer.old) (W.contents writer.new)) }
-{
-    if waits {
-        writer.flush()?;
-    }
-    Ok(())
-}
-
 // reads the line of this number, answers it, and writes the reply
 fn take_line<D: Disk, R: BufRead, W: Write>(
     alloc: Global,
     interpreter: &mut Interpreter<D>,
-    policy: FlushPolicy,
     reader: &mut R,
     line: &mut Vec<u8>,
     writer: &mut W,
     number: u64,
 ) -> io::Result<LineOutcome>
-    ensures reported { IfOk result (λ reported. OutcomeOfLine policy (script_of interpreter.old) number
-        (R.remaining reader.old) (W.contents writer.old) reported (script_of interpreter.new)
+    ensures { IfOk result (λ outcome. OutcomeOfLine (script_of interpreter.old) number
+        (R.remaining reader.old) (W.contents writer.old) outcome (script_of interpreter.new)
         (R.remaining reader.new) (W.contents writer.new)) }
-    ensures later { IsLater D.faithful D.failures (engine_of interpreter.old) (engine_of interpreter.new) }
 {
     if let Err(end_of_script) = next_line(reader, line) {
         let status = end(writer, end_of_script)?;
         return Ok(LineOutcome::Over { status });
     }
-    answer_line(alloc, interpreter, policy, line, writer, number)
+    answer_line(alloc, interpreter, line, writer, number)
 }
 
 // answers the line of this number, which was read, and writes the reply
 fn answer_line<D: Disk, W: Write>(
     alloc: Global,
     interpreter: &mut Interpreter<D>,
-    policy: FlushPolicy,
     line: &[u8],
     writer: &mut W,
     number: u64,
 ) -> io::Result<LineOutcome>
-    ensures reported { IfOk result (λ reported. AnswerOfLine policy (script_of interpreter.old) number line.now
-        (W.contents writer.old) reported (script_of interpreter.new) (W.contents writer.new)) }
-    ensures later { IsLater D.faithful D.failures (engine_of interpreter.old) (engine_of interpreter.new) }
+    ensures { IfOk result (λ outcome. AnswerOfLine (script_of interpreter.old) number line.now
+        (W.contents writer.old) outcome (script_of interpreter.new) (W.contents writer.new)) }
 {
-    let waits = policy.waits_at(line);
-    write_out(writer, waits)?;
     match interpreter.reply_to(alloc, line) {
         Ok(Some(reported)) => {
-            if policy.is_in_memory() && is_device_reply(&reported) {
+            if is_device_reply(&reported) {
                 // a disk in memory fails only if it finds no memory
                 let status = end(writer, EndOfScript::OutOfMemory)?;
                 return Ok(LineOutcome::Over { status });
             }
-            let is_refusal = write_reply(writer, &reported, waits)?;
+            reported.write(writer)?;
+            let is_refusal = is_refusal(&reported);
             Ok(LineOutcome::Replied { is_refusal })
         }
         Ok(None) => {
@@ -245,18 +190,6 @@ fn answer_line<D: Disk, W: Write>(
             Ok(LineOutcome::Over { status })
         }
     }
-}
-
-// writes a reply, and writes it out if the line waited for the disk; answers whether it is a refusal
-fn write_reply<W: Write>(writer: &mut W, reported: &ReplyLine, waited: bool) -> io::Result<bool>
-    ensures { IfOk result (λ refused. (refused ≡ is_refusal reported.now)
-        × Appends (W.contents writer.old) (W.contents writer.new) (reply_line reported.now)) }
-{
-    reported.write(writer)?;
-    if waited {
-        writer.flush()?;
-    }
-    Ok(is_refusal(reported))
 }
 
 /// Whether a reply is a refusal.

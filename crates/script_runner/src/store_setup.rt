@@ -10,7 +10,6 @@ ghost use Rattle.recovery.specs.Recovered.{IsRecovered, seen_in};
 ghost use Rattle.recovery.specs.Shown.{StoreIsRepaired, store_of};
 ghost use Rattle.script_runner.specs.Scripts.{hives_asked};
 
-use crate::engine_call::ask;
 use disk_model::{Disk, MemDisk, Plan};
 use engine::Engine;
 use recovery::{Opened, create, open};
@@ -20,6 +19,7 @@ use reg_tree::Trees;
 use script_syntax::{Line, ParseError, read_line};
 use std::alloc::{AllocError, Global};
 use std::sync::Arc;
+use store_driver::ask;
 use store_model::{Event, Reply};
 use uuid::Uuid;
 

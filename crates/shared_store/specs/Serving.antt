@@ -6,7 +6,7 @@ use Rattle.disk_model.specs.FileState.{FileState}
 use Rattle.commit_journal.specs.Store.{Store}
 use Rattle.store_model.specs.Machine.{Machine}
 use Rattle.ktm_calls.specs.Moments.{IsOf}
-use Rattle.script_runner.specs.Running.{IsOpenedOn, LeavesPrefix, MayNotOpen}
+use Rattle.store_driver.specs.Openings.{IsOpenedOn, LeavesPrefix, MayNotOpen}
 
 -- A store was opened on these files at a number, and a machine of its registry has reached a state, in which changes up
 -- to another number are durable. If the disk that is left is faithful, whatever a crash leaves of it recovers a prefix of that

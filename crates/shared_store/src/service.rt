@@ -11,16 +11,11 @@ use flusher::{Worker, run_beside_from, run_workers};
 use ktm_calls::{Ended, Registry, Stopped, StoreEngine, Told};
 use published_trees::{ChangeCount, Origin, SeenChanges};
 use refusals::Refusal;
-use refusals::limits::MOST_JOURNAL_BYTES;
-use script_runner::open_engine;
 use std::alloc::Global;
 use std::marker::Brand;
 use std::sync::Wait;
 use std::thread::Threads;
-
-/// At how many used bytes of the journal's room the flusher begins: commits don't need it, and its steps keep them
-/// waiting.
-const BUSY_ROOM: u64 = MOST_JOURNAL_BYTES / 2;
+use store_driver::{BUSY_ROOM, open_engine};
 
 /// What came of a client's use of a store.
 #[derive(Clone, Copy, Debug, PartialEq, Eq)]

@@ -3,19 +3,14 @@ use Rattle.std.specs.Prelude.{◌≡◌, ◌⊎◌, ℕ, List}
 use Rattle.refusals.specs.declared.refusal.Refusal.{Refusal}
 use Rattle.refusals.specs.declared.refusal.Refusal.TheVariants.{TooLarge, Unsupported}
 use Rattle.reg_tree.specs.Maps.{TreeMap}
-use Rattle.disk_model.specs.Crash.{LeavesHonest}
 use Rattle.disk_model.specs.FileState.{FileState}
 use Rattle.disk_model.specs.ReadOnly.{IsSyncedOrSame}
-use Rattle.commit_journal.specs.Store.{Store, all_hives}
+use Rattle.commit_journal.specs.Store.{Store}
 use Rattle.commit_journal.specs.declared.store_layout.Layout.TheVariants.{HivesAlone, WithOutcomes}
-use Rattle.engine_invariant.specs.Prefixes.{IsPrimaryOf}
 use Rattle.recovery.specs.Created.{SomeIsHeavy}
 use Rattle.recovery.specs.Recovered.{IsNoStore, IsRecovered, seen_in}
+use Rattle.store_driver.specs.Openings.{CrashesRecover}
 use Rattle.store_create.specs.Creations.{IsNewStore}
-
--- whatever a crash leaves of the files, with honest first sectors, recovers a number and trees of a store
-abbrev pub CrashesRecover : Store → ℕ → List TreeMap → (ℕ → FileState) → Type 0
-CrashesRecover store number trees state = (files : ℕ → List ℕ) → LeavesHonest (IsPrimaryOf (all_hives store)) state files → IsRecovered files store number trees
 
 -- What a call leaves of a store's files: each is as it was or synced. Or else whatever a crash leaves of them recovers
 -- the number and the trees that what was read of them recovers.

@@ -1,17 +1,15 @@
 //! Making a store with outcomes of a store without them.
-ghost use Rattle.std.specs.Prelude.{◌≡◌, ◌+◌, ◌<◌, ◌≤◌, ℕ, List, IfErr, IfOk, MatchResult, OnOk, Result, false};
+ghost use Rattle.std.specs.Prelude.{◌≡◌, ◌+◌, ◌<◌, ℕ, List, IfErr, IfOk, MatchResult, OnOk, Result};
 ghost use Rattle.refusals.specs.declared.limits.TheConstants.{MOST_HIVES};
 ghost use Rattle.refusals.specs.declared.refusal.Refusal.{Refusal};
-ghost use Rattle.refusals.specs.declared.refusal.Refusal.TheVariants.{DiskFault};
 ghost use Rattle.reg_tree.specs.Maps.{TreeMap};
 ghost use Rattle.commit_journal.specs.declared.store_layout.Layout.TheVariants.{HivesAlone};
 ghost use Rattle.hive_files.specs.Frames.{RefusalHasCause, TouchesOwnFiles};
 ghost use Rattle.recovery.specs.Created.{IsOfStore};
 ghost use Rattle.recovery.specs.Recovered.{IsRecovered, seen_in};
-ghost use Rattle.recovery.specs.Repairs.{repairs_left};
 ghost use Rattle.recovery.specs.Shown.{StoreIsRepaired, store_of};
 ghost use Rattle.store_create.specs.Creations.{IsNotMade, OutcomeIsWritten};
-ghost use Rattle.store_create.specs.Upgrades.{AreNotUpgraded, CrashesRecover, IsUpgraded, KeepsStore};
+ghost use Rattle.store_create.specs.Upgrades.{AreNotUpgraded, IsUpgraded, KeepsStore};
 
 use crate::creation::write_outcome;
 use commit_journal::Layout;
@@ -22,6 +20,7 @@ use script_syntax::Status;
 use std::alloc::Global;
 use std::io;
 use std::io::Write;
+use store_driver::repaired;
 
 /// Makes a store with outcomes on a target disk, of the store without them that is on a source disk: with its id and
 /// its trees, at number 0. Writes whether it is made: `ok`, or the refusal's line. Answers the source disk and the
@@ -112,46 +111,4 @@ fn open_alone<D: Disk>(alloc: Global, disk: D) -> Result<Opened<D>, (Refusal, D)
         Layout::HivesAlone => repaired(opened),
         Layout::WithOutcomes => Err((Refusal::Unsupported, opened.into_disk())),
     }
-}
-
-// the same store, of which no repair is left
-fn repaired<D: Disk>(opened: Opened<D>) -> Result<Opened<D>, (Refusal, D)>
-    requires works { opened.failed ≡ false }
-    ensures whole { IfOk result StoreIsRepaired }
-    ensures same { IfOk result (λ whole. (whole.found.number ≡ opened.found.number)
-        × (whole.found.trees ≡ opened.found.trees) × (store_of whole ≡ store_of opened)) }
-    ensures faithful { IfOk result (λ whole. D.faithful whole.disk → D.faithful opened.disk) }
-    ensures err { IfErr result (λ back. (back.0 ≡ DiskFault)
-        × (D.failures opened.disk < D.failures back.1)) }
-    ensures back { IfErr result (λ back. D.faithful back.1 → D.faithful opened.disk) }
-    ensures kept { IfErr result (λ back. D.faithful back.1 → CrashesRecover (store_of opened)
-        opened.found.number opened.found.trees (D.state_at back.1 (D.clock back.1))) }
-{
-    let mut opened = opened;
-    while !opened.is_whole() {
-        if let Err(why) = repair(&mut opened) {
-            opened.keeps_what_was_found(); // for the prover
-            return Err((why, opened.into_disk()));
-        }
-    }
-    Ok(opened)
-}
-
-// one step of the repair
-fn repair<D: Disk>(opened: &mut Opened<D>) -> Result<(), Refusal>
-    requires works { opened.old.failed ≡ false }
-    requires left { ¬ (StoreIsRepaired opened.old) }
-    ensures works { OnOk result (opened.new.failed ≡ false) }
-    ensures fewer { OnOk result (repairs_left opened.new.found.hives.items
-        < repairs_left opened.old.found.hives.items) }
-    ensures same { (opened.new.found.number ≡ opened.old.found.number)
-        × (opened.new.found.trees ≡ opened.old.found.trees)
-        × (store_of opened.new ≡ store_of opened.old) }
-    ensures faithful { D.faithful opened.new.disk → D.faithful opened.old.disk }
-    ensures failures { D.failures opened.old.disk ≤ D.failures opened.new.disk }
-    ensures err { IfErr result (λ why. (why ≡ DiskFault)
-        × (D.failures opened.old.disk < D.failures opened.new.disk)) }
-{
-    opened.repair_step()?;
-    Ok(())
 }

@@ -57,7 +57,7 @@ fn a_registration_file_is_printed(rt: HostRuntime) -> Result<(), Fail> {
         },
     ]?;
     let mut printed = Vec::new(alloc);
-    assert!(&rt; write_reg(&mut printed, &hives).is_ok());
+    assert!(&rt; write_reg(&mut printed, Encoding::Utf8, &hives).is_ok());
     assert_eq!(&rt; printed.as_slice(), joined(alloc, &REG)?.as_slice());
     Ok(())
 }

@@ -1,7 +1,7 @@
 //! A script whose caller makes the steps of its store: what a commit and a flush ask, without the wait for it.
 ghost use Rattle.std.specs.Prelude.{◌≡◌};
 ghost use Rattle.store_model.specs.Steps.{Step};
-ghost use Rattle.script_runner.specs.Later.{IsLater};
+ghost use Rattle.store_driver.specs.Later.{IsLater};
 ghost use Rattle.script_runner.specs.Parting.{AsksFor, AsksForCommit};
 ghost use Rattle.script_runner.specs.Interpreters.{engine_of, script_of};
 ghost use Rattle.script_runner.specs.Scripts.{Asks, IsLabelled, script_at};
@@ -94,6 +94,5 @@ impl<D: Disk + Drop> Interpreter<D> {
         self.engine = engine;
         self.session = 0;
         self.labels = Labels::new(alloc);
-        self.failed = false;
     }
 }

@@ -4,7 +4,7 @@ use denote.Param.Send.{param_send, arg_send}
 use Rattle.std.proofs.Common.{ℕ, inl, inr, subst, sym, ap, ◌∙◌}
 use Rattle.engine_send.proofs.EngineCrossing.{engine_send}
 use Rattle.script_runner.proofs.Runs.{if_ok}
-use Rattle.script_runner.specs.Running.{LeavesPrefix}
+use Rattle.store_driver.specs.Openings.{LeavesPrefix}
 use Rattle.registry_runner.specs.Running.{IsOfStore, RunsFrom}
 use Rattle.registry_runner.specs.declared.parts.PartKind.TheVariants.{Opened}
 use Rattle.registry_runner.specs.declared.parts.PartStart.{PartStart}

@@ -1,12 +1,11 @@
-use Rattle.std.proofs.Common.{refl, sym, subst}
-use Rattle.script_runner.proofs.Runs.{ends_here, if_ok, taken_so, to_end}
+use Rattle.std.proofs.Common.{sym, subst}
+use Rattle.script_runner.proofs.Runs.{ends_here, if_ok, taken_so}
 use Rattle.script_runner.specs.Interpreters.{script_of}
 use Rattle.script_runner.specs.OutcomeOfLine.{AnswerOfLine, OutcomeOfLine, TakesLine}
-use Rattle.script_runner.proofs.Later.{later_same}
 use Rattle.script_runner.proofs.runner.take_line.Goals as goal
 
-pub returns-clause-reported : goal.returns-clause-reported
-returns-clause-reported g c =
+pub returns : goal.returns
+returns g c =
     let contents = g.W.Write.contents in
     let old = script_of c.args.interpreter.now in
     let new = script_of c.answer_line.new.interpreter in
@@ -16,22 +15,15 @@ returns-clause-reported g c =
     let after = contents c.answer_line.new.writer in
     let line = c.deref.result.now in
     let taken = subst (TakesLine known rest) (sym c.deref.ensures.value) c.in_default.ensures.line in
-    if_ok (λ outcome. AnswerOfLine c.args.policy old c.args.number line before outcome new after) (λ outcome. OutcomeOfLine c.args.policy old c.args.number known before outcome new rest after) c.answer_line.result
-    (λ outcome told. taken_so c.args.policy old new c.args.number known rest before after line outcome taken told)
-    c.answer_line.ensures.reported
+    if_ok (λ outcome. AnswerOfLine old c.args.number line before outcome new after) (λ outcome. OutcomeOfLine old c.args.number known before outcome new rest after) c.answer_line.result
+    (λ outcome told. taken_so old new c.args.number known rest before after line outcome taken told)
+    c.answer_line.ensures
 
 -- there is no further line
-pub returns-in-Err-clause-reported : goal.returns-in-Err-clause-reported
-returns-in-Err-clause-reported g c =
+pub returns-in-Err : goal.returns-in-Err
+returns-in-Err g c =
     let said = c.in_ok-status.ensures in
     let old = script_of c.args.interpreter.now in
     let before = g.W.Write.contents c.args.writer.now in
     let after = g.W.Write.contents c.end.new.writer in
-    to_end c.args.policy old old c.args.number (g.R.Read.remaining c.args.reader.now) before after c.in_ok-status.status
-    (ends_here c.args.policy old old c.args.number (g.R.Read.remaining c.args.reader.now) before after c.in-Err.end_of_script said.0 c.in_ok-status.status c.in-Err.ensures.none said.1 said.2 refl)
-
-pub returns-in_err-status-clause-later : goal.returns-in_err-status-clause-later
-returns-in_err-status-clause-later g c = let D = g.D.Disk in later_same D.faithful D.failures c.args.interpreter.now.engine
-
-pub returns-in-Err-clause-later : goal.returns-in-Err-clause-later
-returns-in-Err-clause-later g c = let D = g.D.Disk in later_same D.faithful D.failures c.args.interpreter.now.engine
+    ends_here old c.args.number (g.R.Read.remaining c.args.reader.now) before after c.in-Err.end_of_script said.0 c.in_ok-status.status c.in-Err.ensures.none said.1 said.2

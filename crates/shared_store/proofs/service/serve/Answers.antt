@@ -4,7 +4,7 @@ use denote.Exit.{no}
 use denote.Param.{param}
 use denote.Param.Send.{param_send, arg_send}
 use Rattle.engine_send.proofs.EngineCrossing.{engine_send}
-use Rattle.script_runner.specs.Running.{IsOpenedOn, LeavesPrefix}
+use Rattle.store_driver.specs.Openings.{IsOpenedOn, LeavesPrefix}
 use Rattle.recovery.specs.Recovered.{seen_in}
 use Rattle.shared_store.proofs.service.serve.Goals as goal
 

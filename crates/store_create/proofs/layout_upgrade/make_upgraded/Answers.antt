@@ -9,7 +9,8 @@ use Rattle.recovery.specs.Recovered.{IsRecovered, seen_in}
 use Rattle.recovery.specs.Shown.{store_of}
 use Rattle.recovery.specs.declared.found.RecoveredStore.{RecoveredStore}
 use Rattle.store_create.specs.Creations.{IsNewStore}
-use Rattle.store_create.specs.Upgrades.{AreNotUpgraded, CrashesRecover}
+use Rattle.store_driver.specs.Openings.{CrashesRecover}
+use Rattle.store_create.specs.Upgrades.{AreNotUpgraded}
 use Rattle.store_create.proofs.Creations.{new_where_made, not_made_as}
 use Rattle.store_create.proofs.Upgrades.{refused_of_files, touches_more}
 use Rattle.store_create.proofs.layout_upgrade.make_upgraded.Goals as goal

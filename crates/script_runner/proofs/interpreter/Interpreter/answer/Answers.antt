@@ -2,8 +2,8 @@ use Rattle.std.proofs.Common.{Ok, refl, ap, sym, subst}
 use Rattle.script_syntax.specs.declared.line.Line.TheVariants.{At, Session, End, Plain, Inside, Begin, Commit, Rollback, Close, Outcome, Kept, Flush, Fold}
 use Rattle.script_syntax.specs.declared.reply.ReplyLine.TheVariants.{Done}
 use Rattle.script_runner.proofs.Answered.{carried}
-use Rattle.script_runner.proofs.Later.{later_same}
-use Rattle.script_runner.specs.Later.{IsLater}
+use Rattle.store_driver.proofs.Later.{later_same}
+use Rattle.store_driver.specs.Later.{IsLater}
 use Rattle.script_runner.specs.declared.interpreter.Interpreter.{Interpreter}
 use Rattle.script_runner.specs.Interpreters.{script_of}
 use Rattle.script_runner.proofs.interpreter.Interpreter.answer.Goals.{in-At, in-Session, in-End, in-Plain, in-Inside, in-Begin, in-Commit, in-Rollback, in-Close, in-Outcome, in-Kept, in-Flush, in-Fold}

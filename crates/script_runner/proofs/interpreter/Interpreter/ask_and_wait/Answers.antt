@@ -1,4 +1,4 @@
-use Rattle.script_runner.proofs.Later.{later_on}
+use Rattle.store_driver.proofs.Later.{later_on}
 use Rattle.script_runner.proofs.interpreter.Interpreter.ask_and_wait.Goals as goal
 
 pub returns-in-Ok-clause-later : goal.returns-in-Ok-clause-later

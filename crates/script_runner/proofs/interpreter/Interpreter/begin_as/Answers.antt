@@ -1,4 +1,4 @@
-use Rattle.script_runner.proofs.Later.{later_same}
+use Rattle.store_driver.proofs.Later.{later_same}
 use Rattle.script_runner.proofs.interpreter.Interpreter.begin_as.Goals as goal
 
 pub returns-in_err-make_room-clause-later : goal.returns-in_err-make_room-clause-later

@@ -1,4 +1,4 @@
-use Rattle.script_runner.proofs.Later.{later_same}
+use Rattle.store_driver.proofs.Later.{later_same}
 use Rattle.script_runner.proofs.interpreter.Interpreter.outcome.Goals as goal
 
 pub returns-in_err-tx-clause-later : goal.returns-in_err-tx-clause-later

@@ -1,4 +1,4 @@
-use Rattle.script_runner.proofs.Later.{later_same}
+use Rattle.store_driver.proofs.Later.{later_same}
 use Rattle.script_runner.proofs.interpreter.Interpreter.reply_to.Goals as goal
 
 pub returns-in-Err-NotUnderstood-clause-later : goal.returns-in-Err-NotUnderstood-clause-later

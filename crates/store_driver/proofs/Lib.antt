@@ -1,0 +1,4 @@
+pub mod Later
+mod OpeningLives
+mod StepRuns
+mod WaitRuns

@@ -1,0 +1,4 @@
+pub mod Later
+pub mod Openings
+pub mod Waits
+pub mod Work
