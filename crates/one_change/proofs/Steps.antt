@@ -8,7 +8,7 @@ use Rattle.store_model.specs.declared.event.Event.{Event}
 use Rattle.store_model.specs.declared.event.Event.TheVariants.{JournalStep, FlusherStep, TrimStep}
 use Rattle.store_model.specs.declared.event.Reply.{Reply}
 use Rattle.store_model.specs.declared.event.Reply.TheVariants as reply
-use Rattle.script_runner.specs.Work.{IsStep, MakesSteps}
+use Rattle.store_driver.specs.Work.{IsStep, MakesSteps}
 use Rattle.one_change.specs.Commits.{KeepsAccepted}
 use Rattle.one_change.proofs.Transacting.{keeps_on, keeps_same}
 

@@ -7,7 +7,7 @@ use Rattle.store_model.specs.Machine.{Machine}
 use Rattle.store_model.specs.Steps.{Step, Run}
 use Rattle.store_model.specs.declared.event.Event.TheVariants.{Acked, JournalStep}
 use Rattle.store_model.specs.declared.event.Reply.TheVariants.{NotYet, Stepped, Refused}
-use Rattle.script_runner.specs.Waits.{IsWaited, Waits}
+use Rattle.store_driver.specs.Waits.{IsWaited, Waits}
 use Rattle.one_change.specs.Commits.{AcceptsOps, FailsToCommit, KeepsAccepted, number_of}
 use Rattle.one_change.proofs.Transacting.{keeps_same, keeps_on}
 

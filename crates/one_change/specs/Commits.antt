@@ -10,7 +10,7 @@ use Rattle.store_model.specs.Steps.{Step}
 use Rattle.store_model.specs.declared.handle.Tx.{Tx}
 use Rattle.store_model.specs.declared.event.Event.TheVariants.{Begin, TxWrite, CommitAccept}
 use Rattle.store_model.specs.declared.event.Reply.TheVariants.{Refused}
-use Rattle.script_runner.specs.Waits.{IsWaited}
+use Rattle.store_driver.specs.Waits.{IsWaited}
 
 -- the change of these operations that is made for a unit of work: the operations in their order, and then what keeps the
 -- commit in the tree of outcomes, if the store has one

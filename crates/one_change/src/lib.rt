@@ -4,7 +4,9 @@
 //! have the engine make all steps that are left. A power cut at any moment leaves all of the operations or none.
 #![tactic(auto)]
 
+mod aside;
 mod transaction;
 mod whole;
 
+pub use aside::bytes_aside;
 pub use whole::commit;

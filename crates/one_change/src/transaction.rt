@@ -5,14 +5,14 @@ ghost use Rattle.reg_tree.specs.declared.op.Legality.TheVariants.{Legal};
 ghost use Rattle.reg_tree.specs.declared.op.Op.{Op as AnyOp};
 ghost use Rattle.store_model.specs.Machine.{Machine, is_open, last_number, trees_now};
 ghost use Rattle.store_model.specs.Steps.{Step};
-ghost use Rattle.script_runner.specs.Later.{IsLater};
+ghost use Rattle.store_driver.specs.Later.{IsLater};
 ghost use Rattle.one_change.specs.Commits.{AcceptsOps, InTransaction, KeepsAccepted, number_of};
 
 use disk_model::Disk;
 use engine::Engine;
 use refusals::Refusal;
 use reg_tree::Op;
-use script_runner::ask;
+use store_driver::ask;
 use store_model::{Event, Reply, Tx};
 use uuid::Uuid;
 

@@ -2,7 +2,7 @@
 ghost use Rattle.std.specs.Prelude.{◌≡◌, true, IfOk, IfErr};
 ghost use Rattle.store_model.specs.Invariant.{AreLegalChanges};
 ghost use Rattle.store_model.specs.Machine.{is_open, named_trees};
-ghost use Rattle.script_runner.specs.Later.{IsLater};
+ghost use Rattle.store_driver.specs.Later.{IsLater};
 ghost use Rattle.one_change.specs.Commits.{Commits, FailsToCommit};
 
 use crate::transaction::{accept, add, begin};
@@ -10,7 +10,7 @@ use disk_model::Disk;
 use engine::Engine;
 use refusals::Refusal;
 use reg_tree::Op;
-use script_runner::wait;
+use store_driver::wait;
 use uuid::Uuid;
 
 /// Commits operations as one change at a moment, in a transaction of this unit of work in session 0, and waits until it

@@ -3,7 +3,7 @@ use Rattle.std.specs.Vec.Iter.{into_iter_items, into_iter_len}
 use Rattle.reg_tree.specs.declared.op.Op.{Op}
 use Rattle.store_model.specs.Machine.{trees_now}
 use Rattle.store_model.specs.Invariant.{AreLegalChanges}
-use Rattle.script_runner.proofs.Later.{later_on}
+use Rattle.store_driver.proofs.Later.{later_on}
 use Rattle.one_change.specs.Commits.{FailsToCommit, InTransaction, StopsInTransaction}
 use Rattle.std.proofs.lemmas.List.{append-nil}
 use Rattle.one_change.proofs.NamedTrees.{named_legal}

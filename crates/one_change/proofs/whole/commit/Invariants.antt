@@ -1,6 +1,6 @@
 use Rattle.std.proofs.Common.{◌≡◌, ◌++◌, length}
 use Rattle.std.specs.Vec.Iter.{into_iter_items, into_iter_len}
-use Rattle.script_runner.specs.Later.{IsLater}
+use Rattle.store_driver.specs.Later.{IsLater}
 use Rattle.one_change.specs.Commits.{InTransaction}
 use Rattle.one_change.proofs.whole.commit.Given as goal
 
