@@ -5,7 +5,7 @@ use Rattle.reg_tree.specs.Judgement.{applied}
 use Rattle.reg_tree.specs.declared.op.Op.{Op}
 use Rattle.store_model.specs.Invariant.{AreLegalChanges}
 use Rattle.change_plan.specs.declared.edit.Edit.{Edit}
-use Rattle.change_plan.specs.declared.edit.Edit.TheVariants.{Operation, RemoveValue, RemoveKey}
+use Rattle.change_plan.specs.declared.edit.Edit.TheVariants.{Operation, WriteValue, RemoveValue, RemoveKey}
 use Rattle.change_plan.specs.Edits.{EditAsks, OperationAsks}
 use Rattle.change_plan.specs.Plans.{Planned, TakesEdit}
 use Rattle.change_plan.proofs.Sequences.{applied_on, legal_on}
@@ -21,12 +21,14 @@ operation_legal trees moment op ops (inr none) = subst (λ (os : List Op). AreLe
 
 edit_legal : (trees : List TreeMap) (moment : ℕ) (its : Edit) (ops : List Op) → EditAsks trees moment its ops → AreLegalChanges trees ops moment
 edit_legal trees moment (Operation op) ops asks = operation_legal trees moment op ops asks
+edit_legal trees moment (WriteValue hive path name kind bytes) ops (inl there) = subst (λ (os : List Op). AreLegalChanges trees os moment) (sym there.1) tt
+edit_legal trees moment (WriteValue hive path name kind bytes) ops (inr other) = operation_legal trees moment _ ops other.1
 edit_legal trees moment (RemoveValue hive path name) ops (inl none) = subst (λ (os : List Op). AreLegalChanges trees os moment) (sym none.1) tt
 edit_legal trees moment (RemoveValue hive path name) ops (inr there) = operation_legal trees moment _ ops there.1
 edit_legal trees moment (RemoveKey hive path) ops removes = removes.legal
 
-pub fresh_plan : (trees : List TreeMap) (moment : ℕ) → IsLegalPlan trees (record { view = trees; ops = []; moment = moment })
-fresh_plan trees moment = record { legal = tt; view = refl }
+pub fresh_plan : (trees : List TreeMap) (moment aside : ℕ) → IsLegalPlan trees (record { view = trees; ops = []; moment = moment; aside = aside })
+fresh_plan trees moment aside = record { legal = tt; view = refl }
 
 -- one edit more is taken
 pub edit_on : (trees : List TreeMap) (old : Planned) (its : Edit) (new : Planned) → IsLegalPlan trees old → TakesEdit old its new → IsLegalPlan trees new

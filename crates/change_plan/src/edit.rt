@@ -1,7 +1,7 @@
 //! What is asked of the trees.
 
 use reg_names::{Path, ValueName};
-use reg_tree::Op;
+use reg_tree::{Data, Op};
 
 /// One edit of a hive.
 #[derive(Drop)]
@@ -10,6 +10,20 @@ pub enum Edit {
     Operation {
         /// The operation.
         op: Op,
+    },
+    /// A value is written, if it isn't there with this type and this data. One that is there keeps the spelling of its
+    /// name.
+    WriteValue {
+        /// The hive's number.
+        hive: u8,
+        /// The key's path.
+        path: Path,
+        /// The value's name.
+        name: ValueName,
+        /// The value's type number.
+        kind: u32,
+        /// The value's data.
+        data: Data,
     },
     /// A value is deleted, if it is there.
     RemoveValue {

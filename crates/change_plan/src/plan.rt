@@ -2,11 +2,13 @@
 ghost use Rattle.std.specs.Prelude.{◌≡◌, ◌⊎◌, ◌≤◌, ◌<◌, [], ◌++◌, ◌+◌, min, IfOk, IfErr, OnOk, length};
 ghost use Rattle.refusals.specs.declared.refusal.Refusal.TheVariants.{NoMemory, TooLarge};
 ghost use Rattle.refusals.specs.declared.limits.TheConstants.{MOST_ELEMENT_BYTES};
+ghost use Rattle.reg_tree.specs.declared.element.TheConstants.{CHANGE_BYTES};
 ghost use Rattle.reg_tree.specs.Encodings.{ops_encoded_len};
 ghost use Rattle.reg_tree.specs.Judgement.{applied};
 ghost use Rattle.change_plan.specs.Edits.{EditAsks, EditRefused};
 ghost use Rattle.change_plan.specs.Plans.{TakesEdit, NotTaken, ops_len};
 
+use crate::datum::has_datum;
 use crate::edit::Edit;
 use crate::extension::Extension;
 use crate::removal::removal;
@@ -17,18 +19,20 @@ use std::alloc::Global;
 use std::marker::Model;
 
 /// The operations of one change at a moment, and the trees after them. Their encoding is as long as a change may be, at
-/// most.
+/// most, with the bytes that are set aside for what the change's commit adds.
 #[derive(Drop)]
 pub struct Plan {
     view: Trees,
     ops: Vec<Op>,
     moment: u64,
-    // how long the encoding of the operations is
+    // how many bytes are set aside
+    aside: u64,
+    // how long the encoding of the operations is, with these
     bytes: u64,
 }
 
 impl Model for Plan {
-    ghost use Rattle.std.specs.Prelude.{◌≡◌, ◌≤◌};
+    ghost use Rattle.std.specs.Prelude.{◌≡◌, ◌≤◌, ◌+◌};
     ghost use Rattle.refusals.specs.declared.limits.TheConstants.{MOST_ELEMENT_BYTES};
     ghost use Rattle.change_plan.specs.Plans.{Planned, planned_code, ops_len};
 
@@ -40,31 +44,35 @@ impl Model for Plan {
       view = inside.view;
       ops = inside.ops.items;
       moment = inside.moment;
+      aside = inside.aside;
     } };
 
-    ghost invariant = { λ inside. (inside.bytes ≡ ops_len inside.ops.items)
+    ghost invariant = { λ inside. (inside.bytes ≡ ops_len inside.ops.items + inside.aside)
         × (inside.bytes ≤ MOST_ELEMENT_BYTES) };
 }
 
 impl Plan {
-    /// A plan on these trees, without operations. All of its operations are carried out at this moment.
-    pub fn new(alloc: Global, trees: Trees, moment: u64) -> Plan
-        ensures { result ≡ record { view = trees; ops = []; moment = moment } }
+    /// A plan on these trees, without operations. All of its operations are carried out at this moment. So many bytes of
+    /// its change are set aside for what the commit adds.
+    pub fn new(alloc: Global, trees: Trees, moment: u64, aside: u64) -> Plan
+        requires { CHANGE_BYTES + aside ≤ MOST_ELEMENT_BYTES }
+        ensures { result ≡ record { view = trees; ops = []; moment = moment; aside = aside } }
     {
         Plan {
             view: trees,
             ops: Vec::new(alloc),
             moment,
-            bytes: CHANGE_BYTES,
+            aside,
+            bytes: CHANGE_BYTES + aside,
         }
     }
 
     /// Takes one edit more, on the trees after those before it.
     ///
-    /// Refused as the edit's operations are, with `TooLarge` also if the change would be longer than 4,194,304 bytes,
-    /// and with `NoMemory`. A key that is to be removed with all below it is refused with `Fixed` if it is the root or
-    /// one of these keys may not be deleted, and with `BadName` if one of them has a name that no call may name. The
-    /// plan is as before then.
+    /// Refused as the edit's operations are, with `TooLarge` also if the change would be longer than 4,194,304 bytes
+    /// with those that are set aside, and with `NoMemory`. A key that is to be removed with all below it is refused with
+    /// `Fixed` if it is the root or one of these keys may not be deleted, and with `BadName` if one of them has a name
+    /// that no call may name. The plan is as before then.
     pub fn take(&mut self, alloc: Global, edit: Edit) -> Result<(), Refusal>
         ensures taken { OnOk result (TakesEdit self.old edit self.new) }
         ensures refused { IfErr result (NotTaken self.old edit) }
@@ -87,9 +95,10 @@ impl Plan {
           view = extension.view;
           ops = self.old.ops ++ extension.ops.items;
           moment = self.old.moment;
-        }) × (ops_len self.new.ops ≤ MOST_ELEMENT_BYTES)) }
+          aside = self.old.aside;
+        }) × (ops_len self.new.ops + self.new.aside ≤ MOST_ELEMENT_BYTES)) }
         ensures refused { IfErr result (λ why. (why ≡ NoMemory) ⊎ ((why ≡ TooLarge)
-            × (MOST_ELEMENT_BYTES < ops_len (self.old.ops ++ extension.ops.items)))) }
+            × (MOST_ELEMENT_BYTES < ops_len (self.old.ops ++ extension.ops.items) + self.old.aside))) }
         ensures kept { IfErr result (λ why. self.new ≡ self.old) }
     {
         let Extension { view, mut ops } = extension;
@@ -123,6 +132,25 @@ fn extension_by(alloc: Global, view: &Trees, edit: Edit, moment: u64) -> Result<
 {
     match edit {
         Edit::Operation { op } => Extension::one(alloc, view, op, moment),
+        Edit::WriteValue {
+            hive,
+            path,
+            name,
+            kind,
+            data,
+        } => {
+            if has_datum(view, hive, &path, &name, kind, &data) {
+                return Ok(Extension::none(alloc, view)?);
+            }
+            let op = Op::SetValue {
+                hive,
+                path,
+                name,
+                kind,
+                data,
+            };
+            Extension::one(alloc, view, op, moment)
+        }
         Edit::RemoveValue { hive, path, name } => match view.get_value(hive, &path, name.name()) {
             Ok(_) => Extension::one(alloc, view, Op::DeleteValue { hive, path, name }, moment),
             Err(_) => Ok(Extension::none(alloc, view)?),
