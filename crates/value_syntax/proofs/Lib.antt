@@ -1,10 +1,8 @@
 pub mod Digits
-pub mod FirstUnits
 pub mod Pairs
 pub mod Separators
 pub mod LineWords
 pub mod NumberText
 pub mod HexText
-pub mod UnitsBack
 pub mod TextWords
 pub mod WrittenDatum

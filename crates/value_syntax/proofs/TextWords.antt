@@ -18,7 +18,7 @@ use Rattle.reg_export.specs.ByteUnits.{units_of, are_whole, ends_in_zero, front_
 use Rattle.value_syntax.specs.Data.{char_bytes, text_data, texts_data, with_zeros}
 use Rattle.value_syntax.specs.Printed.{is_shown, is_shown_in, begins_with_char, has_separator, text_chars, char_text, shown_text, is_terminated, is_text, are_texts, is_list}
 use Rattle.value_syntax.proofs.Separators.{plain_first, plain_second}
-use Rattle.value_syntax.proofs.UnitsBack.{AreUnits, units_back}
+use Rattle.reg_export.proofs.UnitsBack.{AreUnits, units_back}
 
 -- ---- bytes and units
 

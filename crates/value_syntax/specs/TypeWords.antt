@@ -46,3 +46,12 @@ type_of word =
     else if bytes_eq word (codes "multi") then Some Texts
     else if bytes_eq word (codes "hex") then Some (Bytes 3)
     else option_map (λ kind. Bytes kind) (option_and_then kind_of (bracketed word))
+
+-- the number of the type that a word for a type names
+abbrev pub type_number : TypeWord → ℕ
+type_number Text = 1
+type_number ExpandText = 2
+type_number Number = 4
+type_number WideNumber = 11
+type_number Texts = 7
+type_number (Bytes kind) = kind

@@ -3,7 +3,7 @@ ghost use Rattle.std.specs.Prelude.{◌≡◌, IfOk};
 ghost use Rattle.std.specs.Int.{w32, w64, to_le_bytes};
 ghost use Rattle.std.specs.Option.{option_map};
 ghost use Rattle.script_syntax.specs.Reads.{Reads};
-ghost use Rattle.value_syntax.specs.TypeWords.{number_of};
+ghost use Rattle.value_syntax.specs.TypeWords.{number_of, type_number, type_of};
 ghost use Rattle.value_syntax.specs.Data.{datum_with, datum_in, datum_of};
 
 use crate::hex_pairs::hex_bytes;
@@ -54,6 +54,22 @@ pub fn parse(alloc: Global, word: &str, text: &str) -> Result<Datum, ParseError>
         Some(type_word) => datum_in(alloc, type_word, text),
         None => Err(ParseError::NotUnderstood),
     }
+}
+
+/// The number of the type that a word names, if it is one for a type: 1 for `sz`, 2 for `expand`, 3 for `hex`, 4 for
+/// `dword`, 7 for `multi`, 11 for `qword`, and T for `hex(T)`.
+pub fn type_number(word: &str) -> Option<u32>
+    ensures { result ≡ option_map type_number (type_of word.now) }
+{
+    let number = match type_word(word.as_bytes())? {
+        TypeWord::Text => TEXT,
+        TypeWord::ExpandText => EXPAND_TEXT,
+        TypeWord::Number => NUMBER,
+        TypeWord::WideNumber => WIDE_NUMBER,
+        TypeWord::Texts => TEXTS,
+        TypeWord::Bytes(kind) => kind,
+    };
+    Some(number)
 }
 
 fn datum_in(alloc: Global, type_word: TypeWord, text: &str) -> Result<Datum, ParseError>

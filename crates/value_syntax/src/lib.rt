@@ -14,5 +14,5 @@ mod printer;
 mod text_data;
 mod type_word;
 
-pub use datum::{Datum, parse};
+pub use datum::{Datum, parse, type_number};
 pub use printer::write_datum;

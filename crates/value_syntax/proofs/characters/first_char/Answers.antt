@@ -3,7 +3,7 @@ use Rattle.std.specs.Char.{InScalarRange}
 use Rattle.std.specs.Char.Utf16.{utf16_chars}
 use Rattle.std.proofs.lemmas.Str.{utf16_chars-nil}
 use Rattle.reg_export.specs.ByteUnits.{units_of}
-use Rattle.value_syntax.proofs.FirstUnits.{it_is, plain, second, apart, last, pair}
+use Rattle.reg_export.specs.CharLaws.{it_is, plain, second, apart, last, pair}
 use Rattle.value_syntax.proofs.characters.first_char.Goals as goal
 
 pub returns-in_default-clause-chars : goal.returns-in_default-clause-chars
