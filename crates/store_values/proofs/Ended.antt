@@ -3,7 +3,7 @@ use Rattle.std.proofs.Common.{◌≡◌, inl, inr, ℕ, List, [], ◌∷◌, Res
 use Rattle.refusals.specs.declared.refusal.Refusal.{Refusal}
 use Rattle.reg_tree.specs.Maps.{TreeMap}
 use Rattle.reg_tree.specs.declared.op.Op.{Op}
-use Rattle.store_model.specs.Machine.{Machine, named_trees}
+use Rattle.store_model.specs.Machine.{Machine, named_trees, outcome_bytes}
 use Rattle.store_model.specs.Invariant.{AreLegalChanges}
 use Rattle.change_plan.specs.declared.edit.Edit.{Edit}
 use Rattle.change_plan.specs.Plans.{Planned}
@@ -24,10 +24,10 @@ same_moment old new [] takes = ap (λ (plan : Planned). plan.moment) takes
 same_moment old new (its ∷ edits) takes = same_moment takes.0 new edits takes.2 ∙ takes.1.moment
 
 -- the operations of a change that was planned are legal, one after another
-pub planned_legal : (trees : List TreeMap) (moment : ℕ) (change : Change) (plan : Planned) → IsPlanned trees moment change plan → AreLegalChanges trees plan.ops moment
-planned_legal trees moment change plan is =
-    let legal = edits_on trees (first_plan trees moment) plan (edits_of change) (fresh_plan trees moment) is.taken in
-    subst (AreLegalChanges trees plan.ops) (same_moment (first_plan trees moment) plan (edits_of change) is.taken) legal.legal
+pub planned_legal : (trees : List TreeMap) (aside moment : ℕ) (change : Change) (plan : Planned) → IsPlanned trees aside moment change plan → AreLegalChanges trees plan.ops moment
+planned_legal trees aside moment change plan is =
+    let legal = edits_on trees (first_plan trees aside moment) plan (edits_of change) (fresh_plan trees moment aside) is.taken in
+    subst (AreLegalChanges trees plan.ops) (same_moment (first_plan trees aside moment) plan (edits_of change) is.taken) legal.legal
 
 -- however it ends, all was accepted or nothing
 pub all_or_nothing : (moment : ℕ) (change : Change) (old mid new : Machine) (outcome : Result ℕ Refusal) → Ends moment change old outcome mid → KeepsAccepted mid new → AllOrNothing moment change old new
@@ -40,6 +40,6 @@ all_or_nothing moment change old mid new (Err why) (inr failed) keeps = by_case 
     by_case (inr accepts) = inr (failed.0, failed.1, failed.2, accepts_on old mid new failed.1 moment _ accepts.0 keeps)
 
 -- how the commit of a change that was planned ends
-pub commit_ends : (id : List ℕ) (moment : ℕ) (change : Change) (old new : Machine) (plan : Planned) (ops : List Op) (outcome : Result ℕ Refusal) → IsPlanned (named_trees old) moment change plan → ops ≡ plan.ops → IfOk outcome (λ number. Commits old id moment ops number new) → IfErr outcome (λ why. FailsToCommit old id moment ops why new) → Ends moment change old outcome new
+pub commit_ends : (id : List ℕ) (moment : ℕ) (change : Change) (old new : Machine) (plan : Planned) (ops : List Op) (outcome : Result ℕ Refusal) → IsPlanned (named_trees old) (outcome_bytes old) moment change plan → ops ≡ plan.ops → IfOk outcome (λ number. Commits old id moment ops number new) → IfErr outcome (λ why. FailsToCommit old id moment ops why new) → Ends moment change old outcome new
 commit_ends id moment change old new plan ops (Ok number) is same commits fails = (plan, id, is, subst (λ (os : List Op). Commits old id moment os number new) same commits)
 commit_ends id moment change old new plan ops (Err why) is same commits fails = inr (plan, id, is, subst (λ (os : List Op). FailsToCommit old id moment os why new) same fails)

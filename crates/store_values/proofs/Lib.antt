@@ -1,3 +1,4 @@
 pub mod Lists
-pub mod Told
+pub mod Results
 pub mod Ended
+pub mod Kept

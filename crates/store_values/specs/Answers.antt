@@ -19,14 +19,21 @@ use Rattle.script_syntax.specs.declared.status.Status.TheVariants as status
 use Rattle.script_syntax.specs.declared.reply.ReplyLine.TheVariants as reply
 use Rattle.script_syntax.specs.Replies.{name_text, reply_line}
 use Rattle.value_syntax.specs.Printed.{datum_text}
+use Rattle.store_values.specs.declared.value_form.ValueForm.{ValueForm}
+use Rattle.store_values.specs.declared.value_form.ValueForm.TheVariants.{Line, Data}
 
 -- the line of a value's type and data
 abbrev pub datum_line : Value → List ℕ
 datum_line value = datum_text value.kind value.«data» ++ codes "\n"
 
--- the line of the value of a name, if it is there
-abbrev pub value_answer : ℕ → List (List ℕ) → List ℕ → List TreeMap → Option (List ℕ)
-value_answer hive path name trees = option_map datum_line (value_in trees hive (folded_path path) name)
+-- a value as it is printed in a form: the line of its type and data, or its data alone
+abbrev pub value_text : ValueForm → Value → List ℕ
+value_text Line value = datum_line value
+value_text Data value = value.«data»
+
+-- the value of a name in a form, if it is there
+abbrev pub value_answer : ValueForm → ℕ → List (List ℕ) → List ℕ → List TreeMap → Option (List ℕ)
+value_answer form hive path name trees = option_map (value_text form) (value_in trees hive (folded_path path) name)
 
 -- the line of a subkey in the list of a key, and that of a value
 abbrev pub subkey_line : List ℕ → List ℕ

@@ -7,22 +7,27 @@ use Rattle.reg_tree.specs.Maps.{TreeMap}
 use Rattle.reg_tree.specs.TreeLists.{info_in}
 use Rattle.reg_tree.specs.declared.op.Op.TheVariants as op
 use Rattle.change_plan.specs.declared.edit.Edit.{Edit}
-use Rattle.change_plan.specs.declared.edit.Edit.TheVariants.{Operation, RemoveKey}
+use Rattle.change_plan.specs.declared.edit.Edit.TheVariants.{Operation, WriteValue, RemoveKey}
 use Rattle.change_plan.specs.Plans.{Planned, TakesEdit, NotTaken}
 use Rattle.store_values.specs.declared.change.Change.{Change}
-use Rattle.store_values.specs.declared.change.Change.TheVariants.{SetValue, DeleteValue, DeleteKey}
+use Rattle.store_values.specs.declared.change.Change.TheVariants.{SetValue, CreateKey, DeleteValue, DeleteKey, DeleteTree}
 
--- The edits that a change asks for, one after the other. The creation of a key that is there asks for nothing.
+-- The edits that a change asks for, one after the other. The creation of a key that is there asks for nothing, and so
+-- does the write of a value that is there with this type and this data.
 abbrev pub edits_of : Change → List Edit
-edits_of (SetValue hive path name datum) = Operation (op.CreateKey hive path) ∷ Operation (op.SetValue hive path name datum.kind datum.«data») ∷ []
+edits_of (SetValue hive path name datum) = Operation (op.CreateKey hive path) ∷ WriteValue hive path name datum.kind datum.«data» ∷ []
+edits_of (CreateKey hive path) = Operation (op.CreateKey hive path) ∷ []
 edits_of (DeleteValue hive path name) = Operation (op.DeleteValue hive path name) ∷ []
-edits_of (DeleteKey hive path) = RemoveKey hive path ∷ []
+edits_of (DeleteKey hive path) = Operation (op.DeleteKey hive path) ∷ []
+edits_of (DeleteTree hive path) = RemoveKey hive path ∷ []
 
--- a key is to be deleted that isn't there
+-- a key is to be deleted with all below it that isn't there
 abbrev pub IsMissing : List TreeMap → Change → Type 0
 IsMissing trees (SetValue hive path name datum) = ⊥
+IsMissing trees (CreateKey hive path) = ⊥
 IsMissing trees (DeleteValue hive path name) = ⊥
-IsMissing trees (DeleteKey hive path) = info_in trees hive (folded_path path) ≡ None
+IsMissing trees (DeleteKey hive path) = ⊥
+IsMissing trees (DeleteTree hive path) = info_in trees hive (folded_path path) ≡ None
 
 -- edits are taken into a plan, one after the other
 abbrev pub TakesEdits : Planned → List Edit → Planned → Type 0
@@ -34,15 +39,15 @@ abbrev pub StopsEdits : Planned → List Edit → Refusal → Type 0
 StopsEdits old [] why = ⊥
 StopsEdits old (edit ∷ edits) why = NotTaken old edit why ⊎ ((mid : Planned) × TakesEdit old edit mid × StopsEdits mid edits why)
 
--- a plan on trees, without operations
-abbrev pub first_plan : List TreeMap → ℕ → Planned
-first_plan trees moment = record { view = trees; ops = []; moment = moment }
+-- a plan on trees, without operations, with so many bytes set aside
+abbrev pub first_plan : List TreeMap → ℕ → ℕ → Planned
+first_plan trees aside moment = record { view = trees; ops = []; moment = moment; aside = aside }
 
--- A change is planned on trees at a moment: its edits are taken.
-pub record IsPlanned (trees : List TreeMap) (moment : ℕ) (change : Change) (plan : Planned) : Type 0 where
+-- A change is planned on trees at a moment, with so many bytes set aside: its edits are taken.
+pub record IsPlanned (trees : List TreeMap) (aside moment : ℕ) (change : Change) (plan : Planned) : Type 0 where
   pub there : IsMissing trees change → ⊥
-  pub taken : TakesEdits (first_plan trees moment) (edits_of change) plan
+  pub taken : TakesEdits (first_plan trees aside moment) (edits_of change) plan
 
--- Why it isn't: memory is lacking, the key to be deleted isn't there, or an edit isn't taken.
-abbrev pub IsDenied : List TreeMap → ℕ → Change → Refusal → Type 0
-IsDenied trees moment change why = (why ≡ NoMemory) ⊎ (((why ≡ NotFound) × IsMissing trees change) ⊎ StopsEdits (first_plan trees moment) (edits_of change) why)
+-- Why it isn't: memory is lacking, the key to be deleted with all below it isn't there, or an edit isn't taken.
+abbrev pub IsDenied : List TreeMap → ℕ → ℕ → Change → Refusal → Type 0
+IsDenied trees aside moment change why = (why ≡ NoMemory) ⊎ (((why ≡ NotFound) × IsMissing trees change) ⊎ StopsEdits (first_plan trees aside moment) (edits_of change) why)

@@ -2,3 +2,4 @@ pub mod Answers
 pub mod Listed
 pub mod Changes
 pub mod Outcomes
+pub mod KeptCommits

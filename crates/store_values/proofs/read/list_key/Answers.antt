@@ -1,7 +1,7 @@
 use Rattle.std.proofs.Common.{inl, inr, refl, subst}
 use Rattle.refusals.specs.declared.refusal.Refusal.TheVariants.{NoMemory}
 use Rattle.recovery.specs.Shown.{store_of}
-use Rattle.store_values.proofs.Told.{if_ok}
+use Rattle.store_values.proofs.Results.{if_ok}
 use Rattle.store_values.proofs.read.list_key.Goals as goal
 
 pub returns-in-Ok-clause-reports : goal.returns-in-Ok-clause-reports

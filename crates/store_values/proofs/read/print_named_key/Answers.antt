@@ -1,7 +1,7 @@
 use Rattle.std.proofs.Common.{inl, inr, List, subst}
 use Rattle.reg_tree.specs.Maps.{TreeMap}
 use Rattle.store_values.specs.Answers.{PrintsAnswer, key_answer}
-use Rattle.store_values.proofs.Told.{if_ok}
+use Rattle.store_values.proofs.Results.{if_ok}
 use Rattle.store_values.proofs.read.print_named_key.Goals as goal
 
 pub returns-in-Ok : goal.returns-in-Ok

@@ -1,10 +1,10 @@
 use Rattle.std.proofs.Common.{Some, None}
-use Rattle.script_runner.proofs.Later.{later_same}
+use Rattle.store_driver.proofs.Later.{later_same}
 use Rattle.one_change.proofs.Steps.{steps_keep}
 use Rattle.store_values.proofs.run.report.Goals as goal
 
-pub returns-in_err-status-clause-later : goal.returns-in_err-status-clause-later
-returns-in_err-status-clause-later g c = later_same g.D.Disk.faithful g.D.Disk.failures c.args.engine.now
+pub returns-in_err-told-clause-later : goal.returns-in_err-told-clause-later
+returns-in_err-told-clause-later g c = later_same g.D.Disk.faithful g.D.Disk.failures c.args.engine.now
 
 pub returns-in-Some-clause-kept : goal.returns-in-Some-clause-kept
 returns-in-Some-clause-kept g c = steps_keep (Some c.in-Some.refusal) c.args.engine.now.machine c.run_until_idle.new.engine.machine c.in-Some.ensures.works
