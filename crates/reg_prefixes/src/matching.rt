@@ -35,12 +35,3 @@ fn is_parted(rest: &[u16]) -> bool
         None => true,
     }
 }
-
-/// Whether a prefix is another one, or begins it before a backslash.
-pub(crate) fn begins_prefix(prefix: &[u8], other: &[u8]) -> bool {
-    if other.len() < prefix.len() {
-        return false;
-    }
-    let (front, rest) = other.split_at(prefix.len());
-    prefix.eq_ignore_ascii_case(front) && rest.first().is_none_or(|byte| *byte == b'\\')
-}
