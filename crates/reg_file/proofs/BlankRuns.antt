@@ -1,10 +1,10 @@
 -- Blanks at the beginning and at the end of a line, by the grammar and as they are scanned.
 use Rattle.std.proofs.Common.{◌≡◌, ◌≢◌, ℕ, ◌==◌, Bool, true, false, cond, List, [], ◌∷◌, ◌++◌, Option, Some, None, refl, sym, ◌∙◌, ap, inl, inr}
-use Rattle.std.specs.Prelude.{◌⊎◌}
+use Rattle.std.specs.Prelude.{◌⊎◌, ◌||◌}
 use Rattle.std.proofs.lemmas.Bool.Decides.{Decides-eqb}
 use Rattle.std.proofs.lemmas.List.{append-nil}
-use Rattle.reg_file.specs.Scanning.{is_blank, skip_blanks, is_end, ends_line, strip}
-use Rattle.reg_file.specs.Grammar.{AreBlanks, IsLineEnd}
+use Rattle.reg_file.specs.Scanning.{is_blank, skip_blanks, is_end, ends_line, is_tail, ends_statement, strip}
+use Rattle.reg_file.specs.Grammar.{AreBlanks, IsLineEnd, IsTail}
 use Rattle.reg_file.proofs.Scans.{other_than}
 
 -- a fact for each way that a test may go
@@ -75,10 +75,36 @@ ends units h =
       | inr return ↦ record { blanks = s.blanks; are_blanks = s.are_blanks; parsed = inr (s.parsed ∙ ap (λ rest. s.blanks ++ rest) return) }
     ]
 
--- what begins with another unit is not the end of a line
+-- what may stand behind a statement
+or_true : (test : Bool) → (test || true) ≡ true
+or_true true = refl
+or_true false = refl
+
+end_is_tail : (units : List ℕ) → is_end units ≡ true → is_tail units ≡ true
+end_is_tail [] h = refl
+end_is_tail (unit ∷ units) h = ap (λ test. (unit == 59) || test) h ∙ or_true (unit == 59)
+
+pub tail_ends : (tail : List ℕ) → IsTail tail → ends_statement tail ≡ true
+tail_ends tail (inl ended) = end_is_tail (skip_blanks tail) (line_ends tail ended)
+tail_ends tail (inr (blanks, rest, e, h)) = ap ends_statement e ∙ ap is_tail (skipped_to blanks 59 rest h refl)
+
+pub tails : (units : List ℕ) → ends_statement units ≡ true → IsTail units
+tails units h = at_word (skip_blanks units) (skips units) refl h
+  where
+    at_word : (word : List ℕ) → Skips units word → skip_blanks units ≡ word → is_tail word ≡ true → IsTail units
+    at_word [] s e k = inl (ends units (ap is_end e))
+    at_word (unit ∷ rest) s e k = elim (is_or_not (unit == 59)) [
+      | inl remark ↦ inr (s.blanks, rest, s.parsed ∙ ap (λ u. s.blanks ++ u ∷ rest) (same_unit unit 59 remark), s.are_blanks)
+      | inr other ↦ inl (ends units (ap is_end e ∙ sym (ap (λ test. test || is_end (unit ∷ rest)) other) ∙ k))
+    ]
+
+-- what begins with another unit is neither the end of a line nor a remark
 pub not_end : (unit : ℕ) (rest : List ℕ) → unit ≢ 13 → is_end (unit ∷ rest) ≡ false
 not_end unit [] h = other_than unit 13 h
 not_end unit (other ∷ rest) h = refl
+
+pub not_tail : (unit : ℕ) (rest : List ℕ) → unit ≢ 13 → unit ≢ 59 → is_tail (unit ∷ rest) ≡ false
+not_tail unit rest h k = ap (λ test. test || is_end (unit ∷ rest)) (other_than unit 59 k) ∙ not_end unit rest h
 
 -- a text that stands as it is
 pub stripped : (text rest : List ℕ) → strip text (text ++ rest) ≡ Some rest

@@ -1,6 +1,6 @@
 -- The lines of encoded text.
-use Rattle.std.proofs.Common.{◌≡◌, ◌≢◌, ℕ, zero, suc, ◌≤◌, ◌^◌, ◌<◌, ◌==◌, Bool, true, false, cond, List, [], ◌∷◌, ◌++◌, map, length, Option, Some, None, refl, sym, ◌∙◌, ap, arith, append_assoc}
-use Rattle.std.specs.Prelude.{All, flat_map, nat_eq, nat_lt, drop, IsAscii, chars}
+use Rattle.std.proofs.Common.{◌≡◌, ◌≢◌, ℕ, zero, suc, ◌≤◌, ◌-◌, ◌^◌, ◌<◌, ◌==◌, ◌&&◌, Bool, true, false, cond, List, [], ◌∷◌, ◌++◌, map, length, Option, Some, None, refl, sym, ◌∙◌, ap, arith, append_assoc}
+use Rattle.std.specs.Prelude.{All, flat_map, nat_eq, nat_lt, nat_le, slice_index, drop, IsAscii, chars}
 use Rattle.std.specs.List.{slice_split, onto_first, starts_with, AllByRecursion}
 use Rattle.std.specs.Int.{w16, to_le_bytes, byte_at}
 use Rattle.std.specs.Char.Escape.{encode_utf16}
@@ -8,9 +8,11 @@ use Rattle.std.proofs.lemmas.Bool.Decides.{nat_tests}
 use Rattle.std.proofs.lemmas.Str.{is_utf8-from_IsUtf8, IsUtf8-from_ascii, chars-IsAscii}
 use Rattle.std.proofs.lemmas.List.Splits.{length-slice_split, slice_split_at}
 use Rattle.std.proofs.lemmas.List.Elements.{All-append, All-cons, All-nil}
-use Rattle.reg_file.specs.Lines.{utf8_line, onto_lines, unit_of, utf16_lines, encoded_lines, file_lines, last_is_none, unit_lines}
+use Rattle.reg_file.specs.CodePage.{ansi_unit}
+use Rattle.reg_file.specs.Lines.{utf8_line, ansi_line, parts, onto_lines, unit_of, utf16_lines, encoded_lines, is_ansi, file_lines, last_is_none, unit_lines}
+use Rattle.reg_file.specs.declared.code_page.TheConstants.{UNITS_FROM_80}
 use Rattle.reg_file.specs.declared.lines.Encoding.{Encoding}
-use Rattle.reg_file.specs.declared.lines.Encoding.TheVariants.{Utf8, Utf16}
+use Rattle.reg_file.specs.declared.lines.Encoding.TheVariants.{Utf8, Utf16, Ansi}
 use Rattle.reg_file.proofs.BlankRuns.{by_test}
 
 abbrev IsSome_line : List (Option (List ℕ)) → Type 0
@@ -30,20 +32,27 @@ utf16_some (low ∷ []) = cons_some None []
 utf16_some (low ∷ high ∷ bytes) =
     by_test IsSome_line (unit_of low high == 10) (Some [] ∷ utf16_lines bytes) (onto_lines (unit_of low high ∷ []) (utf16_lines bytes)) (λ feed. cons_some (Some []) (utf16_lines bytes)) (λ other. onto_some (unit_of low high ∷ []) (utf16_lines bytes) (utf16_some bytes))
 
-map_some : (parts : List (List ℕ)) → 0 < length parts → map utf8_line parts ≢ []
-map_some [] h = absurd (omega (arith, h))
-map_some (part ∷ parts) h = cons_some (utf8_line part) (map utf8_line parts)
+map_some : (read : List ℕ → Option (List ℕ)) (all : List (List ℕ)) → 0 < length all → map read all ≢ []
+map_some read [] h = absurd (omega (arith, h))
+map_some read (part ∷ others) h = cons_some (read part) (map read others)
 
 encoded_some : (encoding : Encoding) (bytes : List ℕ) → encoded_lines encoding bytes ≢ []
-encoded_some Utf8 bytes = let long = length-slice_split (λ byte. byte == 10) bytes in map_some (slice_split (λ byte. byte == 10) bytes) (omega (arith, long))
+encoded_some Utf8 bytes = let long = length-slice_split (λ byte. byte == 10) bytes in map_some utf8_line (parts bytes) (omega (arith, long))
 encoded_some Utf16 bytes = utf16_some bytes
+encoded_some Ansi bytes = let long = length-slice_split (λ byte. byte == 10) bytes in map_some ansi_line (parts bytes) (omega (arith, long))
 
 -- a file has a line
+abbrev unmarked_lines : List ℕ → List (Option (List ℕ))
+unmarked_lines bytes = cond (is_ansi bytes) (encoded_lines Ansi bytes) (encoded_lines Utf8 bytes)
+
+unmarked_some : (bytes : List ℕ) → unmarked_lines bytes ≢ []
+unmarked_some bytes = by_test IsSome_line (is_ansi bytes) (encoded_lines Ansi bytes) (encoded_lines Utf8 bytes) (λ old. encoded_some Ansi bytes) (λ other. encoded_some Utf8 bytes)
+
 pub file_has_line : (bytes : List ℕ) → file_lines bytes ≢ []
 file_has_line bytes =
-    by_test IsSome_line (starts_with nat_eq bytes (255 ∷ 254 ∷ [])) (encoded_lines Utf16 (drop 2 bytes)) (cond (starts_with nat_eq bytes (239 ∷ 187 ∷ 191 ∷ [])) (encoded_lines Utf8 (drop 3 bytes)) (encoded_lines Utf8 bytes))
+    by_test IsSome_line (starts_with nat_eq bytes (255 ∷ 254 ∷ [])) (encoded_lines Utf16 (drop 2 bytes)) (cond (starts_with nat_eq bytes (239 ∷ 187 ∷ 191 ∷ [])) (encoded_lines Utf8 (drop 3 bytes)) (unmarked_lines bytes))
     (λ wide. encoded_some Utf16 (drop 2 bytes))
-    (λ other. by_test IsSome_line (starts_with nat_eq bytes (239 ∷ 187 ∷ 191 ∷ [])) (encoded_lines Utf8 (drop 3 bytes)) (encoded_lines Utf8 bytes) (λ marked. encoded_some Utf8 (drop 3 bytes)) (λ plain. encoded_some Utf8 bytes))
+    (λ other. by_test IsSome_line (starts_with nat_eq bytes (239 ∷ 187 ∷ 191 ∷ [])) (encoded_lines Utf8 (drop 3 bytes)) (unmarked_lines bytes) (λ marked. encoded_some Utf8 (drop 3 bytes)) (λ plain. unmarked_some bytes))
 
 -- two bytes of a unit
 two_bytes : (unit : ℕ) → unit < 2 ^ 16 → unit_of (byte_at 0 unit) (byte_at 1 unit) ≡ unit
@@ -84,11 +93,7 @@ last_behind line [] h = absurd (h refl)
 last_behind line (next ∷ lines) h = refl
 
 units_some : (units : List ℕ) → unit_lines units ≢ []
-units_some units = let long = length-slice_split (λ unit. unit == 10) units in parts_some (slice_split (λ unit. unit == 10) units) (omega (arith, long))
-  where
-    parts_some : (parts : List (List ℕ)) → 0 < length parts → map Some parts ≢ []
-    parts_some [] h = absurd (omega (arith, h))
-    parts_some (part ∷ parts) h = cons_some (Some part) (map Some parts)
+units_some units = let long = length-slice_split (λ unit. unit == 10) units in map_some Some (parts units) (omega (arith, long))
 
 last_by_test : (test : Bool) (unit : ℕ) (lines : List (Option (List ℕ))) → lines ≢ [] → cond test (Some [] ∷ last_is_none lines) (onto_lines (unit ∷ []) (last_is_none lines)) ≡ last_is_none (cond test (Some [] ∷ lines) (onto_lines (unit ∷ []) lines))
 last_by_test true unit lines h = last_behind (Some []) lines h
@@ -132,19 +137,34 @@ ascii_parts (byte ∷ bytes) h =
     onto_ascii [] a = ((h.0, tt), tt)
     onto_ascii (part ∷ parts) a = ((h.0, a.0), a.1)
 
-ascii_lines : (parts : List (List ℕ)) → AllByRecursion (λ part. AllByRecursion (λ byte. byte < 128) part) parts → map utf8_line parts ≡ map Some parts
+ascii_lines : (all : List (List ℕ)) → AllByRecursion (λ part. AllByRecursion (λ byte. byte < 128) part) all → map utf8_line all ≡ map Some all
 ascii_lines [] h = refl
-ascii_lines (part ∷ parts) h = ap (λ line. line ∷ map utf8_line parts) (ascii_line part h.0) ∙ ap (λ lines. Some part ∷ lines) (ascii_lines parts h.1)
+ascii_lines (part ∷ others) h = ap (λ line. line ∷ map utf8_line others) (ascii_line part h.0) ∙ ap (λ lines. Some part ∷ lines) (ascii_lines others h.1)
+
+-- in the code page too
+ansi_itself : (byte : ℕ) → byte < 128 → ansi_unit byte ≡ byte
+ansi_itself byte h = let low : nat_le 128 byte ≡ false = grind (arith, nat_tests, h) in ap (λ test. cond (test && nat_le byte 159) (slice_index UNITS_FROM_80 (byte - 128)) byte) low
+
+ansi_ascii : (bytes : List ℕ) → AllByRecursion (λ byte. byte < 128) bytes → map ansi_unit bytes ≡ bytes
+ansi_ascii [] h = refl
+ansi_ascii (byte ∷ bytes) h = ap (λ unit. unit ∷ map ansi_unit bytes) (ansi_itself byte h.0) ∙ ap (λ units. byte ∷ units) (ansi_ascii bytes h.1)
+
+ansi_lines : (all : List (List ℕ)) → AllByRecursion (λ part. AllByRecursion (λ byte. byte < 128) part) all → map ansi_line all ≡ map Some all
+ansi_lines [] h = refl
+ansi_lines (part ∷ others) h = ap (λ line. Some line ∷ map ansi_line others) (ansi_ascii part h.0) ∙ ap (λ lines. Some part ∷ lines) (ansi_lines others h.1)
 
 no_mark : (bytes : List ℕ) (mark : ℕ) (more : List ℕ) → AllByRecursion (λ byte. byte < 128) bytes → 128 ≤ mark → starts_with nat_eq bytes (mark ∷ more) ≡ false
 no_mark [] mark more h m = refl
 no_mark (byte ∷ bytes) mark more h m = let other : nat_eq mark byte ≡ false = grind (arith, nat_tests, h.0, m) in rw other refl
 
+unmarked_ascii : (bytes : List ℕ) → AllByRecursion (λ byte. byte < 128) bytes → unmarked_lines bytes ≡ unit_lines bytes
+unmarked_ascii bytes h =
+    by_test (λ lines. lines ≡ unit_lines bytes) (is_ansi bytes) (encoded_lines Ansi bytes) (encoded_lines Utf8 bytes) (λ old. ansi_lines (parts bytes) (ascii_parts bytes h)) (λ other. ascii_lines (parts bytes) (ascii_parts bytes h))
+
 pub read_ascii : (bytes : List ℕ) → AllByRecursion (λ byte. byte < 128) bytes → file_lines bytes ≡ unit_lines bytes
 read_ascii bytes h =
-    ap (λ test. cond test (encoded_lines Utf16 (drop 2 bytes)) (cond (starts_with nat_eq bytes (239 ∷ 187 ∷ 191 ∷ [])) (encoded_lines Utf8 (drop 3 bytes)) (encoded_lines Utf8 bytes))) (no_mark bytes 255 (254 ∷ []) h (omega arith))
-    ∙ ap (λ test. cond test (encoded_lines Utf8 (drop 3 bytes)) (encoded_lines Utf8 bytes)) (no_mark bytes 239 (187 ∷ 191 ∷ []) h (omega arith))
-    ∙ ascii_lines (slice_split (λ byte. byte == 10) bytes) (ascii_parts bytes h)
+    ap (λ test. cond test (encoded_lines Utf16 (drop 2 bytes)) (cond (starts_with nat_eq bytes (239 ∷ 187 ∷ 191 ∷ [])) (encoded_lines Utf8 (drop 3 bytes)) (unmarked_lines bytes))) (no_mark bytes 255 (254 ∷ []) h (omega arith))
+    ∙ ap (λ test. cond test (encoded_lines Utf8 (drop 3 bytes)) (unmarked_lines bytes)) (no_mark bytes 239 (187 ∷ 191 ∷ []) h (omega arith)) ∙ unmarked_ascii bytes h
 
 -- lines that are written with a carriage return and a line feed behind each are read back
 abbrev NoFeed : List ℕ → Type 0

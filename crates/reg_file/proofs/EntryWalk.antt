@@ -4,9 +4,9 @@ use Rattle.std.specs.Prelude.{◌⊎◌}
 use Rattle.std.proofs.lemmas.Bool.Decides.{Decides-eqb}
 use Rattle.std.proofs.lemmas.List.{append-nil}
 use Rattle.refusals.specs.declared.limits.TheConstants.{MOST_ELEMENT_BYTES}
-use Rattle.reg_file.specs.Reading.{is_text_kind, line_scan}
-use Rattle.reg_file.specs.Files.{stopped, onto_file, key_after, wants_key, first_of, pending_of, room_after, stop, judged, scanned, has_high, after_turn, file_from}
-use Rattle.reg_file.specs.Grammar.{IsEntry, IsStatement, IsListValue, IsInForm, units_of, IsPlaced, key_behind_entry, one_numbered, MayGoOn}
+use Rattle.reg_file.specs.Reading.{line_scan}
+use Rattle.reg_file.specs.Files.{stopped, onto_file, key_after, wants_key, first_of, pending_of, room_after, stop, judged, scanned, after_turn, file_from}
+use Rattle.reg_file.specs.Grammar.{IsEntry, IsStatement, units_of, IsPlaced, key_behind_entry, one_numbered, MayGoOn}
 use Rattle.reg_file.specs.declared.statement.Statement.{Statement}
 use Rattle.reg_file.specs.declared.scan.Pending.{Pending}
 use Rattle.reg_file.specs.declared.scan.Scan.{Scan}
@@ -24,15 +24,8 @@ abbrev pub Behind : Bool → (List (List ℕ) → Statement → Type 0) → List
 Behind old Holds lines left =
     (tail : List (List ℕ)) × (statement : Statement) × (more : List (Option (List ℕ))) × (left ≡ texts tail ++ more) × IsStatement old (lines ++ tail) statement × Holds (lines ++ tail) statement
 
-abbrev pub NoTextBehind : List (List ℕ) → List (Option (List ℕ)) → Type 0
-NoTextBehind lines left = (tail : List (List ℕ)) × (more : List (Option (List ℕ))) × (left ≡ texts tail ++ None ∷ more) × MayGoOn (lines ++ tail)
-
-abbrev pub HighBehind : List (List ℕ) → List (Option (List ℕ)) → Type 0
-HighBehind lines left = (tail : List (List ℕ)) × (line : List ℕ) × (more : List (Option (List ℕ))) × (left ≡ texts tail ++ Some line ∷ more) × (has_high line ≡ true) × MayGoOn (lines ++ tail)
-
-abbrev pub ListBehind : List (List ℕ) → List (Option (List ℕ)) → Type 0
-ListBehind lines left =
-    (tail : List (List ℕ)) × (more : List (Option (List ℕ))) × (name : List ℕ) × (number : ℕ) × (bytes : List ℕ) × (left ≡ texts tail ++ more) × IsListValue (lines ++ tail) name number bytes × (is_text_kind number ≡ true)
+abbrev pub NoTextBehind : Bool → List (List ℕ) → List (Option (List ℕ)) → Type 0
+NoTextBehind old lines left = (tail : List (List ℕ)) × (more : List (Option (List ℕ))) × (left ≡ texts tail ++ None ∷ more) × MayGoOn old (lines ++ tail)
 
 abbrev pub Wants : List (List ℕ) → Statement → Type 0
 Wants lines statement = wants_key statement ≡ true
@@ -42,8 +35,7 @@ Large lines statement = MOST_ELEMENT_BYTES < units_of lines
 
 abbrev pub Details : Bool → Bool → List (List ℕ) → List (Option (List ℕ)) → FaultKind → Type 0
 Details old has_key lines left kind.NoHeader = ⊥
-Details old has_key lines left kind.NotText = NoTextBehind lines left
-Details old has_key lines left kind.CodePage = (old ≡ true) × (HighBehind lines left ⊎ ListBehind lines left)
+Details old has_key lines left kind.NotText = NoTextBehind old lines left
 Details old has_key lines left kind.NotUnderstood = Unit {0}
 Details old has_key lines left kind.NoKey = (has_key ≡ false) × Behind old Wants lines left
 Details old has_key lines left kind.TooLarge = Behind old Large lines left
@@ -55,7 +47,6 @@ pub record EntryEnds (old has_key : Bool) (first number : ℕ) (item : Option It
   pub rest : List (Option (List ℕ))
   pub parsed : left ≡ texts tail ++ rest
   pub is_entry : IsEntry old (lines ++ tail) statement
-  pub form : IsInForm old tail
   pub placed : IsPlaced has_key (lines ++ tail) statement
   pub shorter : length rest < length left
   pub runs : file_from old has_key number item left ≡ onto_file (one_numbered first statement) (file_from old (key_behind_entry statement has_key) (number + length tail) None rest)
@@ -73,31 +64,20 @@ module _ (old has_key : Bool) (first number : ℕ) (item : Option Item) (lines :
   longer : (tail : List (List ℕ)) → (lines ++ line ∷ []) ++ tail ≡ lines ++ line ∷ tail
   longer tail = append_assoc lines (line ∷ []) tail
 
-  low_form : (tail : List (List ℕ)) → (old && has_high line) ≡ false → IsInForm old tail → IsInForm old (line ∷ tail)
-  low_form tail low form o = (subst (λ b. (b && has_high line) ≡ false) o low, form o)
-
-  high_more : HighBehind (lines ++ line ∷ []) left → HighBehind lines (Some line ∷ left)
-  high_more (tail, high, more, e, h, g) = (line ∷ tail, high, more, ap (λ xs. Some line ∷ xs) e, h, subst MayGoOn (longer tail) g)
-
   behind_more : (Holds : List (List ℕ) → Statement → Type 0) → Behind old Holds (lines ++ line ∷ []) left → Behind old Holds lines (Some line ∷ left)
   behind_more Holds (tail, statement, more, e, s, h) =
       (line ∷ tail, statement, more, ap (λ xs. Some line ∷ xs) e, subst (λ all. IsStatement old all statement) (longer tail) s, subst (λ all. Holds all statement) (longer tail) h)
 
-  list_more : ListBehind (lines ++ line ∷ []) left → ListBehind lines (Some line ∷ left)
-  list_more (tail, more, name, n, bytes, e, v, t) = (line ∷ tail, more, name, n, bytes, ap (λ xs. Some line ∷ xs) e, subst (λ all. IsListValue all name n bytes) (longer tail) v, t)
-
   details_more : (what : FaultKind) → Details old has_key (lines ++ line ∷ []) left what → Details old has_key lines (Some line ∷ left) what
   details_more kind.NoHeader d = d
-  details_more kind.NotText (tail, more, e, g) = (line ∷ tail, more, ap (λ xs. Some line ∷ xs) e, subst MayGoOn (longer tail) g)
-  details_more kind.CodePage (o, inl high) = (o, inl (high_more high))
-  details_more kind.CodePage (o, inr list) = (o, inr (list_more list))
+  details_more kind.NotText (tail, more, e, g) = (line ∷ tail, more, ap (λ xs. Some line ∷ xs) e, subst (MayGoOn old) (longer tail) g)
   details_more kind.NotUnderstood d = tt
   details_more kind.NoKey (h, b) = (h, behind_more Wants b)
   details_more kind.TooLarge b = behind_more Large b
 
-  walk_more : (old && has_high line) ≡ false → file_from old has_key number item (Some line ∷ left) ≡ file_from old has_key (number + 1) (Some (next_item number item line pending)) left
+  walk_more : file_from old has_key number item (Some line ∷ left) ≡ file_from old has_key (number + 1) (Some (next_item number item line pending)) left
       → Walk old has_key first (number + 1) (Some (next_item number item line pending)) (lines ++ line ∷ []) left → Walk old has_key first number item lines (Some line ∷ left)
-  walk_more low runs (inl w) =
+  walk_more runs (inl w) =
       let shorter = w.shorter in
       let count : number + 1 + length w.tail ≡ number + length (line ∷ w.tail) = omega arith in
       inl (record {
@@ -106,38 +86,23 @@ module _ (old has_key : Bool) (first number : ℕ) (item : Option Item) (lines :
         rest = w.rest;
         parsed = ap (λ xs. Some line ∷ xs) w.parsed;
         is_entry = subst (λ all. IsEntry old all w.statement) (longer w.tail) w.is_entry;
-        form = low_form w.tail low w.form;
         placed = subst (λ all. IsPlaced has_key all w.statement) (longer w.tail) w.placed;
         shorter = omega (arith, shorter);
         runs = runs ∙ w.runs ∙ ap (λ n. onto_file (one_numbered first w.statement) (file_from old (key_behind_entry w.statement has_key) n None w.rest)) count;
       })
-  walk_more low runs (inr (inl f)) = inr (inl (record { what = f.what; runs = runs ∙ f.runs; details = details_more f.what f.details }))
-  walk_more low runs (inr (inr (none, bad))) = absurd (some bad)
+  walk_more runs (inr (inl f)) = inr (inl (record { what = f.what; runs = runs ∙ f.runs; details = details_more f.what f.details }))
+  walk_more runs (inr (inr (none, bad))) = absurd (some bad)
     where
       some : ◌≡◌ {A = Option Item} (Some (next_item number item line pending)) None → ⊥
       some e = cc
 
 -- one line of an entry
 module _ (old has_key : Bool) (first number : ℕ) (item : Option Item) (lines : List (List ℕ)) (line : List ℕ) (left : List (Option (List ℕ))) (first_is : first_of number item ≡ first) (room_is : room_after item line ≡ (MOST_ELEMENT_BYTES + 1) - units_of (lines ++ line ∷ [])) where
-  taken : (found : Scan) → (old && has_high line) ≡ false → line_scan old (pending_of item) line ≡ found
-      → file_from old has_key number item (Some line ∷ left) ≡ after_turn (rest_file old (number + 1) left) (scanned first has_key ((MOST_ELEMENT_BYTES + 1) - units_of (lines ++ line ∷ [])) found)
-  taken found low e =
-      ap (λ test. after_turn (rest_file old (number + 1) left) (cond test (stop (first_of number item) kind.CodePage) (scanned (first_of number item) has_key (room_after item line) (line_scan old (pending_of item) line)))) low
-      ∙ ap (λ scan. after_turn (rest_file old (number + 1) left) (scanned (first_of number item) has_key (room_after item line) scan)) e
+  taken : (found : Scan) → line_scan old (pending_of item) line ≡ found → file_from old has_key number item (Some line ∷ left) ≡ after_turn (rest_file old (number + 1) left) (scanned first has_key ((MOST_ELEMENT_BYTES + 1) - units_of (lines ++ line ∷ [])) found)
+  taken found e =
+      ap (λ scan. after_turn (rest_file old (number + 1) left) (scanned (first_of number item) has_key (room_after item line) scan)) e
       ∙ ap (λ room. after_turn (rest_file old (number + 1) left) (scanned (first_of number item) has_key room found)) room_is
       ∙ ap (λ n. after_turn (rest_file old (number + 1) left) (scanned n has_key ((MOST_ELEMENT_BYTES + 1) - units_of (lines ++ line ∷ [])) found)) first_is
-
-  refused : (old && has_high line) ≡ true → file_from old has_key number item (Some line ∷ left) ≡ stopped (record { line = first; kind = kind.CodePage })
-  refused high =
-      ap (λ test. after_turn (rest_file old (number + 1) left) (cond test (stop (first_of number item) kind.CodePage) (scanned (first_of number item) has_key (room_after item line) (line_scan old (pending_of item) line)))) high
-      ∙ ap (λ n. stopped (record { line = n; kind = kind.CodePage })) first_is
-
-  both_true : (a b : Bool) → (a && b) ≡ true → (a ≡ true) × (b ≡ true)
-  both_true true b h = (refl, h)
-  both_true false b h = absurd (bad h)
-    where
-      bad : false ≡ true → ⊥
-      bad e = cc
 
   no_key : (wants key : Bool) → (wants && not key) ≡ true → (wants ≡ true) × (key ≡ false)
   no_key true false h = (refl, refl)
@@ -161,17 +126,14 @@ module _ (old has_key : Bool) (first number : ℕ) (item : Option Item) (lines :
       bad : false ≡ true → ⊥
       bad k = cc
 
-  one_form : (old && has_high line) ≡ false → IsInForm old (line ∷ [])
-  one_form low o = (subst (λ b. (b && has_high line) ≡ false) o low, tt)
-
   -- the statement that the line ends
-  statement_ends : (statement : Statement) → (old && has_high line) ≡ false → line_scan old (pending_of item) line ≡ scan.Complete statement → IsStatement old (lines ++ line ∷ []) statement → Walk old has_key first number item lines (Some line ∷ left)
-  statement_ends statement low e s = elim (is_or_not (wants_key statement && not has_key)) [
+  statement_ends : (statement : Statement) → line_scan old (pending_of item) line ≡ scan.Complete statement → IsStatement old (lines ++ line ∷ []) statement → Walk old has_key first number item lines (Some line ∷ left)
+  statement_ends statement e s = elim (is_or_not (wants_key statement && not has_key)) [
     | inl none ↦
         let both = no_key (wants_key statement) has_key none in
         inr (inl (record {
           what = kind.NoKey;
-          runs = taken (scan.Complete statement) low e ∙ ap (λ test. after_turn (rest_file old (number + 1) left) (cond test (stop first kind.NoKey) (cond (room == 0) (stop first kind.TooLarge) (Done (key_after statement has_key) (record { line = first; statement = statement }))))) none;
+          runs = taken (scan.Complete statement) e ∙ ap (λ test. after_turn (rest_file old (number + 1) left) (cond test (stop first kind.NoKey) (cond (room == 0) (stop first kind.TooLarge) (Done (key_after statement has_key) (record { line = first; statement = statement }))))) none;
           details = (both.1, (line ∷ [], statement, left, refl, s, both.0));
         }))
     | inr key ↦
@@ -181,7 +143,7 @@ module _ (old has_key : Bool) (first number : ℕ) (item : Option Item) (lines :
               let zero_room : room ≡ 0 = (Decides-eqb room 0).0 full in
               inr (inl (record {
                 what = kind.TooLarge;
-                runs = taken (scan.Complete statement) low e ∙ ap (after_turn (rest_file old (number + 1) left)) (judge ∙ ap (λ test. cond test (stop first kind.TooLarge) (Done (key_after statement has_key) (record { line = first; statement = statement }))) full);
+                runs = taken (scan.Complete statement) e ∙ ap (after_turn (rest_file old (number + 1) left)) (judge ∙ ap (λ test. cond test (stop first kind.TooLarge) (Done (key_after statement has_key) (record { line = first; statement = statement }))) full);
                 details = (line ∷ [], statement, left, refl, s, omega (arith, zero_room));
               }))
           | inr some ↦
@@ -192,10 +154,9 @@ module _ (old has_key : Bool) (first number : ℕ) (item : Option Item) (lines :
                 rest = left;
                 parsed = refl;
                 is_entry = s;
-                form = one_form low;
                 placed = (key_there (wants_key statement) has_key key, omega (arith, some_room));
                 shorter = omega arith;
-                runs = taken (scan.Complete statement) low e ∙ ap (after_turn (rest_file old (number + 1) left)) (judge ∙ ap (λ test. cond test (stop first kind.TooLarge) (Done (key_after statement has_key) (record { line = first; statement = statement }))) some);
+                runs = taken (scan.Complete statement) e ∙ ap (after_turn (rest_file old (number + 1) left)) (judge ∙ ap (λ test. cond test (stop first kind.TooLarge) (Done (key_after statement has_key) (record { line = first; statement = statement }))) some);
               })
         ]
   ]
@@ -217,49 +178,35 @@ units_behind (first ∷ second ∷ lines) line next = let more = units_behind (s
 -- the lines of an entry, from one of them on
 pub walk : (left : List (Option (List ℕ))) (old has_key : Bool) (first number : ℕ) (item : Option Item) (lines : List (List ℕ)) → first_of number item ≡ first
     → ((line : List ℕ) → room_after item line ≡ (MOST_ELEMENT_BYTES + 1) - units_of (lines ++ line ∷ []))
-    → ((line : List ℕ) → Means old (lines ++ line ∷ []) (line_scan old (pending_of item) line)) → MayGoOn lines → Walk old has_key first number item lines left
+    → ((line : List ℕ) → Means old (lines ++ line ∷ []) (line_scan old (pending_of item) line)) → MayGoOn old lines → Walk old has_key first number item lines left
 walk [] old has_key first number None lines f r m g = inr (inr (refl, refl))
 walk [] old has_key first number (Some item) lines f r m g =
     inr (inl (record { what = kind.NotUnderstood; runs = ap (λ n. stopped (record { line = n; kind = kind.NotUnderstood })) f; details = tt }))
 walk (None ∷ left) old has_key first number item lines f r m g =
-    inr (inl (record { what = kind.NotText; runs = ap (λ n. stopped (record { line = n; kind = kind.NotText })) f; details = ([], left, refl, subst MayGoOn (sym (append-nil lines)) g) }))
+    inr (inl (record { what = kind.NotText; runs = ap (λ n. stopped (record { line = n; kind = kind.NotText })) f; details = ([], left, refl, subst (MayGoOn old) (sym (append-nil lines)) g) }))
 walk (Some line ∷ left) old has_key first number item lines f r m g =
-    at_line (λ pending ending. walk left old has_key first (number + 1) (Some (next_item number item line pending)) (lines ++ line ∷ []) f (more_room pending) (λ next. further_line_means old (lines ++ line ∷ []) next pending ending) (may_go_on old (lines ++ line ∷ []) pending ending))
+    at_scan (λ pending ending. walk left old has_key first (number + 1) (Some (next_item number item line pending)) (lines ++ line ∷ []) f (more_room pending) (λ next. further_line_means old (lines ++ line ∷ []) next pending ending) (may_go_on old (lines ++ line ∷ []) pending ending))
+    (line_scan old (pending_of item) line) refl (m line)
   where
     more_room : (pending : Pending) (next : List ℕ) → room_after (Some (next_item number item line pending)) next ≡ (MOST_ELEMENT_BYTES + 1) - units_of ((lines ++ line ∷ []) ++ next ∷ [])
     more_room pending next = let here = r line in let more = units_behind lines line next in omega (arith, here, more)
 
-    at_scan : ((pending : Pending) → Ends old (lines ++ line ∷ []) pending → Walk old has_key first (number + 1) (Some (next_item number item line pending)) (lines ++ line ∷ []) left) → (old && has_high line) ≡ false → (found : Scan)
+    at_scan : ((pending : Pending) → Ends old (lines ++ line ∷ []) pending → Walk old has_key first (number + 1) (Some (next_item number item line pending)) (lines ++ line ∷ []) left) → (found : Scan)
         → line_scan old (pending_of item) line ≡ found → Means old (lines ++ line ∷ []) found → Walk old has_key first number item lines (Some line ∷ left)
-    at_scan go low scan.Nothing e means =
+    at_scan go scan.Nothing e means =
         inl (record {
           tail = line ∷ [];
           statement = None;
           rest = left;
           parsed = refl;
           is_entry = means;
-          form = one_form old has_key first number item lines line left f (r line) low;
           placed = tt;
           shorter = omega arith;
-          runs = taken old has_key first number item lines line left f (r line) scan.Nothing low e;
+          runs = taken old has_key first number item lines line left f (r line) scan.Nothing e;
         })
-    at_scan go low (scan.Complete statement) e means = statement_ends old has_key first number item lines line left f (r line) statement low e means
-    at_scan go low (scan.GoesOn pending) e means = walk_more old has_key first number item lines line left pending low (line_goes_on old has_key number item line left pending low e) (go pending means)
-    at_scan go low scan.CodePage e (in_old, (name, number_of_kind, bytes, value, text)) =
-        inr (inl (record {
-          what = kind.CodePage;
-          runs = taken old has_key first number item lines line left f (r line) scan.CodePage low e;
-          details = (in_old, inr (line ∷ [], left, name, number_of_kind, bytes, refl, value, text));
-        }))
-    at_scan go low scan.NotUnderstood e means = inr (inl (record { what = kind.NotUnderstood; runs = taken old has_key first number item lines line left f (r line) scan.NotUnderstood low e; details = tt }))
-
-    at_line : ((pending : Pending) → Ends old (lines ++ line ∷ []) pending → Walk old has_key first (number + 1) (Some (next_item number item line pending)) (lines ++ line ∷ []) left) → Walk old has_key first number item lines (Some line ∷ left)
-    at_line go = elim (is_or_not (old && has_high line)) [
-      | inl high ↦
-          let both = both_true old has_key first number item lines line left f (r line) old (has_high line) high in
-          inr (inl (record { what = kind.CodePage; runs = refused old has_key first number item lines line left f (r line) high; details = (both.0, inl ([], line, left, refl, both.1, subst MayGoOn (sym (append-nil lines)) g)) }))
-      | inr low ↦ at_scan go low (line_scan old (pending_of item) line) refl (m line)
-    ]
+    at_scan go (scan.Complete statement) e means = statement_ends old has_key first number item lines line left f (r line) statement e means
+    at_scan go (scan.GoesOn pending) e means = walk_more old has_key first number item lines line left pending (line_goes_on old has_key number item line left pending e) (go pending means)
+    at_scan go scan.NotUnderstood e means = inr (inl (record { what = kind.NotUnderstood; runs = taken old has_key first number item lines line left f (r line) scan.NotUnderstood e; details = tt }))
 
 -- the lines of an entry, from its first one on
 pub walk_entry : (old has_key : Bool) (number : ℕ) (left : List (Option (List ℕ))) → Walk old has_key number number None [] left

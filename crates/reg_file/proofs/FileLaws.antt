@@ -3,7 +3,8 @@ use Rattle.std.proofs.Common.{◌≡◌, ◌≢◌, ℕ, ◌+◌, Bool, true, fa
 use Rattle.std.specs.Prelude.{◌⊎◌, codes}
 use Rattle.std.proofs.lemmas.List.{append-nil}
 use Rattle.reg_file.specs.Scanning.{skip_blanks, strip}
-use Rattle.reg_file.specs.Files.{onto_file, file_from, ends_behind, is_header, header_of, behind_header, lines_file}
+use Rattle.reg_file.specs.Headers.{ends_behind, is_header, header_of}
+use Rattle.reg_file.specs.Files.{onto_file, file_from, behind_header, lines_file}
 use Rattle.reg_file.specs.Grammar.{IsLineEnd, key_behind, entry_lines, numbered, header_text, IsHeader, IsFile, Stands, IsStopped, IsNoHeader}
 use Rattle.reg_file.specs.declared.statement.NumberedStatement.{NumberedStatement}
 use Rattle.reg_file.specs.declared.fault.Fault.{Fault}

@@ -1,11 +1,9 @@
 -- Lines are entries up to a fault, or up to their end.
 use Rattle.std.proofs.Common.{◌≡◌, ℕ, zero, suc, ◌+◌, ◌≤◌, Bool, true, false, cond, ◌==◌, ◌&&◌, not, List, [], ◌∷◌, ◌++◌, length, Option, Some, None, refl, sym, ◌∙◌, ap, subst, inl, inr, append_assoc, arith}
 use Rattle.std.specs.Prelude.{◌⊎◌}
-use Rattle.reg_file.specs.Reading.{is_text_kind, list_value}
 use Rattle.reg_file.specs.Files.{stopped, onto_file, key_after, wants_key, judged, after_turn, stop, file_from}
-use Rattle.reg_file.specs.Grammar.{Entry, IsEntry, IsStatement, IsListValue, key_behind_entry, AreEntries, key_behind, entry_lines, one_numbered, numbered, BeginsNoEntry, Stands}
+use Rattle.reg_file.specs.Grammar.{Entry, IsEntry, key_behind_entry, AreEntries, key_behind, entry_lines, one_numbered, numbered, BeginsNoEntry, Stands}
 use Rattle.reg_file.specs.declared.statement.Statement.{Statement}
-use Rattle.reg_file.specs.declared.statement.Statement.TheVariants.{CreateKey, DeleteKey, SetValue, DeleteValue}
 use Rattle.reg_file.specs.declared.statement.NumberedStatement.{NumberedStatement}
 use Rattle.reg_file.specs.declared.scan.Scan.{Scan}
 use Rattle.reg_file.specs.declared.scan.Scan.TheVariants as scan
@@ -16,7 +14,7 @@ use Rattle.reg_file.specs.declared.turn.Item.{Item}
 use Rattle.reg_file.specs.declared.turn.Turn.TheVariants.{Done}
 use Rattle.reg_file.specs.declared.file.RegFile.{RegFile}
 use Rattle.reg_file.proofs.BlankRuns.{is_or_not}
-use Rattle.reg_file.proofs.GrammarToScan.{Comes, statement_comes, list_value_comes, plain_value_comes, blank_comes}
+use Rattle.reg_file.proofs.GrammarToScan.{Comes, statement_comes, blank_comes}
 use Rattle.reg_file.proofs.EntryRuns.{texts, texts_append, rest_file, behind, room_behind, lines_come, onto_file_more, length_both}
 use Rattle.reg_file.proofs.EntryWalk.{Details, EntryEnds, FaultStops, walk_entry}
 
@@ -43,7 +41,7 @@ first_entry old has_key number left e p =
       rest = p.rest;
       file = p.file;
       parsed = e.parsed ∙ ap (λ xs. texts e.tail ++ xs) p.parsed ∙ sym (append_assoc (texts e.tail) (texts (entry_lines p.entries)) p.rest) ∙ ap (λ xs. xs ++ p.rest) (sym (texts_append e.tail (entry_lines p.entries)));
-      are_entries = (e.is_entry, e.form, e.placed, p.are_entries);
+      are_entries = (e.is_entry, e.placed, p.are_entries);
       runs = e.runs ∙ ap (onto_file (one_numbered number e.statement)) p.runs ∙ onto_file_more (one_numbered number e.statement) (numbered (number + length e.tail) p.entries) p.file;
       is_rest = subst (λ n. IsRest old (key_behind (key_behind_entry e.statement has_key) p.entries) n p.rest p.file) (length_both e.tail (entry_lines p.entries) number) p.is_rest;
     }
@@ -98,7 +96,6 @@ fault_later old has_key number left fault e =
 abbrev IsBeginning : FaultKind → Type 0
 IsBeginning kind.NoHeader = ⊥
 IsBeginning kind.NotText = Unit {0}
-IsBeginning kind.CodePage = ⊥
 IsBeginning kind.NotUnderstood = Unit {0}
 IsBeginning kind.NoKey = ⊥
 IsBeginning kind.TooLarge = ⊥
@@ -119,30 +116,10 @@ not_done statement rest fault e = some (ap (λ x. x.statements) e)
     some : ◌≡◌ {A = List NumberedStatement} (statement ∷ rest.statements) [] → ⊥
     some h = cc
 
--- a statement in any form comes to it, or to a code page
-loose_value : (old : Bool) (lines : List (List ℕ)) (name : List ℕ) (number : ℕ) (bytes : List ℕ) → IsListValue lines name number bytes → Comes old None lines (scan.Complete (SetValue name number bytes)) ⊎ Comes old None lines scan.CodePage
-loose_value old lines name number bytes v = by_value (list_value old name number bytes) refl (list_value_comes old lines name number bytes v)
-  where
-    by_value : (found : Scan) → list_value old name number bytes ≡ found → Comes old None lines found → Comes old None lines (scan.Complete (SetValue name number bytes)) ⊎ Comes old None lines scan.CodePage
-    by_value found e c = elim (is_or_not (old && is_text_kind number)) [
-      | inl text ↦ inr (subst (Comes old None lines) (sym e ∙ ap (λ test. cond test scan.CodePage (scan.Complete (SetValue name number bytes))) text) c)
-      | inr other ↦ inl (subst (Comes old None lines) (sym e ∙ ap (λ test. cond test scan.CodePage (scan.Complete (SetValue name number bytes))) other) c)
-    ]
-
-loose_comes : (old : Bool) (lines : List (List ℕ)) (statement : Statement) → IsStatement false lines statement → Comes old None lines (scan.Complete statement) ⊎ Comes old None lines scan.CodePage
-loose_comes old lines (CreateKey path) s = inl (statement_comes old lines (CreateKey path) s)
-loose_comes old lines (DeleteKey path) s = inl (statement_comes old lines (DeleteKey path) s)
-loose_comes old lines (SetValue name number bytes) (inl plain) = inl (plain_value_comes old lines name number bytes plain)
-loose_comes old lines (SetValue name number bytes) (inr (list, form)) = loose_value old lines name number bytes list
-loose_comes old lines (DeleteValue name) s = inl (statement_comes old lines (DeleteValue name) s)
-
 module _ (old has_key : Bool) (number : ℕ) (what : FaultKind) (begins : IsBeginning what) where
   -- lines that come to something are no such fault
   no_such_end : (lines : List (List ℕ)) (more : List (Option (List ℕ))) (found : Scan) → Comes old None lines found → (behind old has_key number None lines more found ≡ stopped (record { line = number; kind = what }) → ⊥) → file_from old has_key number None (texts lines ++ more) ≡ stopped (record { line = number; kind = what }) → ⊥
-  no_such_end lines more found c never e = elim (lines_come old has_key number None lines more found c) [
-    | inl high ↦ other_kind number number kind.CodePage what (λ b. b) begins (sym high ∙ e)
-    | inr runs ↦ never (sym runs ∙ e)
-  ]
+  no_such_end lines more found c never e = never (sym (lines_come old has_key number None lines more found c) ∙ e)
 
   judged_no : (rest : Bool → Option Item → RegFile) (room : ℕ) (statement : Statement) → after_turn rest (judged number has_key room statement) ≡ stopped (record { line = number; kind = what }) → ⊥
   judged_no rest room statement e = by_tests (wants_key statement && not has_key) (room == 0) e
@@ -152,23 +129,19 @@ module _ (old has_key : Bool) (number : ℕ) (what : FaultKind) (begins : IsBegi
       by_tests false true f = other_kind number number kind.TooLarge what (λ b. b) begins f
       by_tests false false f = not_done (record { line = number; statement = statement }) (rest (key_after statement has_key) None) (record { line = number; kind = what }) f
 
-  pub begins_none : (left : List (Option (List ℕ))) → file_from old has_key number None left ≡ stopped (record { line = number; kind = what }) → BeginsNoEntry left
+  pub begins_none : (left : List (Option (List ℕ))) → file_from old has_key number None left ≡ stopped (record { line = number; kind = what }) → BeginsNoEntry old left
   begins_none left e lines statement more parsed entry = by_entry statement entry (ap (file_from old has_key number None) (sym parsed) ∙ e)
     where
-      by_entry : (found : Option Statement) → IsEntry false lines found → file_from old has_key number None (texts lines ++ more) ≡ stopped (record { line = number; kind = what }) → ⊥
+      by_entry : (found : Option Statement) → IsEntry old lines found → file_from old has_key number None (texts lines ++ more) ≡ stopped (record { line = number; kind = what }) → ⊥
       by_entry None (line, one, blank) f =
           no_such_end lines more scan.Nothing (subst (λ all. Comes old None all scan.Nothing) (sym one) (blank_comes old line blank))
           (λ g. let later = fault_later old has_key (number + length lines) more (record { line = number; kind = what }) g in let count : length lines ≡ 1 = ap length one in omega (arith, later, count)) f
-      by_entry (Some found) s f = elim (loose_comes old lines found s) [
-        | inl c ↦ no_such_end lines more (scan.Complete found) c (judged_no (rest_file old (number + length lines) more) (room_behind None lines) found) f
-        | inr c ↦ no_such_end lines more scan.CodePage c (other_kind number number kind.CodePage what (λ b. b) begins) f
-      ]
+      by_entry (Some found) s f = no_such_end lines more (scan.Complete found) (statement_comes old lines found s) (judged_no (rest_file old (number + length lines) more) (room_behind None lines) found) f
 
 -- what a fault stands at
 pub stands : (old has_key : Bool) (number : ℕ) (left : List (Option (List ℕ))) (what : FaultKind) → file_from old has_key number None left ≡ stopped (record { line = number; kind = what }) → Details old has_key [] left what → Stands old has_key left what
 stands old has_key number left kind.NoHeader e d = d
 stands old has_key number left kind.NotText e d = (d, begins_none old has_key number kind.NotText tt left e)
-stands old has_key number left kind.CodePage e d = d
 stands old has_key number left kind.NotUnderstood e d = begins_none old has_key number kind.NotUnderstood tt left e
 stands old has_key number left kind.NoKey e d = d
 stands old has_key number left kind.TooLarge e d = d

@@ -1,19 +1,19 @@
 -- What the grammar has is what its lines come to.
-use Rattle.std.proofs.Common.{◌≡◌, ◌≢◌, ℕ, ◌&&◌, Bool, true, false, cond, List, [], ◌∷◌, ◌++◌, Option, Some, None, refl, sym, ◌∙◌, ap, subst, inl, inr, append_assoc, arith}
+use Rattle.std.proofs.Common.{◌≡◌, ◌≢◌, ℕ, Bool, true, false, cond, List, [], ◌∷◌, ◌++◌, Option, Some, None, refl, sym, ◌∙◌, ap, subst, inl, inr, append_assoc, arith}
 use Rattle.std.specs.Prelude.{codes}
 use Rattle.std.specs.Int.{w32, to_le_bytes}
-use Rattle.reg_file.specs.Scanning.{is_blank, skip_blanks, is_end, ends_line, QuoteCloses, quote_at, onto_quote, ListEnds, ListGoesOn, NoList, Before, list_at, list_scan, onto_list}
-use Rattle.reg_file.specs.Reading.{text_data, text_scan, is_text_kind, list_value, bytes_scan, number_scan, typed_list, kind_scan, kind_or_not, list_or_kind, number_or_list, data_scan, closed_name, equals_scan, value_scan, first_scan, line_scan}
-use Rattle.reg_file.specs.Grammar.{AreBlanks, IsLineEnd, quoted, IsNamed, IsHead, IsText, AreBytes, IsList, IsType, IsNumber, IsListValue, IsPlainValue, IsStatement, IsBlankLine}
+use Rattle.reg_file.specs.Scanning.{is_blank, skip_blanks, is_tail, ends_statement, QuoteCloses, quote_at, onto_quote, ListEnds, ListGoesOn, NoList, Before, list_at, list_scan, onto_list}
+use Rattle.reg_file.specs.Reading.{text_data, text_scan, list_value, bytes_scan, number_scan, typed_list, kind_scan, kind_or_not, list_or_kind, number_or_list, data_scan, closed_name, equals_scan, value_scan, first_scan, line_scan}
+use Rattle.reg_file.specs.Grammar.{AreBlanks, IsTail, quoted, IsNamed, IsHead, IsText, AreBytes, IsList, IsType, IsNumber, IsListValue, IsPlainValue, IsStatement}
 use Rattle.reg_file.specs.declared.statement.Statement.{Statement}
 use Rattle.reg_file.specs.declared.statement.Statement.TheVariants.{CreateKey, DeleteKey, SetValue, DeleteValue}
 use Rattle.reg_file.specs.declared.scan.Pending.{Pending}
 use Rattle.reg_file.specs.declared.scan.Pending.TheVariants.{Text, List as PendingList}
 use Rattle.reg_file.specs.declared.scan.Scan.{Scan}
-use Rattle.reg_file.specs.declared.scan.Scan.TheVariants.{Nothing, Complete, GoesOn, CodePage, NotUnderstood}
-use Rattle.reg_file.proofs.BlankRuns.{is_or_not, skipped_to, line_ends, ends, not_end, stripped}
+use Rattle.reg_file.specs.declared.scan.Scan.TheVariants.{Nothing, Complete, GoesOn, NotUnderstood}
+use Rattle.reg_file.proofs.BlankRuns.{is_or_not, skipped_to, tail_ends, tails, not_tail, stripped}
 use Rattle.reg_file.proofs.QuotedText.{text_closes, text_stays_open}
-use Rattle.reg_file.proofs.HexNumbers.{number_scanned, end_no_digit}
+use Rattle.reg_file.proofs.HexNumbers.{number_scanned, tail_no_digit}
 use Rattle.reg_file.proofs.ListLines.{blanks_before, last_line_scanned, broken_line_scanned}
 use Rattle.reg_file.proofs.KeyLines.{key_line_scanned, created, deleted}
 
@@ -30,10 +30,10 @@ module _ (old : Bool) where
       ap (equals_scan old name) (skipped_to between 61 (behind ++ unit ∷ rest) b refl) ∙ ap (data_scan old name) (skipped_to behind unit rest c h)
 
   at_name : (units : List ℕ) → first_scan old (64 ∷ units) ≡ equals_scan old [] (skip_blanks units)
-  at_name units = rw (not_end 64 units (λ e. omega (arith, e))) refl
+  at_name units = ap (λ test. cond test Nothing (equals_scan old [] (skip_blanks units))) (not_tail 64 units (λ e. omega (arith, e)) (λ e. omega (arith, e)))
 
   at_quote : (units : List ℕ) → first_scan old (34 ∷ units) ≡ value_scan old (closed_name (quote_at false units))
-  at_quote units = rw (not_end 34 units (λ e. omega (arith, e))) refl
+  at_quote units = ap (λ test. cond test Nothing (value_scan old (closed_name (quote_at false units)))) (not_tail 34 units (λ e. omega (arith, e)) (λ e. omega (arith, e)))
 
   -- a line that begins with a name
   head_scanned : (line name : List ℕ) (unit : ℕ) (rest : List ℕ) → IsHead line name (unit ∷ rest) → is_blank unit ≡ false → line_scan old None line ≡ data_scan old name (unit ∷ rest)
@@ -52,8 +52,8 @@ module _ (old : Bool) where
           ∙ at_quote (quoted name ++ 34 ∷ behind) ∙ ap (λ scan. value_scan old (closed_name scan)) (text_closes name behind some) ∙ equals_scanned name head.between head.behind unit rest head.between_blanks head.behind_blanks h
 
   -- text in quotes
-  text_ends : (name text end : List ℕ) → IsLineEnd end → text_scan name (QuoteCloses text end) ≡ Complete (SetValue name 1 (text_data text))
-  text_ends name text end e = ap (λ test. cond test (Complete (SetValue name 1 (text_data text))) NotUnderstood) (line_ends end e)
+  text_ends : (name text end : List ℕ) → IsTail end → text_scan name (QuoteCloses text end) ≡ Complete (SetValue name 1 (text_data text))
+  text_ends name text end e = ap (λ test. cond test (Complete (SetValue name 1 (text_data text))) NotUnderstood) (tail_ends end e)
 
   text_comes : (name text : List ℕ) (lines : List (List ℕ)) (back : List ℕ) → IsText lines back → Comes old (Some (Text name text)) lines (Complete (SetValue name 1 (text_data (text ++ back))))
   text_comes name text [] back t = absurd t
@@ -78,11 +78,11 @@ module _ (old : Bool) where
       )
 
   -- a number
-  number_data : (name digits end : List ℕ) (number : ℕ) → IsNumber digits number → IsLineEnd end → data_scan old name (codes "dword:" ++ (digits ++ end)) ≡ Complete (SetValue name 4 (to_le_bytes w32 number))
+  number_data : (name digits end : List ℕ) (number : ℕ) → IsNumber digits number → IsTail end → data_scan old name (codes "dword:" ++ (digits ++ end)) ≡ Complete (SetValue name 4 (to_le_bytes w32 number))
   number_data name digits end number n e =
       ap (number_or_list old name (codes "dword:" ++ (digits ++ end))) (stripped (codes "dword:") (digits ++ end))
-      ∙ ap (number_scan name) (number_scanned digits end number n (end_no_digit end e))
-      ∙ ap (λ test. cond test (Complete (SetValue name 4 (to_le_bytes w32 number))) NotUnderstood) (line_ends end e)
+      ∙ ap (number_scan name) (number_scanned digits end number n (tail_no_digit end e))
+      ∙ ap (λ test. cond test (Complete (SetValue name 4 (to_le_bytes w32 number))) NotUnderstood) (tail_ends end e)
 
   -- the type of a list
   type_scanned : (name word rest : List ℕ) (kind : ℕ) → IsType word kind → data_scan old name (word ++ rest) ≡ bytes_scan old name kind rest (list_scan rest)
@@ -95,9 +95,9 @@ module _ (old : Bool) where
       ap (data_scan old name) whole ∙ ap (kind_or_not old name) (stripped (codes "hex(") (digits ++ behind))
       ∙ ap (kind_scan old name) (number_scanned digits behind kind n refl) ∙ ap (typed_list old name kind) (stripped (codes "):") rest)
 
-  -- the end of a line is no list
-  end_no_list : (line : List ℕ) → IsLineEnd line → list_at Before line ≡ NoList
-  end_no_list line e = elim e.parsed [
+  -- the end of a line, and a remark, is no list
+  tail_no_list : (line : List ℕ) → IsTail line → list_at Before line ≡ NoList
+  tail_no_list line (inl e) = elim e.parsed [
     | inl only ↦ ap (list_at Before) (only ∙ sym (nil_behind e.blanks)) ∙ blanks_before e.blanks [] e.are_blanks
     | inr return ↦ ap (list_at Before) return ∙ blanks_before e.blanks (13 ∷ []) e.are_blanks
   ]
@@ -105,10 +105,15 @@ module _ (old : Bool) where
       nil_behind : (xs : List ℕ) → xs ++ [] ≡ xs
       nil_behind [] = refl
       nil_behind (x ∷ xs) = ap (λ ys. x ∷ ys) (nil_behind xs)
+  tail_no_list line (inr (blanks, rest, e, h)) = ap (list_at Before) e ∙ blanks_before blanks (59 ∷ rest) h ∙ at_remark rest
+    where
+      at_remark : (units : List ℕ) → list_at Before (59 ∷ units) ≡ NoList
+      at_remark [] = refl
+      at_remark (unit ∷ units) = refl
 
   first_list : (line : List ℕ) → list_at Before line ≢ NoList → list_scan line ≡ list_at Before line
-  first_list line some = elim (is_or_not (ends_line line)) [
-    | inl ended ↦ absurd (some (end_no_list line (ends line ended)))
+  first_list line some = elim (is_or_not (ends_statement line)) [
+    | inl ended ↦ absurd (some (tail_no_list line (tails line ended)))
     | inr other ↦ ap (λ test. cond test (ListEnds []) (list_at Before line)) other
   ]
 
@@ -136,7 +141,7 @@ module _ (old : Bool) where
   first_lines line name data_line rest kind lines bytes scan (inl (only, e, ended, none)) =
       let same = first_of_lines rest only lines e in
       let here : line_scan old None line ≡ list_value old name kind bytes =
-      scan ∙ ap (λ test. bytes_scan old name kind rest (cond test (ListEnds []) (list_at Before rest))) (line_ends rest (subst IsLineEnd (sym same.0) ended)) ∙ ap (list_value old name kind) (sym none) in
+      scan ∙ ap (λ test. bytes_scan old name kind rest (cond test (ListEnds []) (list_at Before rest))) (tail_ends rest (subst IsTail (sym same.0) ended)) ∙ ap (list_value old name kind) (sym none) in
       subst (λ more. Comes old None (line ∷ more) (list_value old name kind bytes)) (sym same.1) here
   first_lines line name data_line rest kind [] bytes scan (inr b) =
       let here = last_line_scanned rest bytes b in
@@ -169,16 +174,6 @@ module _ (old : Bool) where
       let value : line_scan old None line ≡ Complete (SetValue name kind bytes) = here ∙ ap (λ m. Complete (SetValue name m (to_le_bytes w32 number))) (sym k) ∙ ap (λ xs. Complete (SetValue name kind xs)) (sym b) in
       subst (λ all. Comes old None all (Complete (SetValue name kind bytes))) (sym (e ∙ ap (λ xs. line ∷ xs) none)) value
 
-  not_code_page : (name : List ℕ) (kind : ℕ) (bytes : List ℕ) → (old ≡ true → is_text_kind kind ≡ false) → list_value old name kind bytes ≡ Complete (SetValue name kind bytes)
-  not_code_page name kind bytes h = elim (is_or_not old) [
-    | inl in_old ↦ ap (λ test. cond test CodePage (Complete (SetValue name kind bytes))) (either old (is_text_kind kind) (h in_old))
-    | inr in_new ↦ ap (λ test. cond (test && is_text_kind kind) CodePage (Complete (SetValue name kind bytes))) in_new
-  ]
-    where
-      either : (a b : Bool) → b ≡ false → (a && b) ≡ false
-      either true b e = e
-      either false b e = refl
-
   -- the lines of a statement come to it
   pub statement_comes : (lines : List (List ℕ)) (statement : Statement) → IsStatement old lines statement → Comes old None lines (Complete statement)
   statement_comes lines (CreateKey path) (line, written, e, k, other, p) =
@@ -186,20 +181,15 @@ module _ (old : Bool) where
   statement_comes lines (DeleteKey path) (line, written, e, k, p) =
       subst (λ all. Comes old None all (Complete (DeleteKey path))) (sym e) (key_line_scanned old line (45 ∷ written) k ∙ deleted written path p)
   statement_comes lines (SetValue name kind bytes) (inl plain) = plain_value_comes lines name kind bytes plain
-  statement_comes lines (SetValue name kind bytes) (inr (list, form)) =
-      subst (Comes old None lines) (not_code_page name kind bytes form) (list_value_comes lines name kind bytes list)
+  statement_comes lines (SetValue name kind bytes) (inr (written, list, same)) =
+      subst (λ xs. Comes old None lines (Complete (SetValue name kind xs))) (sym same) (list_value_comes lines name kind written list)
   statement_comes lines (DeleteValue name) (line, end, e, head, ended) =
-      subst (λ all. Comes old None all (Complete (DeleteValue name))) (sym e) (head_scanned line name 45 end head refl ∙ ap (λ test. cond test (Complete (DeleteValue name)) NotUnderstood) (line_ends end ended))
+      subst (λ all. Comes old None all (Complete (DeleteValue name))) (sym e) (head_scanned line name 45 end head refl ∙ ap (λ test. cond test (Complete (DeleteValue name)) NotUnderstood) (tail_ends end ended))
 
-  -- an empty line or a comment
-  pub blank_comes : (line : List ℕ) → IsBlankLine line → line_scan old None line ≡ Nothing
-  blank_comes line (inl ended) = at_word (skip_blanks line) (line_ends line ended)
+  -- an empty line or a remark
+  pub blank_comes : (line : List ℕ) → IsTail line → line_scan old None line ≡ Nothing
+  blank_comes line tail = at_word (skip_blanks line) (tail_ends line tail)
     where
-      at_word : (word : List ℕ) → is_end word ≡ true → first_scan old word ≡ Nothing
+      at_word : (word : List ℕ) → is_tail word ≡ true → first_scan old word ≡ Nothing
       at_word [] h = refl
       at_word (unit ∷ units) h = rw h refl
-  blank_comes line (inr (blanks, rest, e, h)) =
-      ap (line_scan old None) e ∙ ap (first_scan old) (skipped_to blanks 59 rest h refl) ∙ at_comment rest
-    where
-      at_comment : (units : List ℕ) → first_scan old (59 ∷ units) ≡ Nothing
-      at_comment units = rw (not_end 59 units (λ e. omega (arith, e))) refl

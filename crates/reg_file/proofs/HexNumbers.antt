@@ -3,7 +3,7 @@ use Rattle.std.proofs.Common.{◌≡◌, ◌≢◌, ℕ, ◌+◌, ◌-◌, ◌*�
 use Rattle.std.specs.Prelude.{◌⊎◌, ◌||◌}
 use Rattle.std.specs.Option.{option_and_then}
 use Rattle.reg_file.specs.Scanning.{is_blank, digit_of, digits_from, number_at}
-use Rattle.reg_file.specs.Grammar.{AreBlanks, IsLineEnd, GoOn, IsNumber}
+use Rattle.reg_file.specs.Grammar.{AreBlanks, IsLineEnd, IsTail, GoOn, IsNumber}
 use Rattle.reg_file.proofs.Scans.{pair_same, digit_step}
 use Rattle.reg_file.proofs.BlankRuns.{same_unit, is_or_not}
 
@@ -37,12 +37,30 @@ end_first unit units e = first e.blanks e.are_blanks e.parsed
         any (inl x) = inl x
         any (inr y) = inr (inl y)
 
-pub end_no_digit : (units : List ℕ) → IsLineEnd units → NoDigit units
-end_no_digit [] e = tt
-end_no_digit (unit ∷ units) e = elim (end_first unit units e) [
+-- and what may stand behind a statement so, or with a semicolon
+pub tail_first : (unit : ℕ) (units : List ℕ) → IsTail (unit ∷ units) → (unit ≡ 32) ⊎ (unit ≡ 9) ⊎ (unit ≡ 13) ⊎ (unit ≡ 59)
+tail_first unit units (inl ended) = elim (end_first unit units ended) [
+  | inl blank ↦ inl blank
+  | inr (inl tab) ↦ inr (inl tab)
+  | inr (inr return) ↦ inr (inr (inl return))
+]
+tail_first unit units (inr (blanks, rest, e, h)) = first blanks h e
+  where
+    first : (blanks : List ℕ) → AreBlanks blanks → unit ∷ units ≡ blanks ++ 59 ∷ rest → (unit ≡ 32) ⊎ (unit ≡ 9) ⊎ (unit ≡ 13) ⊎ (unit ≡ 59)
+    first [] h p = inr (inr (inr cc))
+    first (blank ∷ blanks) h p = let same : unit ≡ blank = cc in any (blank_is unit (subst (λ u. is_blank u ≡ true) (sym same) h.0))
+      where
+        any : (unit ≡ 32) ⊎ (unit ≡ 9) → (unit ≡ 32) ⊎ (unit ≡ 9) ⊎ (unit ≡ 13) ⊎ (unit ≡ 59)
+        any (inl x) = inl x
+        any (inr y) = inr (inl y)
+
+pub tail_no_digit : (units : List ℕ) → IsTail units → NoDigit units
+tail_no_digit [] e = tt
+tail_no_digit (unit ∷ units) e = elim (tail_first unit units e) [
   | inl blank ↦ ap digit_of blank
   | inr (inl tab) ↦ ap digit_of tab
-  | inr (inr return) ↦ ap digit_of return
+  | inr (inr (inl return)) ↦ ap digit_of return
+  | inr (inr (inr remark)) ↦ ap digit_of remark
 ]
 
 -- digits by the grammar are scanned

@@ -1,61 +1,58 @@
 -- Lines that name a key, by the grammar and as they are scanned.
-use Rattle.std.proofs.Common.{◌≡◌, ◌≢◌, ℕ, ◌==◌, Bool, true, false, cond, List, [], ◌∷◌, ◌++◌, None, refl, sym, ◌∙◌, ap, subst, inl, inr, append_assoc, arith}
+use Rattle.std.proofs.Common.{◌≡◌, ◌≢◌, ℕ, suc, ◌==◌, Bool, true, false, cond, List, [], ◌∷◌, ◌++◌, length, drop, None, refl, sym, ◌∙◌, ap, subst, inl, inr, append_assoc, arith}
 use Rattle.std.specs.Prelude.{◌⊎◌, reverse}
-use Rattle.std.proofs.lemmas.List.{reverse-append, reverse-reverse}
-use Rattle.reg_file.specs.Scanning.{is_blank, skip_blanks, skip_return, backwards}
+use Rattle.std.proofs.lemmas.List.{length-reverse, reverse-append, reverse-reverse}
+use Rattle.reg_file.specs.Scanning.{from_bracket}
 use Rattle.reg_file.specs.Reading.{skip_separator, without_separator, key_between, closed_key, key_scan, first_scan, line_scan}
-use Rattle.reg_file.specs.Grammar.{AreBlanks, IsLineEnd, IsPath, IsKeyLine}
+use Rattle.reg_file.specs.Grammar.{HasNoBracket, IsTail, IsPath, IsKeyLine}
 use Rattle.reg_file.specs.declared.statement.Statement.TheVariants.{CreateKey, DeleteKey}
-use Rattle.reg_file.specs.declared.scan.Scan.TheVariants.{Complete}
+use Rattle.reg_file.specs.declared.scan.Scan.TheVariants.{Nothing, Complete, NotUnderstood}
 use Rattle.reg_file.proofs.Scans.{other_than}
-use Rattle.reg_file.proofs.BlankRuns.{same_unit, is_or_not, skipped_to, skips, not_end}
-use Rattle.reg_file.proofs.HexNumbers.{blank_is}
+use Rattle.reg_file.proofs.BlankRuns.{by_test, same_unit, true_is_not_false, is_or_not, skipped_to, tail_ends, not_tail}
 
--- blanks from the last to the first
-blanks_append : (xs ys : List ℕ) → AreBlanks xs → AreBlanks ys → AreBlanks (xs ++ ys)
-blanks_append [] ys h k = k
-blanks_append (x ∷ xs) ys h k = (h.0, blanks_append xs ys h.1 k)
+-- units without a bracket, from the last to the first
+no_bracket_append : (xs ys : List ℕ) → HasNoBracket xs → HasNoBracket ys → HasNoBracket (xs ++ ys)
+no_bracket_append [] ys h k = k
+no_bracket_append (x ∷ xs) ys h k = (h.0, no_bracket_append xs ys h.1 k)
 
 reverse_first : (x : ℕ) (xs : List ℕ) → reverse (x ∷ xs) ≡ reverse xs ++ x ∷ []
 reverse_first x xs = reverse-append (x ∷ []) xs
 
-blanks_reverse : (xs : List ℕ) → AreBlanks xs → AreBlanks (reverse xs)
-blanks_reverse [] h = h
-blanks_reverse (x ∷ xs) h = subst AreBlanks (sym (reverse_first x xs)) (blanks_append (reverse xs) (x ∷ []) (blanks_reverse xs h.1) (h.0, tt))
-
-blank_no_return : (unit : ℕ) → is_blank unit ≡ true → (unit == 13) ≡ false
-blank_no_return unit h = elim (blank_is unit h) [ inl blank ↦ ap (λ u. u == 13) blank | inr tab ↦ ap (λ u. u == 13) tab ]
-
-no_return : (blanks rest : List ℕ) → AreBlanks blanks → skip_return (blanks ++ 93 ∷ rest) ≡ blanks ++ 93 ∷ rest
-no_return [] rest h = refl
-no_return (blank ∷ blanks) rest h = ap (λ test. cond test (blanks ++ 93 ∷ rest) (blank ∷ (blanks ++ 93 ∷ rest))) (blank_no_return blank h.0)
+no_bracket_reverse : (xs : List ℕ) → HasNoBracket xs → HasNoBracket (reverse xs)
+no_bracket_reverse [] h = h
+no_bracket_reverse (x ∷ xs) h = subst HasNoBracket (sym (reverse_first x xs)) (no_bracket_append (reverse xs) (x ∷ []) (no_bracket_reverse xs h.1) (h.0, tt))
 
 back_of : (inside end : List ℕ) → reverse (inside ++ 93 ∷ end) ≡ reverse end ++ 93 ∷ reverse inside
 back_of inside end =
     reverse-append inside (93 ∷ end) ∙ ap (λ xs. xs ++ reverse inside) (reverse_first 93 end) ∙ append_assoc (reverse end) (93 ∷ []) (reverse inside)
 
--- behind the last bracket nothing but the end of the line stands
-pub bracket_last : (inside end : List ℕ) → IsLineEnd end → backwards (inside ++ 93 ∷ end) ≡ 93 ∷ reverse inside
-bracket_last inside end e = ap (λ xs. skip_blanks (skip_return xs)) (back_of inside end) ∙ elim e.parsed [
-  | inl only ↦
-      ap (λ xs. skip_blanks (skip_return (reverse xs ++ 93 ∷ reverse inside))) only
-      ∙ ap skip_blanks (no_return (reverse e.blanks) (reverse inside) (blanks_reverse e.blanks e.are_blanks))
-      ∙ skipped_to (reverse e.blanks) 93 (reverse inside) (blanks_reverse e.blanks e.are_blanks) refl
-  | inr return ↦
-      ap (λ xs. skip_blanks (skip_return (reverse xs ++ 93 ∷ reverse inside))) return
-      ∙ ap (λ xs. skip_blanks (skip_return (xs ++ 93 ∷ reverse inside))) (reverse-append e.blanks (13 ∷ []))
-      ∙ skipped_to (reverse e.blanks) 93 (reverse inside) (blanks_reverse e.blanks e.are_blanks) refl
-]
+-- the last bracket is the first one from the back
+no_bracket_skipped : (back rest : List ℕ) → HasNoBracket back → from_bracket (back ++ 93 ∷ rest) ≡ 93 ∷ rest
+no_bracket_skipped [] rest h = refl
+no_bracket_skipped (unit ∷ back) rest h = ap (λ test. cond test (unit ∷ (back ++ 93 ∷ rest)) (from_bracket (back ++ 93 ∷ rest))) (other_than unit 93 h.0) ∙ no_bracket_skipped back rest h.1
 
--- a key's line is scanned by what stands between the brackets
+bracket_last : (inside end : List ℕ) → HasNoBracket end → from_bracket (reverse (inside ++ 93 ∷ end)) ≡ 93 ∷ reverse inside
+bracket_last inside end h = ap from_bracket (back_of inside end) ∙ no_bracket_skipped (reverse end) (reverse inside) (no_bracket_reverse end h)
+
+behind_bracket : (inside end : List ℕ) → drop (suc (length inside)) (inside ++ 93 ∷ end) ≡ end
+behind_bracket [] end = refl
+behind_bracket (unit ∷ inside) end = behind_bracket inside end
+
+-- a key is scanned by what stands between the brackets
+pub key_scanned : (inside end : List ℕ) → IsTail end → HasNoBracket end → key_scan (inside ++ 93 ∷ end) ≡ key_between inside
+key_scanned inside end tail h =
+    let line = inside ++ 93 ∷ end in
+    ap (λ back. closed_key back (drop (length back) line)) (bracket_last inside end h)
+    ∙ ap (closed_key (93 ∷ reverse inside)) (ap (λ n. drop (suc n) line) (length-reverse inside) ∙ behind_bracket inside end)
+    ∙ ap (λ test. cond test (key_between (reverse (reverse inside))) NotUnderstood) (tail_ends end tail) ∙ ap key_between (reverse-reverse inside)
+
 pub key_line_scanned : (old : Bool) (line inside : List ℕ) → IsKeyLine line inside → line_scan old None line ≡ key_between inside
 key_line_scanned old line inside k =
     let behind = inside ++ 93 ∷ k.end in
-    ap (line_scan old None) k.parsed ∙ ap (first_scan old) (skipped_to k.before 91 behind k.before_blanks refl) ∙ at_bracket behind
-    ∙ ap closed_key (bracket_last inside k.end k.is_end) ∙ ap key_between (reverse-reverse inside)
+    ap (line_scan old None) k.parsed ∙ ap (first_scan old) (skipped_to k.before 91 behind k.before_blanks refl) ∙ at_bracket behind ∙ key_scanned inside k.end k.is_tail k.last
   where
     at_bracket : (behind : List ℕ) → first_scan old (91 ∷ behind) ≡ key_scan behind
-    at_bracket behind = rw (not_end 91 behind (λ e. omega (arith, e))) refl
+    at_bracket behind = ap (λ test. cond test Nothing (key_scan behind)) (not_tail 91 behind (λ e. omega (arith, e)) (λ e. omega (arith, e)))
 
 -- the end of a path
 path_trimmed : (written path : List ℕ) → IsPath written path → without_separator written ≡ path
@@ -109,38 +106,47 @@ path_is written = from_back (reverse written) refl
             bad b = cc
 
 -- what stands behind the last bracket
-pub record IsBracketed (line inside : List ℕ) : Type 0 where
+pub record IsBracketed (line back : List ℕ) : Type 0 where
   pub end : List ℕ
-  pub parsed : line ≡ inside ++ 93 ∷ end
-  pub is_end : IsLineEnd end
+  pub parsed : line ≡ reverse back ++ 93 ∷ end
+  pub behind : drop (suc (length back)) line ≡ end
+  pub last : HasNoBracket end
 
-front_of : (line back : List ℕ) → reverse line ≡ back → line ≡ reverse back
-front_of line back e = sym (reverse-reverse line) ∙ ap reverse e
+record SkipsTo (back rest : List ℕ) : Type 0 where
+  skipped : List ℕ
+  none : HasNoBracket skipped
+  parsed : back ≡ skipped ++ rest
 
-with_return : (line : List ℕ) → (reverse line ≡ skip_return (reverse line)) ⊎ (reverse line ≡ 13 ∷ skip_return (reverse line))
-with_return line = go (reverse line)
+skips_to : (back : List ℕ) → SkipsTo back (from_bracket back)
+skips_to [] = record { skipped = []; none = tt; parsed = refl }
+skips_to (unit ∷ units) =
+    by_test (SkipsTo (unit ∷ units)) (unit == 93) (unit ∷ units) (from_bracket units) (λ bracket. record { skipped = []; none = tt; parsed = refl })
+    (λ other. one_more (skips_to units) (λ e. true_is_not_false (unit == 93) (ap (λ u. u == 93) e) other))
   where
-    go : (back : List ℕ) → (back ≡ skip_return back) ⊎ (back ≡ 13 ∷ skip_return back)
-    go [] = inl refl
-    go (unit ∷ units) = elim (is_or_not (unit == 13)) [
-      | inl return ↦ inr (ap (λ u. u ∷ units) (same_unit unit 13 return) ∙ ap (λ test. 13 ∷ cond test units (unit ∷ units)) (sym return))
-      | inr other ↦ inl (ap (λ test. cond test units (unit ∷ units)) (sym other))
-    ]
+    one_more : SkipsTo units (from_bracket units) → unit ≢ 93 → SkipsTo (unit ∷ units) (from_bracket units)
+    one_more s other = record { skipped = unit ∷ s.skipped; none = (other, s.none); parsed = ap (λ xs. unit ∷ xs) s.parsed }
 
-pub bracketed : (line : List ℕ) (back : List ℕ) → backwards line ≡ 93 ∷ back → IsBracketed line (reverse back)
+pub bracket_first : (back : List ℕ) (unit : ℕ) (rest : List ℕ) → from_bracket back ≡ unit ∷ rest → unit ≡ 93
+bracket_first [] unit rest e = cc
+bracket_first (other ∷ units) unit rest e = elim (is_or_not (other == 93)) [
+  | inl bracket ↦
+      let same : other ∷ units ≡ unit ∷ rest = sym (ap (λ test. cond test (other ∷ units) (from_bracket units)) bracket) ∙ e in
+      first same ∙ same_unit other 93 bracket
+  | inr differs ↦ bracket_first units unit rest (sym (ap (λ test. cond test (other ∷ units) (from_bracket units)) differs) ∙ e)
+]
+  where
+    first : other ∷ units ≡ unit ∷ rest → unit ≡ other
+    first e = cc
+
+pub bracketed : (line back : List ℕ) → from_bracket (reverse line) ≡ 93 ∷ back → IsBracketed line back
 bracketed line back e =
-    let s = skips (skip_return (reverse line)) in
-    let rest : skip_return (reverse line) ≡ s.blanks ++ 93 ∷ back = s.parsed ∙ ap (λ xs. s.blanks ++ xs) e in
-    let turned : reverse (s.blanks ++ 93 ∷ back) ≡ reverse back ++ 93 ∷ reverse s.blanks = reverse-append s.blanks (93 ∷ back) ∙ ap (λ xs. xs ++ reverse s.blanks) (reverse_first 93 back) ∙ append_assoc (reverse back) (93 ∷ []) (reverse s.blanks) in
-    elim (with_return line) [
-      | inl none ↦ record {
-        end = reverse s.blanks;
-        parsed = front_of line (s.blanks ++ 93 ∷ back) (none ∙ rest) ∙ turned;
-        is_end = record { blanks = reverse s.blanks; are_blanks = blanks_reverse s.blanks s.are_blanks; parsed = inl refl };
-      }
-      | inr one ↦ record {
-        end = reverse s.blanks ++ 13 ∷ [];
-        parsed = front_of line (13 ∷ (s.blanks ++ 93 ∷ back)) (one ∙ ap (λ xs. 13 ∷ xs) rest) ∙ reverse_first 13 (s.blanks ++ 93 ∷ back) ∙ ap (λ xs. xs ++ 13 ∷ []) turned ∙ append_assoc (reverse back) (93 ∷ reverse s.blanks) (13 ∷ []);
-        is_end = record { blanks = reverse s.blanks; are_blanks = blanks_reverse s.blanks s.are_blanks; parsed = inr refl };
-      }
-    ]
+    let s = skips_to (reverse line) in
+    let end = reverse s.skipped in
+    let whole : reverse line ≡ s.skipped ++ 93 ∷ back = s.parsed ∙ ap (λ xs. s.skipped ++ xs) e in
+    let parsed : line ≡ reverse back ++ 93 ∷ end = sym (reverse-reverse line) ∙ ap reverse whole ∙ back_of s.skipped back in
+    record {
+      end = end;
+      parsed = parsed;
+      behind = ap (drop (suc (length back))) parsed ∙ ap (λ n. drop (suc n) (reverse back ++ 93 ∷ end)) (sym (length-reverse back)) ∙ behind_bracket (reverse back) end;
+      last = no_bracket_reverse s.skipped s.none;
+    }

@@ -1,10 +1,10 @@
 -- Lines of lists of bytes, by the grammar and as they are scanned.
 use Rattle.std.proofs.Common.{◌≡◌, ◌≢◌, ℕ, ◌+◌, ◌*◌, ◌==◌, true, false, cond, List, [], ◌∷◌, ◌++◌, Option, Some, None, refl, sym, ◌∙◌, ap, inl, inr}
-use Rattle.reg_file.specs.Scanning.{is_blank, ends_line, digit_of, ListScan, ListEnds, ListGoesOn, NoList, onto_list, onto_pair, Before, Within, Behind, list_at}
-use Rattle.reg_file.specs.Grammar.{AreBlanks, IsLineEnd, IsPair, IsLastLine, IsBrokenLine}
+use Rattle.reg_file.specs.Scanning.{is_blank, ends_statement, digit_of, ListScan, ListEnds, ListGoesOn, NoList, onto_list, onto_pair, Before, Within, Behind, list_at}
+use Rattle.reg_file.specs.Grammar.{AreBlanks, IsTail, IsPair, IsLastLine, IsBrokenLine}
 use Rattle.reg_file.proofs.Scans.{at_pair}
-use Rattle.reg_file.proofs.BlankRuns.{by_test, same_unit, is_or_not, line_ends, ends}
-use Rattle.reg_file.proofs.HexNumbers.{blank_is, end_first}
+use Rattle.reg_file.proofs.BlankRuns.{by_test, same_unit, is_or_not, tail_ends, tails}
+use Rattle.reg_file.proofs.HexNumbers.{blank_is, tail_first}
 
 no_digit : (unit digit : ℕ) → digit_of unit ≡ Some digit → digit_of unit ≡ None → ⊥
 no_digit unit digit e f = bad (sym f ∙ e)
@@ -25,7 +25,7 @@ digit_no_backslash unit digit d e = no_digit unit digit d (ap digit_of e)
 pub blanks_before : (blanks rest : List ℕ) → AreBlanks blanks → list_at Before (blanks ++ rest) ≡ list_at Before rest
 blanks_before [] rest h = refl
 blanks_before (unit ∷ units) rest h =
-    ap (λ test. cond test (list_at Before (units ++ rest)) (cond (unit == 92) (cond (ends_line (units ++ rest)) (ListGoesOn []) NoList) (list_at (Within (digit_of unit)) (units ++ rest)))) h.0
+    ap (λ test. cond test (list_at Before (units ++ rest)) (cond (unit == 92) (cond (ends_statement (units ++ rest)) (ListGoesOn []) NoList) (list_at (Within (digit_of unit)) (units ++ rest)))) h.0
     ∙ blanks_before units rest h.1
 
 -- a pair
@@ -37,18 +37,19 @@ pair_scanned pair rest byte p =
     ∙ ap (λ low. onto_pair (Some p.high) low (list_at Behind rest)) p.low_is
     ∙ ap (λ b. onto_list (b ∷ []) (list_at Behind rest)) (sym p.value)
 
--- the end of a line behind a pair
-end_scanned : (end : List ℕ) → IsLineEnd end → list_at Behind end ≡ ListEnds []
+-- the end of a line, or a remark, behind a pair
+end_scanned : (end : List ℕ) → IsTail end → list_at Behind end ≡ ListEnds []
 end_scanned [] e = refl
 end_scanned (unit ∷ units) e =
-    ap (λ test. cond test (list_at Before units) (cond (ends_line (unit ∷ units)) (ListEnds []) NoList)) no_comma
-    ∙ ap (λ test. cond test (ListEnds []) NoList) (line_ends (unit ∷ units) e)
+    ap (λ test. cond test (list_at Before units) (cond (ends_statement (unit ∷ units)) (ListEnds []) NoList)) no_comma
+    ∙ ap (λ test. cond test (ListEnds []) NoList) (tail_ends (unit ∷ units) e)
   where
     no_comma : (unit == 44) ≡ false
-    no_comma = elim (end_first unit units e) [
+    no_comma = elim (tail_first unit units e) [
       | inl blank ↦ ap (λ u. u == 44) blank
       | inr (inl tab) ↦ ap (λ u. u == 44) tab
-      | inr (inr return) ↦ ap (λ u. u == 44) return
+      | inr (inr (inl return)) ↦ ap (λ u. u == 44) return
+      | inr (inr (inr remark)) ↦ ap (λ u. u == 44) remark
     ]
 
 -- lines by the grammar are scanned
@@ -61,7 +62,7 @@ last_line_scanned line (byte ∷ next ∷ bytes) (blanks, pair, rest, e, h, p, m
 
 pub broken_line_scanned : (line bytes : List ℕ) → IsBrokenLine line bytes → list_at Before line ≡ ListGoesOn bytes
 broken_line_scanned line [] (blanks, end, e, h, ended) =
-    ap (list_at Before) e ∙ blanks_before blanks (92 ∷ end) h ∙ ap (λ test. cond test (ListGoesOn []) NoList) (line_ends end ended)
+    ap (list_at Before) e ∙ blanks_before blanks (92 ∷ end) h ∙ ap (λ test. cond test (ListGoesOn []) NoList) (tail_ends end ended)
 broken_line_scanned line (byte ∷ bytes) (blanks, pair, rest, e, h, p, more) =
     ap (list_at Before) e ∙ blanks_before blanks (pair ++ 44 ∷ rest) h ∙ pair_scanned pair (44 ∷ rest) byte p ∙ ap (onto_list (byte ∷ [])) (broken_line_scanned rest bytes more)
 
@@ -72,7 +73,7 @@ IsListScanned line (ListGoesOn bytes) = IsBrokenLine line bytes
 IsListScanned line NoList = Unit {0}
 
 abbrev IsBehindScanned : List ℕ → ListScan → Type 0
-IsBehindScanned rest (ListEnds []) = IsLineEnd rest
+IsBehindScanned rest (ListEnds []) = IsTail rest
 IsBehindScanned rest (ListEnds (byte ∷ bytes)) = (more : List ℕ) × (rest ≡ 44 ∷ more) × IsLastLine more (byte ∷ bytes)
 IsBehindScanned rest (ListGoesOn bytes) = (more : List ℕ) × (rest ≡ 44 ∷ more) × IsBrokenLine more bytes
 IsBehindScanned rest NoList = Unit {0}
@@ -113,18 +114,18 @@ comma_behind comma more NoList e l = tt
 
 behind_scanned : (unit : ℕ) (more : List ℕ) → IsListScanned more (list_at Before more) → IsBehindScanned (unit ∷ more) (list_at Behind (unit ∷ more))
 behind_scanned unit more l =
-    by_test (IsBehindScanned (unit ∷ more)) (unit == 44) (list_at Before more) (cond (ends_line (unit ∷ more)) (ListEnds []) NoList) (λ comma. comma_behind unit more (list_at Before more) (same_unit unit 44 comma) l)
-    (λ other. by_test (IsBehindScanned (unit ∷ more)) (ends_line (unit ∷ more)) (ListEnds []) NoList (λ ended. ends (unit ∷ more) ended) (λ no. tt))
+    by_test (IsBehindScanned (unit ∷ more)) (unit == 44) (list_at Before more) (cond (ends_statement (unit ∷ more)) (ListEnds []) NoList) (λ comma. comma_behind unit more (list_at Before more) (same_unit unit 44 comma) l)
+    (λ other. by_test (IsBehindScanned (unit ∷ more)) (ends_statement (unit ∷ more)) (ListEnds []) NoList (λ ended. tails (unit ∷ more) ended) (λ no. tt))
 
-end_of_nothing : IsLineEnd []
-end_of_nothing = record { blanks = []; are_blanks = tt; parsed = inl refl }
+end_of_nothing : IsTail []
+end_of_nothing = inl (record { blanks = []; are_blanks = tt; parsed = inl refl })
 
 at_unit : (unit : ℕ) (units : List ℕ) → IsListScanned units (list_at Before units) → IsListScanned (unit ∷ units) (list_at (Within (digit_of unit)) units) → IsListScanned (unit ∷ units) (list_at Before (unit ∷ units))
 at_unit unit units behind within =
-    by_test (IsListScanned (unit ∷ units)) (is_blank unit) (list_at Before units) (cond (unit == 92) (cond (ends_line units) (ListGoesOn []) NoList) (list_at (Within (digit_of unit)) units))
+    by_test (IsListScanned (unit ∷ units)) (is_blank unit) (list_at Before units) (cond (unit == 92) (cond (ends_statement units) (ListGoesOn []) NoList) (list_at (Within (digit_of unit)) units))
     (λ blank. one_blank unit units (list_at Before units) blank behind)
-    (λ other. by_test (IsListScanned (unit ∷ units)) (unit == 92) (cond (ends_line units) (ListGoesOn []) NoList) (list_at (Within (digit_of unit)) units)
-    (λ backslash. by_test (IsListScanned (unit ∷ units)) (ends_line units) (ListGoesOn []) NoList (λ ended. ([], units, ap (λ u. u ∷ units) (same_unit unit 92 backslash), tt, ends units ended)) (λ no. tt))
+    (λ other. by_test (IsListScanned (unit ∷ units)) (unit == 92) (cond (ends_statement units) (ListGoesOn []) NoList) (list_at (Within (digit_of unit)) units)
+    (λ backslash. by_test (IsListScanned (unit ∷ units)) (ends_statement units) (ListGoesOn []) NoList (λ ended. ([], units, ap (λ u. u ∷ units) (same_unit unit 92 backslash), tt, tails units ended)) (λ no. tt))
     (λ digit. within))
 
 -- the line is spelled by what was scanned of it

@@ -1,20 +1,20 @@
 -- What a line comes to is what the grammar has.
-use Rattle.std.proofs.Common.{◌≡◌, ℕ, ◌==◌, ◌&&◌, Bool, true, false, cond, List, [], ◌∷◌, ◌++◌, Option, Some, None, refl, sym, ◌∙◌, ap, subst, inl, inr, append_assoc}
+use Rattle.std.proofs.Common.{◌≡◌, ℕ, ◌==◌, Bool, true, false, cond, List, [], ◌∷◌, ◌++◌, length, drop, Option, Some, None, refl, sym, ◌∙◌, ap, subst, inl, inr, append_assoc}
 use Rattle.std.specs.Prelude.{codes, reverse}
 use Rattle.std.specs.Int.{w32, to_le_bytes}
-use Rattle.reg_file.specs.Scanning.{skip_blanks, is_end, ends_line, strip, backwards, number_at, QuoteScan, QuoteCloses, QuoteStaysOpen, NoQuote, quote_at, onto_quote, ListScan, ListEnds, ListGoesOn, NoList, Before, list_at, list_scan, onto_list, goes_on}
-use Rattle.reg_file.specs.Reading.{text_data, text_scan, is_text_kind, list_value, wrong_list, bytes_scan, number_scan, typed_list, kind_scan, kind_or_not, list_or_kind, number_or_list, typed_scan, data_scan, closed_name, name_at, equals_scan, value_scan, without_separator, key_between, closed_key, key_scan, first_scan, line_scan}
-use Rattle.reg_file.specs.Grammar.{AreBlanks, IsNamed, IsHead, IsText, AreBytes, IsType, IsNumber, IsListValue, IsPlainValue, IsKeyLine, IsLineEnd, quoted, IsPair, IsStatement, IsBlankLine, IsWrongList, MayGoOn}
+use Rattle.reg_file.specs.Scanning.{skip_blanks, is_tail, ends_statement, strip, from_bracket, number_at, QuoteScan, QuoteCloses, QuoteStaysOpen, NoQuote, quote_at, onto_quote, ListScan, ListEnds, ListGoesOn, NoList, Before, list_at, list_scan, onto_list, goes_on}
+use Rattle.reg_file.specs.Reading.{text_data, text_scan, list_data, list_value, wrong_list, bytes_scan, number_scan, typed_list, kind_scan, kind_or_not, list_or_kind, number_or_list, typed_scan, data_scan, closed_name, name_at, equals_scan, value_scan, without_separator, key_between, closed_key, key_scan, first_scan, line_scan}
+use Rattle.reg_file.specs.Grammar.{AreBlanks, IsNamed, IsHead, IsText, AreBytes, IsType, IsNumber, IsListValue, IsPlainValue, IsKeyLine, IsTail, quoted, IsPair, IsStatement, IsWrongList, MayGoOn}
 use Rattle.reg_file.specs.declared.statement.Statement.TheVariants.{CreateKey, DeleteKey, SetValue, DeleteValue}
 use Rattle.reg_file.specs.declared.scan.Pending.{Pending}
 use Rattle.reg_file.specs.declared.scan.Pending.TheVariants.{Text, List as PendingList, WrongList}
 use Rattle.reg_file.specs.declared.scan.Scan.{Scan}
-use Rattle.reg_file.specs.declared.scan.Scan.TheVariants.{Nothing, Complete, GoesOn, CodePage, NotUnderstood}
-use Rattle.reg_file.proofs.BlankRuns.{by_test, same_unit, Skips, skips, ends, strips}
+use Rattle.reg_file.specs.declared.scan.Scan.TheVariants.{Nothing, Complete, GoesOn, NotUnderstood}
+use Rattle.reg_file.proofs.BlankRuns.{by_test, same_unit, Skips, skips, tails, strips}
 use Rattle.reg_file.proofs.QuotedText.{IsScanned, is_scanned}
 use Rattle.reg_file.proofs.HexNumbers.{number_goes}
 use Rattle.reg_file.proofs.ListLines.{IsListScanned, list_scanned}
-use Rattle.reg_file.proofs.KeyLines.{path_is, IsBracketed, bracketed}
+use Rattle.reg_file.proofs.KeyLines.{path_is, IsBracketed, bracket_first, bracketed}
 
 -- what ends a statement that goes on behind these lines
 abbrev pub Ends : Bool → List (List ℕ) → Pending → Type 0
@@ -24,32 +24,14 @@ Ends old lines WrongList = IsWrongList lines
 
 -- what a scan says of the lines that it comes from
 abbrev pub Means : Bool → List (List ℕ) → Scan → Type 0
-Means old lines Nothing = (line : List ℕ) × (lines ≡ line ∷ []) × IsBlankLine line
+Means old lines Nothing = (line : List ℕ) × (lines ≡ line ∷ []) × IsTail line
 Means old lines (Complete statement) = IsStatement old lines statement
 Means old lines (GoesOn pending) = Ends old lines pending
-Means old lines CodePage = (old ≡ true) × ((name : List ℕ) × (kind : ℕ) × (bytes : List ℕ) × IsListValue lines name kind bytes × (is_text_kind kind ≡ true))
 Means old lines NotUnderstood = Unit {0}
-
-both_true : (a b : Bool) → (a && b) ≡ true → (a ≡ true) × (b ≡ true)
-both_true true b h = (refl, h)
-both_true false b h = absurd (bad h)
-  where
-    bad : false ≡ true → ⊥
-    bad e = cc
-
-not_both : (a b : Bool) → (a && b) ≡ false → a ≡ true → b ≡ false
-not_both true b h e = h
-not_both false b h e = absurd (bad e)
-  where
-    bad : false ≡ true → ⊥
-    bad k = cc
 
 -- a list that ends
 list_value_means : (old : Bool) (lines : List (List ℕ)) (name : List ℕ) (kind : ℕ) (bytes : List ℕ) → IsListValue lines name kind bytes → Means old lines (list_value old name kind bytes)
-list_value_means old lines name kind bytes v =
-    by_test (Means old lines) (old && is_text_kind kind) CodePage (Complete (SetValue name kind bytes))
-    (λ text. let both = both_true old (is_text_kind kind) text in (both.0, (name, kind, bytes, v, both.1)))
-    (λ other. inr (v, not_both old (is_text_kind kind) other))
+list_value_means old lines name kind bytes v = inr (bytes, v, refl)
 
 wrong_list_means : (old : Bool) (front : List (List ℕ)) (line before rest : List ℕ) → line ≡ before ++ rest → Means old (front ++ line ∷ []) (wrong_list rest)
 wrong_list_means old front line before rest e = by_test (Means old (front ++ line ∷ [])) (goes_on rest) (GoesOn WrongList) NotUnderstood (λ more. (front, line, before, rest, refl, e, more)) (λ no. tt)
@@ -74,22 +56,19 @@ head_tail line name data_line head = by_name head.named
         (head.before ++ (quote ++ (head.between ++ 61 ∷ head.behind)), head.parsed ∙ ap (λ xs. head.before ++ xs) (word ∙ ap (λ xs. 34 ∷ xs) (sym (append_assoc (quoted name) (34 ∷ []) tail))) ∙ joined quote)
 
 -- where an entry may go on
-pub may_go_on : (old : Bool) (lines : List (List ℕ)) (pending : Pending) → Ends old lines pending → MayGoOn lines
+pub may_go_on : (old : Bool) (lines : List (List ℕ)) (pending : Pending) → Ends old lines pending → MayGoOn old lines
 may_go_on old lines (Text name text) more = inr (inl ((34 ∷ []) ∷ [], SetValue name 1 (text_data (text ++ [])), inl (more ((34 ∷ []) ∷ []) [] ([], refl, tt, nothing_left))))
   where
-    nothing_left : IsLineEnd []
-    nothing_left = record { blanks = []; are_blanks = tt; parsed = inl refl }
+    nothing_left : IsTail []
+    nothing_left = inl (record { blanks = []; are_blanks = tt; parsed = inl refl })
 may_go_on old lines (PendingList name kind bytes) more =
-    inr (inl ((48 ∷ 48 ∷ []) ∷ [], SetValue name kind (bytes ++ 0 ∷ []), inr (more ((48 ∷ 48 ∷ []) ∷ []) (0 ∷ []) ([], 48 ∷ 48 ∷ [], [], refl, tt, zero_pair, nothing_left), λ e. absurd (bad e))))
+    inr (inl ((48 ∷ 48 ∷ []) ∷ [], SetValue name kind (list_data old kind (bytes ++ 0 ∷ [])), inr (bytes ++ 0 ∷ [], more ((48 ∷ 48 ∷ []) ∷ []) (0 ∷ []) ([], 48 ∷ 48 ∷ [], [], refl, tt, zero_pair, nothing_left), refl)))
   where
-    nothing_left : IsLineEnd []
-    nothing_left = record { blanks = []; are_blanks = tt; parsed = inl refl }
+    nothing_left : IsTail []
+    nothing_left = inl (record { blanks = []; are_blanks = tt; parsed = inl refl })
 
     zero_pair : IsPair (48 ∷ 48 ∷ []) 0
     zero_pair = record { first = 48; second = 48; high = 0; low = 0; parsed = refl; high_is = refl; low_is = refl; value = refl }
-
-    bad : false ≡ true → ⊥
-    bad e = cc
 may_go_on old lines WrongList more = inr (inr more)
 
 module _ (old : Bool) (line name : List ℕ) where
@@ -108,8 +87,8 @@ module _ (old : Bool) (line name : List ℕ) where
 
   first_list_means : (data_line word rest : List ℕ) (kind : ℕ) → IsHead line name data_line → data_line ≡ word ++ rest → IsType word kind → Means old (line ∷ []) (bytes_scan old name kind rest (list_scan rest))
   first_list_means data_line word rest kind head e t =
-      by_test (λ scan. Means old (line ∷ []) (bytes_scan old name kind rest scan)) (ends_line rest) (ListEnds []) (list_at Before rest)
-      (λ ended. list_value_means old (line ∷ []) name kind [] (line, data_line, [], refl, head, (word, rest, e, t, inl (rest, refl, ends rest ended, refl))))
+      by_test (λ scan. Means old (line ∷ []) (bytes_scan old name kind rest scan)) (ends_statement rest) (ListEnds []) (list_at Before rest)
+      (λ ended. list_value_means old (line ∷ []) name kind [] (line, data_line, [], refl, head, (word, rest, e, t, inl (rest, refl, tails rest ended, refl))))
       (λ some. first_bytes_mean data_line word rest kind head e t (list_at Before rest) (list_scanned rest))
 
   -- a list with a type
@@ -135,8 +114,8 @@ module _ (old : Bool) (line name : List ℕ) where
       at_number None f = tt
       at_number (Some (number, behind)) f =
           let n = number_goes rest number behind f in
-          by_test (Means old (line ∷ [])) (ends_line behind) (Complete (SetValue name 4 (to_le_bytes w32 number))) NotUnderstood
-          (λ ended. inl (line, data_line, [], refl, head, inr (n.0, number, behind, e ∙ ap (λ xs. codes "dword:" ++ xs) n.1, refl, n.2, ends behind ended, refl, refl)))
+          by_test (Means old (line ∷ [])) (ends_statement behind) (Complete (SetValue name 4 (to_le_bytes w32 number))) NotUnderstood
+          (λ ended. inl (line, data_line, [], refl, head, inr (n.0, number, behind, e ∙ ap (λ xs. codes "dword:" ++ xs) n.1, refl, n.2, tails behind ended, refl, refl)))
           (λ no. tt)
 
   typed_means : (data_line : List ℕ) → IsHead line name data_line → Means old (line ∷ []) (typed_scan old name data_line)
@@ -157,8 +136,8 @@ module _ (old : Bool) (line name : List ℕ) where
   -- the first line of a text
   first_text_means : (units : List ℕ) → IsHead line name (34 ∷ units) → (scan : QuoteScan) → IsScanned units scan → Means old (line ∷ []) (text_scan name scan)
   first_text_means units head (QuoteCloses text rest) s =
-      by_test (Means old (line ∷ [])) (ends_line rest) (Complete (SetValue name 1 (text_data text))) NotUnderstood
-      (λ ended. inl (line, 34 ∷ units, [], refl, head, inl (units, text, refl, (rest, s.0, s.1, ends rest ended), refl, refl)))
+      by_test (Means old (line ∷ [])) (ends_statement rest) (Complete (SetValue name 1 (text_data text))) NotUnderstood
+      (λ ended. inl (line, 34 ∷ units, [], refl, head, inl (units, text, refl, (rest, s.0, s.1, tails rest ended), refl, refl)))
       (λ no. tt)
   first_text_means units head (QuoteStaysOpen text) s = λ tail back t. more tail back t
     where
@@ -172,11 +151,11 @@ module _ (old : Bool) (line name : List ℕ) where
   data_means : (data_line : List ℕ) → IsHead line name data_line → Means old (line ∷ []) (data_scan old name data_line)
   data_means [] head = tt
   data_means (unit ∷ units) head =
-      by_test (Means old (line ∷ [])) (unit == 34) (text_scan name (quote_at false units)) (cond (unit == 45) (cond (ends_line units) (Complete (DeleteValue name)) NotUnderstood) (typed_scan old name (unit ∷ units)))
+      by_test (Means old (line ∷ [])) (unit == 34) (text_scan name (quote_at false units)) (cond (unit == 45) (cond (ends_statement units) (Complete (DeleteValue name)) NotUnderstood) (typed_scan old name (unit ∷ units)))
       (λ quote. first_text_means units (subst (λ u. IsHead line name (u ∷ units)) (same_unit unit 34 quote) head) (quote_at false units) (is_scanned false units))
-      (λ no_quote. by_test (Means old (line ∷ [])) (unit == 45) (cond (ends_line units) (Complete (DeleteValue name)) NotUnderstood) (typed_scan old name (unit ∷ units))
-      (λ minus. by_test (Means old (line ∷ [])) (ends_line units) (Complete (DeleteValue name)) NotUnderstood
-      (λ ended. (line, units, refl, subst (λ u. IsHead line name (u ∷ units)) (same_unit unit 45 minus) head, ends units ended))
+      (λ no_quote. by_test (Means old (line ∷ [])) (unit == 45) (cond (ends_statement units) (Complete (DeleteValue name)) NotUnderstood) (typed_scan old name (unit ∷ units))
+      (λ minus. by_test (Means old (line ∷ [])) (ends_statement units) (Complete (DeleteValue name)) NotUnderstood
+      (λ ended. (line, units, refl, subst (λ u. IsHead line name (u ∷ units)) (same_unit unit 45 minus) head, tails units ended))
       (λ no. tt))
       (λ typed. typed_means (unit ∷ units) head))
 
@@ -240,41 +219,40 @@ key_between_means old line (unit ∷ units) k =
         bad k = cc
 
 key_means : (old : Bool) (line before units : List ℕ) → line ≡ before ++ 91 ∷ units → AreBlanks before → Means old (line ∷ []) (key_scan units)
-key_means old line before units e h = at_back (backwards units) refl
+key_means old line before units e h = at_back (from_bracket (reverse units)) refl
   where
-    key_line : (back : List ℕ) → IsBracketed units (reverse back) → IsKeyLine line (reverse back)
-    key_line back b = record { before = before; end = b.end; parsed = e ∙ ap (λ xs. before ++ 91 ∷ xs) b.parsed; before_blanks = h; is_end = b.is_end }
+    key_line : (back : List ℕ) (b : IsBracketed units back) → IsTail b.end → IsKeyLine line (reverse back)
+    key_line back b tail = record { before = before; end = b.end; parsed = e ∙ ap (λ xs. before ++ 91 ∷ xs) b.parsed; before_blanks = h; is_tail = tail; last = b.last }
 
-    at_back : (back : List ℕ) → backwards units ≡ back → Means old (line ∷ []) (closed_key back)
+    at_back : (back : List ℕ) → from_bracket (reverse units) ≡ back → Means old (line ∷ []) (closed_key back (drop (length back) units))
     at_back [] f = tt
     at_back (unit ∷ back) f =
-        by_test (Means old (line ∷ [])) (unit == 93) (key_between (reverse back)) NotUnderstood
-        (λ bracket. key_between_means old line (reverse back) (key_line back (bracketed units back (f ∙ ap (λ u. u ∷ back) (same_unit unit 93 bracket)))))
+        let b = bracketed units back (f ∙ ap (λ u. u ∷ back) (bracket_first (reverse units) unit back f)) in
+        by_test (Means old (line ∷ [])) (ends_statement (drop (length (unit ∷ back)) units)) (key_between (reverse back)) NotUnderstood
+        (λ tail. key_between_means old line (reverse back) (key_line back b (tails b.end (sym (ap ends_statement b.behind) ∙ tail))))
         (λ no. tt)
 
 -- the first line of something
 pub first_line_means : (old : Bool) (line : List ℕ) → Means old (line ∷ []) (line_scan old None line)
 first_line_means old line = at_word (skip_blanks line) (skips line) refl
   where
-    blank : (word : List ℕ) → skip_blanks line ≡ word → is_end word ≡ true → IsBlankLine line
-    blank word e h = inl (ends line (ap is_end e ∙ h))
+    blank : (word : List ℕ) → skip_blanks line ≡ word → is_tail word ≡ true → IsTail line
+    blank word e h = tails line (ap is_tail e ∙ h)
 
     at_word : (word : List ℕ) → Skips line word → skip_blanks line ≡ word → Means old (line ∷ []) (first_scan old word)
     at_word [] s e = (line, refl, blank [] e refl)
     at_word (unit ∷ units) s e =
-        by_test (Means old (line ∷ [])) (is_end (unit ∷ units)) Nothing (cond (unit == 59) Nothing (cond (unit == 91) (key_scan units) (value_scan old (name_at (unit ∷ units)))))
+        by_test (Means old (line ∷ [])) (is_tail (unit ∷ units)) Nothing (cond (unit == 91) (key_scan units) (value_scan old (name_at (unit ∷ units))))
         (λ ended. (line, refl, blank (unit ∷ units) e ended))
-        (λ some. by_test (Means old (line ∷ [])) (unit == 59) Nothing (cond (unit == 91) (key_scan units) (value_scan old (name_at (unit ∷ units))))
-        (λ comment. (line, refl, inr (s.blanks, units, s.parsed ∙ ap (λ u. s.blanks ++ u ∷ units) (same_unit unit 59 comment), s.are_blanks)))
-        (λ no. by_test (Means old (line ∷ [])) (unit == 91) (key_scan units) (value_scan old (name_at (unit ∷ units)))
+        (λ some. by_test (Means old (line ∷ [])) (unit == 91) (key_scan units) (value_scan old (name_at (unit ∷ units)))
         (λ bracket. key_means old line s.blanks units (s.parsed ∙ ap (λ u. s.blanks ++ u ∷ units) (same_unit unit 91 bracket)) s.are_blanks)
-        (λ value. value_means old line s.blanks (unit ∷ units) s.parsed s.are_blanks (name_at (unit ∷ units)) (name_means (unit ∷ units)))))
+        (λ value. value_means old line s.blanks (unit ∷ units) s.parsed s.are_blanks (name_at (unit ∷ units)) (name_means (unit ∷ units))))
 
 -- a further line
 text_line_means : (old : Bool) (lines : List (List ℕ)) (line name text : List ℕ) → Ends old lines (Text name text) → (scan : QuoteScan) → IsScanned line scan → Means old (lines ++ line ∷ []) (text_scan name (onto_quote text scan))
 text_line_means old lines line name text more (QuoteCloses back rest) s =
-    by_test (Means old (lines ++ line ∷ [])) (ends_line rest) (Complete (SetValue name 1 (text_data (text ++ back)))) NotUnderstood
-    (λ ended. inl (more (line ∷ []) back (rest, s.0, s.1, ends rest ended)))
+    by_test (Means old (lines ++ line ∷ [])) (ends_statement rest) (Complete (SetValue name 1 (text_data (text ++ back)))) NotUnderstood
+    (λ ended. inl (more (line ∷ []) back (rest, s.0, s.1, tails rest ended)))
     (λ no. tt)
 text_line_means old lines line name text more (QuoteStaysOpen front) s = λ tail back t. further tail back t
   where

@@ -1,7 +1,7 @@
 -- What is scanned of a line, step by step.
 use Rattle.std.proofs.Common.{◌≡◌, ◌≢◌, ℕ, ◌+◌, ◌-◌, ◌*◌, ◌==◌, Bool, true, false, cond, ◌||◌, List, [], ◌∷◌, ◌++◌, Option, Some, None, refl, sym, ◌∙◌, ap, append_assoc}
 use Rattle.std.proofs.lemmas.Bool.Decides.{Decides-eqb}
-use Rattle.reg_file.specs.Scanning.{QuoteScan, QuoteCloses, QuoteStaysOpen, NoQuote, quote_at, onto_quote, is_blank, ends_line, digits_from, digit_of, pair_from, pair_at, onto_pair, Before, Within, Behind, list_at, ListScan, ListEnds, ListGoesOn, NoList, onto_list}
+use Rattle.reg_file.specs.Scanning.{QuoteScan, QuoteCloses, QuoteStaysOpen, NoQuote, quote_at, onto_quote, is_blank, ends_statement, digits_from, digit_of, pair_from, pair_at, onto_pair, Before, Within, Behind, list_at, ListScan, ListEnds, ListGoesOn, NoList, onto_list}
 
 pub other_than : (a b : ℕ) → a ≢ b → (a == b) ≡ false
 other_than a b h = test (a == b) refl
@@ -91,16 +91,16 @@ list_more front new unit byte others rest behind more e blank backslash found f 
     ∙ ap (λ units. onto_list front (onto_list (byte ∷ []) (list_at Behind units))) (sym comma) ∙ ap (onto_list front) (sym (list_pair rest unit others byte behind e blank backslash found))
 
 -- one that ends or is wrong behind a pair
-pub list_behind : (front new : List ℕ) (unit byte comma : ℕ) (others rest behind more : List ℕ) (ends : Bool) → rest ≡ unit ∷ others → is_blank unit ≡ false → unit ≢ 92 → pair_at rest ≡ Some (byte, behind) → new ≡ front ++ byte ∷ [] → behind ≡ comma ∷ more → comma ≢ 44 → ends ≡ ends_line behind → cond ends (ListEnds new) NoList ≡ onto_list front (list_at Before rest)
+pub list_behind : (front new : List ℕ) (unit byte comma : ℕ) (others rest behind more : List ℕ) (ends : Bool) → rest ≡ unit ∷ others → is_blank unit ≡ false → unit ≢ 92 → pair_at rest ≡ Some (byte, behind) → new ≡ front ++ byte ∷ [] → behind ≡ comma ∷ more → comma ≢ 44 → ends ≡ ends_statement behind → cond ends (ListEnds new) NoList ≡ onto_list front (list_at Before rest)
 list_behind front new unit byte comma others rest behind more ends e blank backslash found f g other h =
     last ends h ∙ ap (λ units. onto_list front (onto_list (byte ∷ []) (list_at Behind units))) (sym g) ∙ ap (onto_list front) (sym (list_pair rest unit others byte behind e blank backslash found))
   where
-    at_end : (t : Bool) → ends_line behind ≡ t → list_at Behind (comma ∷ more) ≡ cond t (ListEnds []) NoList
-    at_end t k = rw (other_than comma 44 other, sym (ap ends_line g) ∙ k) refl
+    at_end : (t : Bool) → ends_statement behind ≡ t → list_at Behind (comma ∷ more) ≡ cond t (ListEnds []) NoList
+    at_end t k = rw (other_than comma 44 other, sym (ap ends_statement g) ∙ k) refl
 
     whole : (t : Bool) → cond t (ListEnds new) NoList ≡ onto_list front (onto_list (byte ∷ []) (cond t (ListEnds []) NoList))
     whole true = ap ListEnds (f ∙ ap (λ bytes. front ++ bytes) refl)
     whole false = refl
 
-    last : (t : Bool) → t ≡ ends_line behind → cond t (ListEnds new) NoList ≡ onto_list front (onto_list (byte ∷ []) (list_at Behind (comma ∷ more)))
+    last : (t : Bool) → t ≡ ends_statement behind → cond t (ListEnds new) NoList ≡ onto_list front (onto_list (byte ∷ []) (list_at Behind (comma ∷ more)))
     last t k = whole t ∙ ap (λ scan. onto_list front (onto_list (byte ∷ []) scan)) (sym (at_end t (sym k)))

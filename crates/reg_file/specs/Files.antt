@@ -1,8 +1,7 @@
 -- The statements of a file's lines, in order, up to the first fault.
-use Rattle.std.specs.Prelude.{ℕ, ◌+◌, ◌-◌, ◌==◌, nat_le, not, ◌&&◌, Bool, true, false, if◌then◌else◌, List, [], ◌∷◌, ◌++◌, length, Option, Some, None, codes}
-use Rattle.std.specs.List.{list_any}
+use Rattle.std.specs.Prelude.{ℕ, ◌+◌, ◌-◌, ◌==◌, not, ◌&&◌, Bool, true, false, if◌then◌else◌, List, [], ◌∷◌, ◌++◌, length, Option, Some, None}
 use Rattle.refusals.specs.declared.limits.TheConstants.{MOST_ELEMENT_BYTES}
-use Rattle.reg_file.specs.Scanning.{skip_blanks, ends_line, strip}
+use Rattle.reg_file.specs.Headers.{header_of}
 use Rattle.reg_file.specs.Reading.{line_scan}
 use Rattle.reg_file.specs.Lines.{file_lines}
 use Rattle.reg_file.specs.declared.statement.Statement.{Statement}
@@ -67,18 +66,11 @@ abbrev pub scanned : ℕ → Bool → ℕ → Scan → Turn
 scanned first has_key room scan.Nothing = Next has_key None
 scanned first has_key room (scan.Complete statement) = judged first has_key room statement
 scanned first has_key room (scan.GoesOn pending) = Next has_key (Some (record { first_line = first; room = room; pending = pending }))
-scanned first has_key room scan.CodePage = stop first kind.CodePage
 scanned first has_key room scan.NotUnderstood = stop first kind.NotUnderstood
-
--- in the old form no unit is above 0x7e
-abbrev pub has_high : List ℕ → Bool
-has_high line = list_any (λ unit. not (nat_le unit 126)) line
 
 -- what a line does: the next one follows, a statement is done, or a fault stops
 abbrev pub turn_of : Bool → Bool → ℕ → Option Item → List ℕ → Turn
-turn_of old has_key number item line =
-    if old && has_high line then stop (first_of number item) kind.CodePage
-    else scanned (first_of number item) has_key (room_after item line) (line_scan old (pending_of item) line)
+turn_of old has_key number item line = scanned (first_of number item) has_key (room_after item line) (line_scan old (pending_of item) line)
 
 abbrev pub after_turn : (Bool → Option Item → RegFile) → Turn → RegFile
 after_turn rest (Next has_key item) = rest has_key item
@@ -96,20 +88,7 @@ file_from old has_key number item [] = record { statements = []; fault = end_fau
 file_from old has_key number item (None ∷ lines) = stopped (record { line = first_of number item; kind = kind.NotText })
 file_from old has_key number item (Some line ∷ lines) = after_turn (λ key pending. file_from old key (number + 1) pending lines) (turn_of old has_key number item line)
 
--- the header: whether the file has the old form
-abbrev pub ends_behind : Option (List ℕ) → Bool
-ends_behind None = false
-ends_behind (Some rest) = ends_line rest
-
-abbrev pub is_header : List ℕ → List ℕ → Bool
-is_header text line = ends_behind (strip text (skip_blanks line))
-
-abbrev pub header_of : List ℕ → Option Bool
-header_of line =
-    if is_header (codes "REGEDIT4") line then Some true
-    else if is_header (codes "Windows Registry Editor Version 5.00") line then Some false
-    else None
-
+-- the statements behind a header
 abbrev pub behind_header : Option Bool → List (Option (List ℕ)) → RegFile
 behind_header None lines = stopped (record { line = 1; kind = kind.NoHeader })
 behind_header (Some old) lines = file_from old false 2 None lines

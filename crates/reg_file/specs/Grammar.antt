@@ -4,14 +4,14 @@ use Rattle.std.specs.List.{AllByRecursion}
 use Rattle.std.specs.Int.{w32, to_le_bytes}
 use Rattle.refusals.specs.declared.limits.TheConstants.{MOST_ELEMENT_BYTES}
 use Rattle.reg_file.specs.Scanning.{is_blank, digit_of, goes_on}
-use Rattle.reg_file.specs.Reading.{text_data, is_text_kind}
-use Rattle.reg_file.specs.Files.{key_after, wants_key, has_high}
+use Rattle.reg_file.specs.Reading.{text_data, list_data}
+use Rattle.reg_file.specs.Files.{key_after, wants_key}
 use Rattle.reg_file.specs.declared.statement.Statement.{Statement}
 use Rattle.reg_file.specs.declared.statement.Statement.TheVariants.{CreateKey, DeleteKey, SetValue, DeleteValue}
 use Rattle.reg_file.specs.declared.statement.NumberedStatement.{NumberedStatement}
 use Rattle.reg_file.specs.declared.fault.Fault.{Fault}
 use Rattle.reg_file.specs.declared.fault.FaultKind.{FaultKind}
-use Rattle.reg_file.specs.declared.fault.FaultKind.TheVariants.{NoHeader, NotText, CodePage, NotUnderstood, NoKey, TooLarge}
+use Rattle.reg_file.specs.declared.fault.FaultKind.TheVariants.{NoHeader, NotText, NotUnderstood, NoKey, TooLarge}
 
 -- blanks and tabs
 abbrev pub AreBlanks : List ℕ → Type 0
@@ -22,6 +22,10 @@ pub record IsLineEnd (units : List ℕ) : Type 0 where
   pub blanks : List ℕ
   pub are_blanks : AreBlanks blanks
   pub parsed : (units ≡ blanks) ⊎ (units ≡ blanks ++ 13 ∷ [])
+
+-- what may stand behind a statement: the end of the line, or blanks and a remark, which begins with a semicolon
+abbrev pub IsTail : List ℕ → Type 0
+IsTail units = IsLineEnd units ⊎ ((blanks : List ℕ) × (rest : List ℕ) × (units ≡ blanks ++ 59 ∷ rest) × AreBlanks blanks)
 
 -- text in quotes: a quote and a backslash have a backslash before them, and no unit is 0
 abbrev pub quoted_unit : ℕ → List ℕ
@@ -52,7 +56,7 @@ pub record IsHead (line name rest : List ℕ) : Type 0 where
 -- the lines of a text behind its opening quote: line ends within it are line feeds of the text
 abbrev pub IsText : List (List ℕ) → List ℕ → Type 0
 IsText [] text = ⊥
-IsText (line ∷ []) text = (end : List ℕ) × (line ≡ quoted text ++ 34 ∷ end) × HasNoZero text × IsLineEnd end
+IsText (line ∷ []) text = (end : List ℕ) × (line ≡ quoted text ++ 34 ∷ end) × HasNoZero text × IsTail end
 IsText (line ∷ next ∷ lines) text = (front : List ℕ) × (back : List ℕ) × (line ≡ quoted front) × HasNoZero front × IsText (next ∷ lines) back × (text ≡ front ++ 10 ∷ back)
 
 -- hex digits in either case go on a number
@@ -80,12 +84,12 @@ pub record IsPair (pair : List ℕ) (byte : ℕ) : Type 0 where
 -- the last line of a list: bytes with commas between them, and blanks before any of them
 abbrev pub IsLastLine : List ℕ → List ℕ → Type 0
 IsLastLine line [] = ⊥
-IsLastLine line (byte ∷ []) = (blanks : List ℕ) × (pair : List ℕ) × (end : List ℕ) × (line ≡ blanks ++ (pair ++ end)) × AreBlanks blanks × IsPair pair byte × IsLineEnd end
+IsLastLine line (byte ∷ []) = (blanks : List ℕ) × (pair : List ℕ) × (end : List ℕ) × (line ≡ blanks ++ (pair ++ end)) × AreBlanks blanks × IsPair pair byte × IsTail end
 IsLastLine line (byte ∷ next ∷ bytes) = (blanks : List ℕ) × (pair : List ℕ) × (rest : List ℕ) × (line ≡ blanks ++ (pair ++ 44 ∷ rest)) × AreBlanks blanks × IsPair pair byte × IsLastLine rest (next ∷ bytes)
 
 -- any other line of a list: a comma behind each byte, and a backslash at the end
 abbrev pub IsBrokenLine : List ℕ → List ℕ → Type 0
-IsBrokenLine line [] = (blanks : List ℕ) × (end : List ℕ) × (line ≡ blanks ++ 92 ∷ end) × AreBlanks blanks × IsLineEnd end
+IsBrokenLine line [] = (blanks : List ℕ) × (end : List ℕ) × (line ≡ blanks ++ 92 ∷ end) × AreBlanks blanks × IsTail end
 IsBrokenLine line (byte ∷ bytes) = (blanks : List ℕ) × (pair : List ℕ) × (rest : List ℕ) × (line ≡ blanks ++ (pair ++ 44 ∷ rest)) × AreBlanks blanks × IsPair pair byte × IsBrokenLine rest bytes
 
 -- the lines of a list with at least one byte
@@ -96,7 +100,7 @@ AreBytes (line ∷ next ∷ lines) bytes = (front : List ℕ) × (back : List �
 
 -- the lines of a list
 abbrev pub IsList : List (List ℕ) → List ℕ → Type 0
-IsList lines bytes = ((line : List ℕ) × (lines ≡ line ∷ []) × IsLineEnd line × (bytes ≡ [])) ⊎ AreBytes lines bytes
+IsList lines bytes = ((line : List ℕ) × (lines ≡ line ∷ []) × IsTail line × (bytes ≡ [])) ⊎ AreBytes lines bytes
 
 -- the type of a list: `hex:` is 3, `hex(N):` is N
 abbrev pub IsType : List ℕ → ℕ → Type 0
@@ -108,7 +112,7 @@ IsTextData line lines kind bytes = (rest : List ℕ) × (text : List ℕ) × (li
 
 abbrev pub IsNumberData : List ℕ → List (List ℕ) → ℕ → List ℕ → Type 0
 IsNumberData line lines kind bytes =
-    (digits : List ℕ) × (number : ℕ) × (end : List ℕ) × (line ≡ codes "dword:" ++ (digits ++ end)) × (lines ≡ []) × IsNumber digits number × IsLineEnd end × (kind ≡ 4) × (bytes ≡ to_le_bytes w32 number)
+    (digits : List ℕ) × (number : ℕ) × (end : List ℕ) × (line ≡ codes "dword:" ++ (digits ++ end)) × (lines ≡ []) × IsNumber digits number × IsTail end × (kind ≡ 4) × (bytes ≡ to_le_bytes w32 number)
 
 abbrev pub IsListData : List ℕ → List (List ℕ) → ℕ → List ℕ → Type 0
 IsListData line lines kind bytes = (word : List ℕ) × (rest : List ℕ) × (line ≡ word ++ rest) × IsType word kind × IsList (rest ∷ lines) bytes
@@ -117,49 +121,47 @@ IsListData line lines kind bytes = (word : List ℕ) × (rest : List ℕ) × (li
 abbrev pub IsListValue : List (List ℕ) → List ℕ → ℕ → List ℕ → Type 0
 IsListValue lines name kind bytes = (line : List ℕ) × (rest : List ℕ) × (more : List (List ℕ)) × (lines ≡ line ∷ more) × IsHead line name rest × IsListData rest more kind bytes
 
--- the lines of a value; in the old form no list has a type of text
+-- the lines of a value that is no list
 abbrev pub IsPlainValue : List (List ℕ) → List ℕ → ℕ → List ℕ → Type 0
 IsPlainValue lines name kind bytes =
     (line : List ℕ) × (rest : List ℕ) × (more : List (List ℕ)) × (lines ≡ line ∷ more) × IsHead line name rest × (IsTextData rest more kind bytes ⊎ IsNumberData rest more kind bytes)
 
+-- the lines of a value; the bytes of a list that is a text in the old form are text in the code page
 abbrev pub IsValue : Bool → List (List ℕ) → List ℕ → ℕ → List ℕ → Type 0
-IsValue old lines name kind bytes = IsPlainValue lines name kind bytes ⊎ (IsListValue lines name kind bytes × (old ≡ true → is_text_kind kind ≡ false))
+IsValue old lines name kind bytes = IsPlainValue lines name kind bytes ⊎ ((written : List ℕ) × IsListValue lines name kind written × (bytes ≡ list_data old kind written))
 
 -- a path loses one backslash at its end
 abbrev pub IsPath : List ℕ → List ℕ → Type 0
 IsPath written path = (written ≡ path ++ 92 ∷ []) ⊎ ((written ≡ path) × ((front : List ℕ) → path ≢ front ++ 92 ∷ []))
 
--- a line names a key: what stands between an opening bracket and the last closing one
+-- no unit is a closing bracket
+abbrev pub HasNoBracket : List ℕ → Type 0
+HasNoBracket units = AllByRecursion (λ unit. unit ≢ 93) units
+
+-- a line names a key: what stands between an opening bracket and the last closing one of the line
 pub record IsKeyLine (line inside : List ℕ) : Type 0 where
   pub before : List ℕ
   pub end : List ℕ
   pub parsed : line ≡ before ++ 91 ∷ (inside ++ 93 ∷ end)
   pub before_blanks : AreBlanks before
-  pub is_end : IsLineEnd end
+  pub is_tail : IsTail end
+  pub last : HasNoBracket end
 
 -- the lines of a statement
 abbrev pub IsStatement : Bool → List (List ℕ) → Statement → Type 0
 IsStatement old lines (CreateKey path) = (line : List ℕ) × (written : List ℕ) × (lines ≡ line ∷ []) × IsKeyLine line written × ((rest : List ℕ) → written ≢ 45 ∷ rest) × IsPath written path
 IsStatement old lines (DeleteKey path) = (line : List ℕ) × (written : List ℕ) × (lines ≡ line ∷ []) × IsKeyLine line (45 ∷ written) × IsPath written path
 IsStatement old lines (SetValue name kind bytes) = IsValue old lines name kind bytes
-IsStatement old lines (DeleteValue name) = (line : List ℕ) × (end : List ℕ) × (lines ≡ line ∷ []) × IsHead line name (45 ∷ end) × IsLineEnd end
+IsStatement old lines (DeleteValue name) = (line : List ℕ) × (end : List ℕ) × (lines ≡ line ∷ []) × IsHead line name (45 ∷ end) × IsTail end
 
--- a line that is empty or a comment
-abbrev pub IsBlankLine : List ℕ → Type 0
-IsBlankLine line = IsLineEnd line ⊎ ((blanks : List ℕ) × (rest : List ℕ) × (line ≡ blanks ++ 59 ∷ rest) × AreBlanks blanks)
-
--- an entry of a file: the lines of a statement, or one line of none
+-- an entry of a file: the lines of a statement, or one line without one, which is empty or a remark
 pub record Entry : Type 0 where
   pub lines : List (List ℕ)
   pub statement : Option Statement
 
 abbrev pub IsEntry : Bool → List (List ℕ) → Option Statement → Type 0
-IsEntry old lines None = (line : List ℕ) × (lines ≡ line ∷ []) × IsBlankLine line
+IsEntry old lines None = (line : List ℕ) × (lines ≡ line ∷ []) × IsTail line
 IsEntry old lines (Some statement) = IsStatement old lines statement
-
--- in the old form no unit is above 0x7e
-abbrev pub IsInForm : Bool → List (List ℕ) → Type 0
-IsInForm old lines = old ≡ true → AllByRecursion (λ line. has_high line ≡ false) lines
 
 -- how many units lines have, with the line feeds between them
 abbrev pub units_of : List (List ℕ) → ℕ
@@ -180,7 +182,7 @@ key_behind_entry (Some statement) has_key = key_after statement has_key
 abbrev pub AreEntries : Bool → Bool → List Entry → Type 0
 AreEntries old has_key [] = Unit {0}
 AreEntries old has_key (entry ∷ entries) =
-    IsEntry old entry.lines entry.statement × IsInForm old entry.lines × IsPlaced has_key entry.lines entry.statement × AreEntries old (key_behind_entry entry.statement has_key) entries
+    IsEntry old entry.lines entry.statement × IsPlaced has_key entry.lines entry.statement × AreEntries old (key_behind_entry entry.statement has_key) entries
 
 abbrev pub key_behind : Bool → List Entry → Bool
 key_behind has_key [] = has_key
@@ -223,29 +225,20 @@ pub record IsFile (lines : List (List ℕ)) (statements : List NumberedStatement
   pub spelled : statements ≡ numbered 2 entries
 
 -- what stands at a fault: lines that are left, where a key is current or none is
-abbrev pub BeginsNoEntry : List (Option (List ℕ)) → Type 0
-BeginsNoEntry left = (lines : List (List ℕ)) (statement : Option Statement) (more : List (Option (List ℕ))) → left ≡ map Some lines ++ more → IsEntry false lines statement → ⊥
+abbrev pub BeginsNoEntry : Bool → List (Option (List ℕ)) → Type 0
+BeginsNoEntry old left = (lines : List (List ℕ)) (statement : Option Statement) (more : List (Option (List ℕ))) → left ≡ map Some lines ++ more → IsEntry old lines statement → ⊥
 
 -- lines with which an entry may begin: none; those that others complete to a statement; or those of a list with something
 -- wrong in it, of which the last one goes on
 abbrev pub IsWrongList : List (List ℕ) → Type 0
 IsWrongList lines = (front : List (List ℕ)) × (line : List ℕ) × (before : List ℕ) × (rest : List ℕ) × (lines ≡ front ++ line ∷ []) × (line ≡ before ++ rest) × (goes_on rest ≡ true)
 
-abbrev pub MayGoOn : List (List ℕ) → Type 0
-MayGoOn lines = (lines ≡ []) ⊎ ((tail : List (List ℕ)) × (statement : Statement) × IsStatement false (lines ++ tail) statement) ⊎ IsWrongList lines
+abbrev pub MayGoOn : Bool → List (List ℕ) → Type 0
+MayGoOn old lines = (lines ≡ []) ⊎ ((tail : List (List ℕ)) × (statement : Statement) × IsStatement old (lines ++ tail) statement) ⊎ IsWrongList lines
 
 -- a line that isn't well formed is behind lines that may go on
-abbrev pub HasNoText : List (Option (List ℕ)) → Type 0
-HasNoText left = (lines : List (List ℕ)) × (more : List (Option (List ℕ))) × (left ≡ map Some lines ++ None ∷ more) × MayGoOn lines
-
--- a line with a unit above 0x7e is
-abbrev pub HasHigh : List (Option (List ℕ)) → Type 0
-HasHigh left = (lines : List (List ℕ)) × (line : List ℕ) × (more : List (Option (List ℕ))) × (left ≡ map Some lines ++ Some line ∷ more) × (has_high line ≡ true) × MayGoOn lines
-
--- a list with a type of text begins here
-abbrev pub BeginsTextList : List (Option (List ℕ)) → Type 0
-BeginsTextList left =
-    (lines : List (List ℕ)) × (more : List (Option (List ℕ))) × (name : List ℕ) × (kind : ℕ) × (bytes : List ℕ) × (left ≡ map Some lines ++ more) × IsListValue lines name kind bytes × (is_text_kind kind ≡ true)
+abbrev pub HasNoText : Bool → List (Option (List ℕ)) → Type 0
+HasNoText old left = (lines : List (List ℕ)) × (more : List (Option (List ℕ))) × (left ≡ map Some lines ++ None ∷ more) × MayGoOn old lines
 
 -- a statement begins here for which a fact holds
 abbrev pub BeginsStatement : Bool → (List (List ℕ) → Statement → Type 0) → List (Option (List ℕ)) → Type 0
@@ -254,9 +247,8 @@ BeginsStatement old Holds left =
 
 abbrev pub Stands : Bool → Bool → List (Option (List ℕ)) → FaultKind → Type 0
 Stands old has_key left NoHeader = ⊥
-Stands old has_key left NotText = HasNoText left × BeginsNoEntry left
-Stands old has_key left CodePage = (old ≡ true) × (HasHigh left ⊎ BeginsTextList left)
-Stands old has_key left NotUnderstood = BeginsNoEntry left
+Stands old has_key left NotText = HasNoText old left × BeginsNoEntry old left
+Stands old has_key left NotUnderstood = BeginsNoEntry old left
 Stands old has_key left NoKey = (has_key ≡ false) × BeginsStatement old (λ lines statement. wants_key statement ≡ true) left
 Stands old has_key left TooLarge = BeginsStatement old (λ lines statement. MOST_ELEMENT_BYTES < units_of lines) left
 

@@ -1,4 +1,6 @@
 pub mod Scanning
+pub mod CodePage
+pub mod Headers
 pub mod Views
 pub mod Reading
 pub mod Lines

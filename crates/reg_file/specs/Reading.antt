@@ -1,12 +1,13 @@
 -- What a line comes to, by itself or as a further line of a statement.
-use Rattle.std.specs.Prelude.{ℕ, ◌==◌, ◌&&◌, ◌||◌, Bool, false, if◌then◌else◌, List, [], ◌∷◌, ◌++◌, reverse, Option, Some, None, codes, flat_map}
+use Rattle.std.specs.Prelude.{ℕ, ◌==◌, ◌&&◌, ◌||◌, Bool, false, if◌then◌else◌, List, [], ◌∷◌, ◌++◌, reverse, length, drop, Option, Some, None, codes, flat_map}
 use Rattle.std.specs.Int.{w16, w32, to_le_bytes}
-use Rattle.reg_file.specs.Scanning.{skip_blanks, is_end, ends_line, strip, backwards, number_at, QuoteScan, QuoteCloses, QuoteStaysOpen, NoQuote, quote_at, onto_quote, ListScan, ListEnds, ListGoesOn, NoList, Before, list_at, list_scan, onto_list, goes_on}
+use Rattle.reg_file.specs.Scanning.{skip_blanks, is_tail, ends_statement, strip, from_bracket, number_at, QuoteScan, QuoteCloses, QuoteStaysOpen, NoQuote, quote_at, onto_quote, ListScan, ListEnds, ListGoesOn, NoList, Before, list_at, list_scan, onto_list, goes_on}
+use Rattle.reg_file.specs.CodePage.{ansi_data}
 use Rattle.reg_file.specs.declared.statement.Statement.TheVariants.{CreateKey, DeleteKey, SetValue, DeleteValue}
 use Rattle.reg_file.specs.declared.scan.Pending.{Pending}
 use Rattle.reg_file.specs.declared.scan.Pending.TheVariants.{Text, List as PendingList, WrongList}
 use Rattle.reg_file.specs.declared.scan.Scan.{Scan}
-use Rattle.reg_file.specs.declared.scan.Scan.TheVariants.{Nothing, Complete, GoesOn, CodePage, NotUnderstood}
+use Rattle.reg_file.specs.declared.scan.Scan.TheVariants.{Nothing, Complete, GoesOn, NotUnderstood}
 
 -- the data of a text: its units in the order of little-endian bytes, and a terminator
 abbrev pub text_data : List ℕ → List ℕ
@@ -14,7 +15,7 @@ text_data units = flat_map (to_le_bytes w16) units ++ 0 ∷ 0 ∷ []
 
 -- a text in quotes, which ends its line or goes on
 abbrev pub text_scan : List ℕ → QuoteScan → Scan
-text_scan name (QuoteCloses text rest) = if ends_line rest then Complete (SetValue name 1 (text_data text)) else NotUnderstood
+text_scan name (QuoteCloses text rest) = if ends_statement rest then Complete (SetValue name 1 (text_data text)) else NotUnderstood
 text_scan name (QuoteStaysOpen text) = GoesOn (Text name (text ++ 10 ∷ []))
 text_scan name NoQuote = NotUnderstood
 
@@ -22,9 +23,12 @@ text_scan name NoQuote = NotUnderstood
 abbrev pub is_text_kind : ℕ → Bool
 is_text_kind kind = kind == 1 || kind == 2 || kind == 7
 
--- a list; in the old form one of a type of text is in an unknown code page
+-- the data of a list: its bytes, but in the old form those of a type of text are text in the code page
+abbrev pub list_data : Bool → ℕ → List ℕ → List ℕ
+list_data old kind bytes = if old && is_text_kind kind then ansi_data bytes else bytes
+
 abbrev pub list_value : Bool → List ℕ → ℕ → List ℕ → Scan
-list_value old name kind bytes = if old && is_text_kind kind then CodePage else Complete (SetValue name kind bytes)
+list_value old name kind bytes = Complete (SetValue name kind (list_data old kind bytes))
 
 abbrev pub wrong_list : List ℕ → Scan
 wrong_list line = if goes_on line then GoesOn WrongList else NotUnderstood
@@ -37,7 +41,7 @@ bytes_scan old name kind line NoList = wrong_list line
 -- the data of a value: a number, a list, or a list with a type
 abbrev pub number_scan : List ℕ → Option (ℕ × List ℕ) → Scan
 number_scan name None = NotUnderstood
-number_scan name (Some (number, rest)) = if ends_line rest then Complete (SetValue name 4 (to_le_bytes w32 number)) else NotUnderstood
+number_scan name (Some (number, rest)) = if ends_statement rest then Complete (SetValue name 4 (to_le_bytes w32 number)) else NotUnderstood
 
 abbrev pub typed_list : Bool → List ℕ → ℕ → Option (List ℕ) → Scan
 typed_list old name kind None = NotUnderstood
@@ -67,7 +71,7 @@ abbrev pub data_scan : Bool → List ℕ → List ℕ → Scan
 data_scan old name [] = NotUnderstood
 data_scan old name (unit ∷ units) =
     if unit == 34 then text_scan name (quote_at false units)
-    else if unit == 45 then (if ends_line units then Complete (DeleteValue name) else NotUnderstood)
+    else if unit == 45 then (if ends_statement units then Complete (DeleteValue name) else NotUnderstood)
     else typed_scan old name (unit ∷ units)
 
 -- a value's name, and what follows it
@@ -101,19 +105,19 @@ abbrev pub key_between : List ℕ → Scan
 key_between [] = Complete (CreateKey [])
 key_between (unit ∷ units) = if unit == 45 then Complete (DeleteKey (without_separator units)) else Complete (CreateKey (without_separator (unit ∷ units)))
 
-abbrev pub closed_key : List ℕ → Scan
-closed_key [] = NotUnderstood
-closed_key (unit ∷ units) = if unit == 93 then key_between (reverse units) else NotUnderstood
+-- a key by the units up to the last closing bracket, from the last to the first, and by those behind it
+abbrev pub closed_key : List ℕ → List ℕ → Scan
+closed_key [] rest = NotUnderstood
+closed_key (unit ∷ units) rest = if ends_statement rest then key_between (reverse units) else NotUnderstood
 
 abbrev pub key_scan : List ℕ → Scan
-key_scan line = closed_key (backwards line)
+key_scan line = closed_key (from_bracket (reverse line)) (drop (length (from_bracket (reverse line))) line)
 
--- the first line of a statement, a comment, or an empty line
+-- the first line of a statement, a remark, or an empty line
 abbrev pub first_scan : Bool → List ℕ → Scan
 first_scan old [] = Nothing
 first_scan old (unit ∷ units) =
-    if is_end (unit ∷ units) then Nothing
-    else if unit == 59 then Nothing
+    if is_tail (unit ∷ units) then Nothing
     else if unit == 91 then key_scan units
     else value_scan old (name_at (unit ∷ units))
 

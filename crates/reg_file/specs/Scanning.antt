@@ -1,4 +1,4 @@
--- What the front of a line is parsed to: blanks, fixed text, hex digits, text in quotes, pairs of digits.
+-- What the front of a line is parsed to: blanks, remarks, fixed text, hex digits, text in quotes, pairs of digits.
 use Rattle.std.specs.Prelude.{ℕ, ◌+◌, ◌-◌, ◌*◌, ◌==◌, nat_le, ◌&&◌, ◌||◌, Bool, true, false, if◌then◌else◌, List, [], ◌∷◌, ◌++◌, reverse, Option, Some, None}
 use Rattle.std.specs.Option.{option_and_then}
 
@@ -20,6 +20,15 @@ is_end (unit ∷ other ∷ units) = false
 abbrev pub ends_line : List ℕ → Bool
 ends_line units = is_end (skip_blanks units)
 
+-- the end of a line, or a remark: a semicolon and what follows it
+abbrev pub is_tail : List ℕ → Bool
+is_tail [] = true
+is_tail (unit ∷ units) = unit == 59 || is_end (unit ∷ units)
+
+-- a statement may end here: behind blanks the line ends, or a remark begins
+abbrev pub ends_statement : List ℕ → Bool
+ends_statement units = is_tail (skip_blanks units)
+
 -- what follows a text, if the units begin with it
 abbrev pub strip : List ℕ → List ℕ → Option (List ℕ)
 strip [] units = Some units
@@ -33,6 +42,11 @@ skip_return (unit ∷ units) = if unit == 13 then units else unit ∷ units
 
 abbrev pub backwards : List ℕ → List ℕ
 backwards units = skip_blanks (skip_return (reverse units))
+
+-- units from the last to the first: from the first closing bracket on
+abbrev pub from_bracket : List ℕ → List ℕ
+from_bracket [] = []
+from_bracket (unit ∷ units) = if unit == 93 then unit ∷ units else from_bracket units
 
 -- the value of a hex digit, in either case
 abbrev pub digit_of : ℕ → Option ℕ
@@ -115,16 +129,16 @@ abbrev pub list_at : Place → List ℕ → ListScan
 list_at Before [] = NoList
 list_at Before (unit ∷ units) =
     if is_blank unit then list_at Before units
-    else if unit == 92 then (if ends_line units then ListGoesOn [] else NoList)
+    else if unit == 92 then (if ends_statement units then ListGoesOn [] else NoList)
     else list_at (Within (digit_of unit)) units
 list_at (Within high) [] = NoList
 list_at (Within high) (unit ∷ units) = onto_pair high (digit_of unit) (list_at Behind units)
 list_at Behind [] = ListEnds []
-list_at Behind (unit ∷ units) = if unit == 44 then list_at Before units else if ends_line (unit ∷ units) then ListEnds [] else NoList
+list_at Behind (unit ∷ units) = if unit == 44 then list_at Before units else if ends_statement (unit ∷ units) then ListEnds [] else NoList
 
 -- a list on its first line may be empty
 abbrev pub list_scan : List ℕ → ListScan
-list_scan units = if ends_line units then ListEnds [] else list_at Before units
+list_scan units = if ends_statement units then ListEnds [] else list_at Before units
 
 -- whether a line that is wrong in a list goes on: it ends with a backslash, behind a comma, a colon or nothing
 abbrev pub is_joint : List ℕ → Bool

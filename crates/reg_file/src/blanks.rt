@@ -1,7 +1,7 @@
-//! Blanks, the end of a line, and text that stands as it is.
+//! Blanks, the end of a line, remarks, and text that stands as it is.
 ghost use Rattle.std.specs.Prelude.{◌≡◌, ◌≤◌, length, reverse};
 ghost use Rattle.std.specs.Option.{option_copied};
-ghost use Rattle.reg_file.specs.Scanning.{is_blank, skip_blanks, ends_line, strip, backwards, skip_return};
+ghost use Rattle.reg_file.specs.Scanning.{is_blank, skip_blanks, ends_line, is_tail, ends_statement, strip, backwards, skip_return};
 
 /// The units that a line begins with are blanks and tabs: those behind them.
 pub(crate) fn skip_blanks(line: &[u16]) -> &[u16]
@@ -22,6 +22,20 @@ pub(crate) fn ends_line(rest: &[u16]) -> bool
     ensures { result ≡ ends_line rest.now }
 {
     matches!(skip_blanks(rest), [] | [0x0d])
+}
+
+/// Whether a statement may end here: behind blanks the line ends, or a remark begins.
+pub(crate) fn ends_statement(rest: &[u16]) -> bool
+    ensures { result ≡ ends_statement rest.now }
+{
+    is_tail(skip_blanks(rest))
+}
+
+/// Whether these units are the end of a line, or a remark: a semicolon and what follows it.
+pub(crate) fn is_tail(units: &[u16]) -> bool
+    ensures { result ≡ is_tail units.now }
+{
+    matches!(units, [] | [0x0d] | [0x3b, ..])
 }
 
 /// The units behind an ASCII text, if the line begins with it.

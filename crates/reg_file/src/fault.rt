@@ -11,9 +11,7 @@ pub enum FaultKind {
     NoHeader,
     /// A line of the statement isn't well formed in the file's encoding.
     NotText,
-    /// The file has text in a code page that isn't known.
-    CodePage,
-    /// No statement, comment or empty line begins here.
+    /// No statement, remark or empty line begins here.
     NotUnderstood,
     /// A value where no key is current.
     NoKey,
@@ -38,7 +36,6 @@ impl FaultKind {
         match self {
             FaultKind::NoHeader => "no header",
             FaultKind::NotText => "not text",
-            FaultKind::CodePage => "code page",
             FaultKind::NotUnderstood => "not understood",
             FaultKind::NoKey => "no key",
             FaultKind::TooLarge => "E6 TooLarge",

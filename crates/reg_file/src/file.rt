@@ -1,14 +1,14 @@
 //! Registration files.
 ghost use Rattle.std.specs.Prelude.{◌≡◌, ◌+◌, ◌<◌, ◌≤◌, ◌^◌, [], ◌∷◌, ◌++◌, IfOk, IfSome, OnOk, Some, None, false, length, ℕ, List, map, ◌⊎◌};
 ghost use Rattle.std.specs.Option.{option_copied};
-ghost use Rattle.reg_file.specs.Files.{reg_file_of, lines_file, file_from, header_of, is_header, ends_behind, onto_file, after_turn};
+ghost use Rattle.reg_file.specs.Files.{reg_file_of, lines_file, file_from, onto_file, after_turn};
 ghost use Rattle.reg_file.specs.Lines.{lines_left, file_lines};
 ghost use Rattle.reg_file.specs.Grammar.{IsFile, IsStopped, IsNoHeader};
 ghost use Rattle.reg_file.specs.declared.statement.NumberedStatement.{NumberedStatement};
 ghost use Rattle.reg_file.specs.Views.{lines_of, left_of, GoesOnBy, StopsOrLess};
 
-use crate::blanks::{ends_line, skip_blanks, strip};
 use crate::fault::{Fault, FaultKind};
+use crate::header::header;
 use crate::lines::{Lines, NextLine};
 use crate::statement::NumberedStatement;
 use crate::turn::{Item, Turn, take_end, take_line, take_no_text};
@@ -72,21 +72,23 @@ pub struct RegFile {
 
 /// The statements of a file's bytes in order, up to its first fault, and that fault.
 ///
-/// UTF-16 is read behind its mark FF FE, and UTF-8 with or without its mark; a line ends with a line feed, or with a
-/// carriage return and a line feed. A fault has the number of the first line of what is wrong, from 1.
+/// The old form is that of a file whose first line is `REGEDIT4`. UTF-16 is read behind its mark FF FE, and UTF-8 behind
+/// its mark EF BB BF. Without a mark a file of the old form is text in Windows' code page 1252, even if it would be UTF-8
+/// too, and any other file is UTF-8. In the old form the bytes of a list of type 1, 2 or 7 are text in the code page: its
+/// data are the units of that text. A line ends with a line feed, or with a carriage return and a line feed. A fault has
+/// the number of the first line of what is wrong, from 1.
 ///
 /// | fault | where it stands |
 /// |---|---|
 /// | `NoHeader` | the first line is none of the two headers |
 /// | `NotText` | a line of the statement, or the first line, isn't well formed in the file's encoding |
-/// | `CodePage` | in the old form a line of the statement has a unit above 0x7e, or the statement is a list of type 1, 2 or 7 |
-/// | `NotUnderstood` | no statement, comment or empty line begins here |
+/// | `NotUnderstood` | no statement, remark or empty line begins here |
 /// | `NoKey` | a value's statement begins here, and no key is current |
 /// | `TooLarge` | a statement begins here whose lines have more than 4,194,304 units, with the line feeds between them |
 ///
-/// The lines of a statement are taken in order. Each has to be text, and then free of units above 0x7e in the old form,
-/// before it is read. A list with something wrong in it is refused where its last line ends. `NoKey` and `TooLarge` are
-/// told of a statement that is understood, in this order.
+/// The lines of a statement are taken in order, and each has to be text before it is read. A list with something wrong in
+/// it is refused where its last line ends. `NoKey` and `TooLarge` are told of a statement that is understood, in this
+/// order.
 pub fn parse(alloc: Global, bytes: &[u8]) -> Result<RegFile, AllocError>
     // What is parsed, with a fault or without.
     ensures exact { IfOk result (λ file. file ≡ reg_file_of bytes.now) }
@@ -108,7 +110,7 @@ pub fn parse(alloc: Global, bytes: &[u8]) -> Result<RegFile, AllocError>
 fn parse_lines(alloc: Global, bytes: &[u8]) -> Result<RegFile, AllocError>
     ensures { IfOk result (λ file. file ≡ reg_file_of bytes.now) }
 {
-    let mut lines = Lines::new(bytes);
+    let mut lines = Lines::new(alloc, bytes)?;
     let mut line = Vec::new(alloc);
     match lines.next_line(&mut line)? {
         NextLine::Text => match header(&line) {
@@ -128,28 +130,6 @@ fn stopped(alloc: Global, line: u64, kind: FaultKind) -> RegFile
     RegFile {
         statements: Statements::new(alloc),
         fault: Some(fault),
-    }
-}
-
-// whether a line is a header, and if it is that of the old form
-fn header(line: &[u16]) -> Option<bool>
-    ensures { result ≡ header_of line.now }
-{
-    if is_header(b"REGEDIT4".as_slice(), line) {
-        Some(true)
-    } else if is_header(b"Windows Registry Editor Version 5.00".as_slice(), line) {
-        Some(false)
-    } else {
-        None
-    }
-}
-
-fn is_header(text: &[u8], line: &[u16]) -> bool
-    ensures { result ≡ is_header text.now line.now }
-{
-    match strip(text, skip_blanks(line)) {
-        Some(rest) => ends_line(rest),
-        None => false,
     }
 }
 

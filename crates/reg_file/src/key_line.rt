@@ -1,8 +1,9 @@
 //! Lines that name a key.
-ghost use Rattle.std.specs.Prelude.{◌≡◌, IfOk, reverse};
+ghost use Rattle.std.specs.Prelude.{◌≡◌, ◌≤◌, IfOk, length, reverse};
+ghost use Rattle.reg_file.specs.Scanning.{from_bracket};
 ghost use Rattle.reg_file.specs.Reading.{key_scan, key_between, without_separator};
 
-use crate::blanks::without_end;
+use crate::blanks::ends_statement;
 use crate::scan::Scan;
 use crate::statement::Statement;
 use crate::text::Utf16Text;
@@ -12,13 +13,29 @@ use std::alloc::{AllocError, Global};
 pub(crate) fn scan_key(alloc: Global, line: &[u16]) -> Result<Scan, AllocError>
     ensures { IfOk result (λ scan. scan ≡ key_scan line.now) }
 {
-    let Some((bracket, inside)) = without_end(line).split_last() else {
+    let front = up_to_bracket(line);
+    let Some((_, inside)) = front.split_last() else {
         return Ok(Scan::NotUnderstood);
     };
-    if *bracket != 0x5d {
+    if !ends_statement(&line[front.len()..]) {
         return Ok(Scan::NotUnderstood);
     }
     scan_inside(alloc, inside)
+}
+
+// the units up to the last closing bracket and with it; none if there is no bracket
+fn up_to_bracket(line: &[u16]) -> &[u16]
+    ensures front { reverse result.now ≡ from_bracket (reverse line.now) }
+    ensures within { length result.now ≤ length line.now }
+{
+    let mut front = line;
+    while let Some((unit, others)) = front.split_last() {
+        if *unit == 0x5d {
+            return front;
+        }
+        front = others;
+    }
+    front
 }
 
 // what stands between the brackets: a minus first deletes the key

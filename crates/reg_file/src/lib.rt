@@ -9,8 +9,10 @@
 #![tactic(auto)]
 
 mod blanks;
+mod code_page;
 mod fault;
 mod file;
+mod header;
 mod hex_number;
 mod key_line;
 pub mod laws;

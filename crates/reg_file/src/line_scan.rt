@@ -3,7 +3,7 @@ ghost use Rattle.std.specs.Prelude.{◌≡◌, IfOk};
 ghost use Rattle.reg_file.specs.Reading.{first_scan, line_scan, bytes_scan};
 ghost use Rattle.reg_file.specs.Scanning.{onto_list, list_at, Before};
 
-use crate::blanks::{ends_line, skip_blanks};
+use crate::blanks::{is_tail, skip_blanks};
 use crate::key_line::scan_key;
 use crate::list::read_list;
 use crate::scan::{Pending, Scan};
@@ -23,7 +23,9 @@ pub(crate) fn scan_line(
     match pending {
         None => scan_first(alloc, old, skip_blanks(line)),
         Some(Pending::Text { name, text }) => scan_text(alloc, name, text, line),
-        Some(Pending::List { name, kind, bytes }) => scan_list(old, name, kind, bytes, line),
+        Some(Pending::List { name, kind, bytes }) => {
+            scan_list(alloc, old, name, kind, bytes, line)
+        }
         Some(Pending::WrongList) => Ok(scan_wrong(line)),
     }
 }
@@ -32,9 +34,10 @@ pub(crate) fn scan_line(
 fn scan_first(alloc: Global, old: bool, line: &[u16]) -> Result<Scan, AllocError>
     ensures { IfOk result (λ scan. scan ≡ first_scan old line.now) }
 {
+    if is_tail(line) {
+        return Ok(Scan::Nothing);
+    }
     match line {
-        [] | [0x0d] => Ok(Scan::Nothing),
-        [0x3b, ..] => Ok(Scan::Nothing),
         [0x5b, inside @ ..] => scan_key(alloc, inside),
         _ => scan_value(alloc, old, line),
     }
@@ -42,6 +45,7 @@ fn scan_first(alloc: Global, old: bool, line: &[u16]) -> Result<Scan, AllocError
 
 // a further line of a list
 fn scan_list(
+    alloc: Global,
     old: bool,
     name: Utf16Text,
     kind: u32,
@@ -53,5 +57,5 @@ fn scan_list(
 {
     let mut bytes = bytes;
     let end = read_list(&mut bytes, line)?;
-    Ok(scan_bytes(old, name, kind, bytes, end, line))
+    scan_bytes(alloc, old, name, kind, bytes, end, line)
 }

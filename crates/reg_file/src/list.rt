@@ -4,7 +4,7 @@ ghost use Rattle.reg_file.specs.Scanning.{Before, Behind, list_at, list_scan, on
 ghost use Rattle.std.specs.Option.{option_map};
 ghost use Rattle.reg_file.specs.Views.{list_view, number_view};
 
-use crate::blanks::{ends_line, is_blank, without_blanks, without_end};
+use crate::blanks::{ends_statement, is_blank, without_blanks, without_end};
 use crate::hex_number::digit;
 use crate::text::ValueData;
 use std::alloc::AllocError;
@@ -24,7 +24,7 @@ pub(crate) enum ListEnd {
 pub(crate) fn read_first(bytes: &mut ValueData, line: &[u16]) -> Result<ListEnd, AllocError>
     ensures { IfOk result (λ end. list_view end bytes.new ≡ onto_list bytes.old (list_scan line.now)) }
 {
-    if ends_line(line) {
+    if ends_statement(line) {
         return Ok(ListEnd::Whole);
     }
     read_list(bytes, line)
@@ -42,7 +42,7 @@ pub(crate) fn read_list(bytes: &mut ValueData, line: &[u16]) -> Result<ListEnd, 
             continue;
         }
         if *unit == 0x5c {
-            return Ok(if ends_line(others) {
+            return Ok(if ends_statement(others) {
                 ListEnd::Broken
             } else {
                 ListEnd::Wrong
@@ -56,7 +56,7 @@ pub(crate) fn read_list(bytes: &mut ValueData, line: &[u16]) -> Result<ListEnd, 
             return Ok(ListEnd::Whole);
         };
         if *comma != 0x2c {
-            return Ok(if ends_line(behind) {
+            return Ok(if ends_statement(behind) {
                 ListEnd::Whole
             } else {
                 ListEnd::Wrong

@@ -29,7 +29,7 @@ pub(crate) enum Pending {
 /// What a line comes to.
 #[derive(Drop)]
 pub(crate) enum Scan {
-    /// It is empty, or a comment.
+    /// It is empty, or a remark.
     Nothing,
     /// A statement ends with it.
     Complete {
@@ -41,8 +41,6 @@ pub(crate) enum Scan {
         /// What there is of it.
         pending: Pending,
     },
-    /// Its statement has text in a code page that isn't known.
-    CodePage,
     /// It is none of these.
     NotUnderstood,
 }

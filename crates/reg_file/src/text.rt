@@ -1,8 +1,10 @@
 //! Lists that a statement has: a text of units, and the bytes of a value.
 ghost use Rattle.std.specs.Prelude.{◌≡◌, ◌++◌, ◌∷◌, [], OnOk, IfOk, flat_map};
 ghost use Rattle.std.specs.Int.{w16, w32, to_le_bytes};
+ghost use Rattle.reg_file.specs.CodePage.{ansi_unit, ansi_data};
 ghost use Rattle.reg_file.specs.Reading.{text_data};
 
+use crate::code_page::ansi_unit;
 use std::alloc::{AllocError, Global};
 use std::marker::Model;
 
@@ -100,6 +102,15 @@ impl ValueData {
         Ok(ValueData { bytes })
     }
 
+    /// The data of a text of the code page: each byte's unit as two bytes, the low one first.
+    pub(crate) fn of_ansi(alloc: Global, bytes: &[u8]) -> Result<ValueData, AllocError>
+        ensures { IfOk result (λ made. made ≡ ansi_data bytes.now) }
+    {
+        let mut units = Vec::new(alloc);
+        push_ansi_units(&mut units, bytes)?;
+        Ok(ValueData { bytes: units })
+    }
+
     /// The data of a number of 32 bits: four bytes, the lowest first.
     pub(crate) fn of_number(alloc: Global, number: u32) -> Result<ValueData, AllocError>
         ensures { IfOk result (λ made. made ≡ to_le_bytes w32 number) }
@@ -130,6 +141,17 @@ fn push_units(bytes: &mut Vec<u8>, units: &[u16]) -> Result<(), AllocError>
 {
     for unit in units {
         bytes.extend_from_slice(&unit.to_le_bytes())?;
+    }
+    Ok(())
+}
+
+// each byte's unit as two bytes, the low one first
+fn push_ansi_units(units: &mut Vec<u8>, bytes: &[u8]) -> Result<(), AllocError>
+    ensures { OnOk result (units.new.items
+        ≡ units.old.items ++ flat_map (λ byte. to_le_bytes w16 (ansi_unit byte)) bytes.now) }
+{
+    for byte in bytes {
+        units.extend_from_slice(&ansi_unit(*byte).to_le_bytes())?;
     }
     Ok(())
 }

@@ -1,6 +1,6 @@
 //! What one line of a file does.
 ghost use Rattle.std.specs.Prelude.{◌≡◌, IfOk, Some};
-ghost use Rattle.reg_file.specs.Files.{turn_of, scanned, judged, has_high, first_of, end_fault};
+ghost use Rattle.reg_file.specs.Files.{turn_of, scanned, judged, first_of, end_fault};
 
 use crate::fault::{Fault, FaultKind};
 use crate::line_scan::scan_line;
@@ -67,18 +67,8 @@ pub(crate) fn take_line(
             Some(item.pending),
         ),
     };
-    if old && has_high(line) {
-        return Ok(stop(first, FaultKind::CodePage));
-    }
     let scan = scan_line(alloc, old, pending, line)?;
     Ok(turn_after(first, has_key, room, scan))
-}
-
-// in the old form no unit is above 0x7e
-fn has_high(line: &[u16]) -> bool
-    ensures { result ≡ has_high line.now }
-{
-    line.iter().any(|unit| *unit > 0x7e)
 }
 
 fn stop(line: u64, kind: FaultKind) -> Turn
@@ -127,7 +117,6 @@ fn turn_after(first: u64, has_key: bool, room: u64, scan: Scan) -> Turn
                 pending,
             }),
         },
-        Scan::CodePage => stop(first, FaultKind::CodePage),
         Scan::NotUnderstood => stop(first, FaultKind::NotUnderstood),
     }
 }

@@ -2,10 +2,10 @@
 ghost use Rattle.std.specs.Prelude.{◌≡◌, IfOk, [], ◌∷◌, ◌++◌, false};
 ghost use Rattle.std.specs.Option.{option_map, option_copied};
 ghost use Rattle.reg_file.specs.Scanning.{ListScan, list_scan, quote_at, onto_quote, number_at};
-ghost use Rattle.reg_file.specs.Reading.{name_at, value_scan, equals_scan, data_scan, typed_scan, kind_or_not, kind_scan, number_scan, typed_list, bytes_scan, list_value, wrong_list, is_text_kind, text_scan, text_data};
+ghost use Rattle.reg_file.specs.Reading.{name_at, value_scan, equals_scan, data_scan, typed_scan, kind_or_not, kind_scan, number_scan, typed_list, bytes_scan, list_value, list_data, wrong_list, is_text_kind, text_scan, text_data};
 ghost use Rattle.reg_file.specs.Views.{name_view, list_view, number_view};
 
-use crate::blanks::{ends_line, skip_blanks, strip};
+use crate::blanks::{ends_statement, skip_blanks, strip};
 use crate::hex_number::number;
 use crate::list::{ListEnd, goes_on, read_first};
 use crate::quote::{QuoteEnd, read_quote};
@@ -64,7 +64,7 @@ fn scan_data(alloc: Global, old: bool, name: Utf16Text, line: &[u16]) -> Result<
 {
     match line.split_first() {
         Some((0x22, rest)) => scan_text(alloc, name, Utf16Text::new(alloc), rest),
-        Some((0x2d, rest)) if ends_line(rest) => Ok(Scan::Complete {
+        Some((0x2d, rest)) if ends_statement(rest) => Ok(Scan::Complete {
             statement: Statement::DeleteValue { name },
         }),
         _ => scan_typed(alloc, old, name, line),
@@ -82,7 +82,7 @@ pub(crate) fn scan_text(
 {
     let mut text = text;
     match read_quote(&mut text, line)? {
-        QuoteEnd::Closed(rest) if ends_line(rest) => complete_text(alloc, name, text),
+        QuoteEnd::Closed(rest) if ends_statement(rest) => complete_text(alloc, name, text),
         QuoteEnd::Open => open_text(name, text),
         QuoteEnd::Closed(_) | QuoteEnd::Wrong => Ok(Scan::NotUnderstood),
     }
@@ -133,7 +133,7 @@ fn scan_number(
     ensures { IfOk result (λ scan. scan ≡ number_scan name (option_map number_view found.entry)) }
 {
     match found {
-        Some((number, rest)) if ends_line(rest) => {
+        Some((number, rest)) if ends_statement(rest) => {
             let bytes = ValueData::of_number(alloc, number)?;
             let kind = NUMBER_KIND;
             let statement = Statement::SetValue { name, kind, bytes };
@@ -173,30 +173,53 @@ fn scan_first(
 {
     let mut bytes = ValueData::new(alloc);
     let end = read_first(&mut bytes, line)?;
-    Ok(scan_bytes(old, name, kind, bytes, end, line))
+    scan_bytes(alloc, old, name, kind, bytes, end, line)
 }
 
 /// What a line of a list comes to, by where it ended, and all bytes so far.
 pub(crate) fn scan_bytes(
+    alloc: Global,
     old: bool,
     name: Utf16Text,
     kind: u32,
     bytes: ValueData,
     end: ListEnd,
     line: &[u16],
-) -> Scan
-    ensures { result ≡ bytes_scan old name kind line.now (list_view end bytes) }
+) -> Result<Scan, AllocError>
+    ensures { IfOk result (λ scan. scan ≡ bytes_scan old name kind line.now (list_view end bytes)) }
 {
     match end {
-        ListEnd::Whole if old && is_text_kind(kind) => Scan::CodePage,
-        ListEnd::Whole => Scan::Complete {
-            statement: Statement::SetValue { name, kind, bytes },
-        },
-        ListEnd::Broken => Scan::GoesOn {
+        ListEnd::Whole => complete_list(alloc, old, name, kind, bytes),
+        ListEnd::Broken => Ok(Scan::GoesOn {
             pending: Pending::List { name, kind, bytes },
-        },
-        ListEnd::Wrong => scan_wrong(line),
+        }),
+        ListEnd::Wrong => Ok(scan_wrong(line)),
     }
+}
+
+// a list that ends
+fn complete_list(
+    alloc: Global,
+    old: bool,
+    name: Utf16Text,
+    kind: u32,
+    bytes: ValueData,
+) -> Result<Scan, AllocError>
+    ensures { IfOk result (λ scan. scan ≡ list_value old name kind bytes) }
+{
+    let bytes = list_data(alloc, old, kind, bytes)?;
+    let statement = Statement::SetValue { name, kind, bytes };
+    Ok(Scan::Complete { statement })
+}
+
+// the data of a list: text in the code page, if it has such a type in the old form
+fn list_data(alloc: Global, old: bool, kind: u32, bytes: ValueData) -> Result<ValueData, AllocError>
+    ensures { IfOk result (λ made. made ≡ list_data old kind bytes) }
+{
+    if old && is_text_kind(kind) {
+        return ValueData::of_ansi(alloc, bytes.bytes());
+    }
+    Ok(bytes)
 }
 
 /// What a line comes to in a list that is wrong.
