@@ -13,7 +13,7 @@ one_more name (next ∷ names) last =
     ap (λ t. name ++ 92 ∷ t) (one_more next names last)
     ∙ sym (append_assoc name (92 ∷ join_with_byte 92 (next ∷ names)) (92 ∷ last))
 
-behind : (names : List (List ℕ)) (before last : List ℕ) → join_with_byte 92 ((names ++ before ∷ []) ++ last ∷ []) ≡ join_with_byte 92 (names ++ before ∷ []) ++ 92 ∷ last
+pub behind : (names : List (List ℕ)) (before last : List ℕ) → join_with_byte 92 ((names ++ before ∷ []) ++ last ∷ []) ≡ join_with_byte 92 (names ++ before ∷ []) ++ 92 ∷ last
 behind [] before last = refl
 behind (name ∷ names) before last = one_more name (names ++ before ∷ []) last
 

@@ -11,6 +11,10 @@ pub none_of : {X : Type 0} (xs : List X) → (length xs == 0) ≡ true → xs �
 none_of [] e = refl
 none_of (x ∷ xs) e = absurd (omega (arith, eqb_yes {a = length (x ∷ xs)} {b = 0} (subst T (sym e) tt)))
 
+pub no_items : {X : Type 0} (xs : List X) → length xs ≡ 0 → xs ≡ []
+no_items [] e = refl
+no_items (x ∷ xs) e = absurd (omega (arith, e))
+
 -- the items up to an index, and the one at it
 pub next_item : {X : Type 0} (xs : List X) (i : ℕ) (x : X) → slice_get xs i ≡ Some x → take i xs ++ x ∷ [] ≡ take (i + 1) xs
 next_item xs i x e = sym (take_more xs i x (slice_get_within xs i x e) ∙ ap (λ y. take i xs ++ y ∷ []) (get_or_from_slice_get xs i x x e))

@@ -1,7 +1,9 @@
+pub mod NameTests
 pub mod Encodings
+pub mod CharLaws
+pub mod Characters
 pub mod ByteUnits
 pub mod RegTexts
-pub mod NameTests
 pub mod Scans
 pub mod RegFiles
 pub mod TypeNames
@@ -9,6 +11,7 @@ pub mod Meanings
 pub mod UnitForms
 pub mod Moments
 pub mod JsonTexts
+pub mod Fields
 pub mod TsvTexts
 pub mod Hives
 pub mod SinkLaws

@@ -4,12 +4,12 @@ use Rattle.std.specs.List.{flat_map}
 use Rattle.std.specs.Fmt.{decimal}
 use Rattle.std.specs.FinMap as finite
 use Rattle.reg_tree_parts.specs.declared.value.Value.{Value}
-use Rattle.script_syntax.specs.Replies.{name_text, data_text}
+use Rattle.script_syntax.specs.Replies.{data_text}
 use Rattle.key_walk.specs.KeyRows.{NamedRow}
-use Rattle.tree_printer.specs.TreeTexts.{path_text}
 use Rattle.reg_export.specs.TypeNames.{type_name}
 use Rattle.reg_export.specs.Meanings.{DataMeaning, Text, Texts, Number, WideNumber, Unknown, meaning_of}
 use Rattle.reg_export.specs.UnitForms.{meaning_unit}
+use Rattle.reg_export.specs.Fields.{name_field, path_field}
 
 -- texts, parted by `%0000`
 abbrev pub tsv_texts : List (List ℕ) → List ℕ
@@ -27,12 +27,12 @@ tsv_meaning Unknown = []
 
 -- the fields of a key: the hive's number with the path, and the moment
 abbrev pub tsv_key_fields : ℕ → NamedRow → List ℕ
-tsv_key_fields hive key = decimal hive ++ codes ":" ++ path_text key.0 ++ codes "\t" ++ decimal (let row = key.1 in row.time)
+tsv_key_fields hive key = decimal hive ++ codes ":" ++ path_field key.0 ++ codes "\t" ++ decimal (let row = key.1 in row.time)
 
 -- the fields of a value: its name, its type, its data and what they mean
 abbrev pub tsv_value_fields : Value → List ℕ
 tsv_value_fields value =
-    codes "\t" ++ name_text value.name ++ codes "\t" ++ type_name value.kind ++ codes "\t" ++ data_text value.«data» ++ codes "\t" ++ tsv_meaning (meaning_of value.kind value.«data»)
+    codes "\t" ++ name_field value.name ++ codes "\t" ++ type_name value.kind ++ codes "\t" ++ data_text value.«data» ++ codes "\t" ++ tsv_meaning (meaning_of value.kind value.«data»)
 
 -- the line of a value, which begins with the fields of its key
 abbrev pub tsv_value_line : List ℕ → Value → List ℕ

@@ -1,13 +1,11 @@
--- How a unit is written.
+-- How a unit is written in JSON and in TSV.
 use Rattle.std.specs.Prelude.{ℕ, ◌==◌, ◌||◌, if◌then◌else◌, List, [], ◌∷◌, ◌++◌, codes}
 use Rattle.std.specs.Int.{w16, to_be_bytes}
 use Rattle.hex.specs.Hex.{encode_lower}
 use Rattle.reg_names.specs.Printable.{is_printable}
 use Rattle.script_syntax.specs.Replies.{unit_text}
 use Rattle.reg_export.specs.declared.unit_form.UnitForm.{UnitForm}
-use Rattle.reg_export.specs.declared.unit_form.UnitForm.TheVariants.{Plain, Quoted, Json, JsonTexts, Tsv}
-use Rattle.reg_export.specs.Encodings.{encoded}
-use Rattle.reg_export.specs.RegTexts.{escaped_unit}
+use Rattle.reg_export.specs.declared.unit_form.UnitForm.TheVariants.{Json, JsonTexts, Tsv}
 
 -- a unit of a string of JSON: a quote and a backslash get a backslash before them; one outside 0x20 to 0x7e is `\u` and
 -- four digits
@@ -20,8 +18,6 @@ meaning_unit u = if u == 32 then u ∷ [] else unit_text u
 
 -- the bytes of a unit in each form; in one string of several texts a unit 0 ends a string of JSON and begins another
 abbrev pub form_text : UnitForm → ℕ → List ℕ
-form_text (Plain encoding) u = encoded encoding (u ∷ [])
-form_text (Quoted encoding) u = encoded encoding (escaped_unit u)
 form_text Json u = json_unit u
 form_text JsonTexts u = if u == 0 then codes "\",\"" else json_unit u
 form_text Tsv u = meaning_unit u

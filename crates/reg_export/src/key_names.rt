@@ -7,7 +7,8 @@ ghost use Rattle.reg_export.specs.Encodings.{Prints};
 ghost use Rattle.reg_export.specs.UnitForms.{json_unit};
 
 use crate::encoding::{Encoding, write_text};
-use crate::unit_form::{UnitForm, write_plain_units, write_units};
+use crate::reg_units::write_plain_units;
+use crate::unit_form::{UnitForm, write_units};
 use key_walk::KeyPath;
 use std::io;
 use std::io::Write;

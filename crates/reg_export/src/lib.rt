@@ -1,14 +1,15 @@
 //! Keys and values as text: a registration file (.reg), lines of JSON, or lines of tab-separated fields.
 //!
 //! Each form is a [`KeySink`](key_walk::KeySink), so it prints the keys of a tree as well as the keys of a hive's image,
-//! and takes no memory. A registration file is UTF-16 or ASCII as a whole. So a first walk with a [`NameScan`] says
-//! which, and whether a file can hold the names at all; then come [`write_reg_header`] and a walk with a [`RegSink`].
+//! and takes no memory. A registration file is UTF-16, or UTF-8, as its caller chooses. A first walk with a [`NameScan`]
+//! says whether a file can hold the names at all; then come [`write_reg_header`] and a walk with a [`RegSink`].
 //! [`write_reg`] does both for hives in memory, and [`write_reg_below`] for a part of one.
 //!
 //! A text is written in small pieces: whoever calls hands in a writer with a buffer.
 #![tactic(auto)]
 
 mod byte_units;
+mod characters;
 mod encoding;
 mod json_sink;
 mod json_value;
@@ -19,7 +20,9 @@ mod name_scan;
 mod reg_data;
 mod reg_part;
 mod reg_sink;
+mod reg_units;
 mod reg_value;
+mod tsv_names;
 mod tsv_sink;
 mod type_name;
 mod unit_form;

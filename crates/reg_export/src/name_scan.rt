@@ -3,10 +3,11 @@ ghost use Rattle.std.specs.Prelude.{◌≡◌, ◌∷◌, [], map};
 ghost use Rattle.std.specs.List.{list_all, flat_map};
 ghost use Rattle.std.specs.FinMap as finite;
 ghost use Rattle.reg_tree_parts.specs.declared.value.Value.{Value};
-ghost use Rattle.reg_export.specs.NameTests.{is_ascii_name, fits_line};
+ghost use Rattle.reg_export.specs.NameTests.{fits_line};
 ghost use Rattle.key_walk.specs.KeyPaths.{names_on};
-ghost use Rattle.reg_export.specs.RegFiles.{encoding_of};
+ghost use Rattle.reg_export.specs.Scans.{seen_can_show};
 
+use crate::characters::are_chars;
 use crate::encoding::Encoding;
 use key_walk::{KeyPath, KeySink};
 use reg_tree_parts::{Key, Values};
@@ -16,8 +17,9 @@ use std::convert::Infallible;
 /// show, and prints nothing.
 #[derive(Clone, Copy)]
 pub struct NameScan {
-    /// All units of all names so far are 0x20 to 0x7e.
-    pub are_ascii: bool,
+    /// All names so far are characters: in none stands half of a pair of surrogates. If it does, UTF-8 can't show the
+    /// name.
+    pub are_chars: bool,
     /// No name so far has the unit 0, 10 or 13. If one has, a file of lines can't show it.
     pub fit_lines: bool,
 }
@@ -30,19 +32,18 @@ impl NameScan {
         ensures { result ≡ new_scan }
     {
         NameScan {
-            are_ascii: true,
+            are_chars: true,
             fit_lines: true,
         }
     }
 
-    /// How the units of a file with these names become bytes.
-    pub fn encoding(&self) -> Encoding
-        ensures { result ≡ encoding_of self.now.are_ascii }
+    /// Whether a file in this encoding can show all names so far.
+    pub fn can_show(&self, encoding: Encoding) -> bool
+        ensures { result ≡ seen_can_show encoding self.now }
     {
-        if self.are_ascii {
-            Encoding::Ascii
-        } else {
-            Encoding::Utf16
+        match encoding {
+            Encoding::Utf8 => self.fit_lines && self.are_chars,
+            Encoding::Utf16 => self.fit_lines,
         }
     }
 
@@ -50,7 +51,7 @@ impl NameScan {
     fn see(&mut self, name: &[u16])
         ensures { self.new ≡ scan_with self.old (name.now ∷ []) }
     {
-        self.are_ascii = self.are_ascii && is_ascii(name);
+        self.are_chars = self.are_chars && are_chars(name);
         self.fit_lines = self.fit_lines && fits(name);
     }
 
@@ -96,13 +97,6 @@ impl KeySink for NameScan {
     ghost took_none = { scan_nothing };
 
     ghost took_more = { scan_more };
-}
-
-// whether all units of a name are 0x20 to 0x7e
-fn is_ascii(name: &[u16]) -> bool
-    ensures { result ≡ is_ascii_name name.now }
-{
-    name.iter().all(|unit| matches!(*unit, 0x20..=0x7e))
 }
 
 // whether a name has none of the units 0, 10 and 13

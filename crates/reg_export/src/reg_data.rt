@@ -9,7 +9,7 @@ ghost use Rattle.reg_export.specs.RegTexts.{data_text, number_text, list_text, l
 
 use crate::byte_units::first_unit;
 use crate::encoding::{Encoding, write_text};
-use crate::unit_form::write_quoted_byte_units;
+use crate::reg_units::write_quoted_byte_units;
 use arrayvec::ArrayString;
 use std::fmt::Write as _;
 use std::io::{ErrorKind, Write};

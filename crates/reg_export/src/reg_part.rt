@@ -1,13 +1,13 @@
 //! Registration files of a part of a hive in memory.
-ghost use Rattle.std.specs.Prelude.{◌≡◌, ◌++◌, ◌↔◌, ◌∷◌, [], OnOk, IfOk, IsTrue, false, true};
+ghost use Rattle.std.specs.Prelude.{◌≡◌, ◌↔◌, ◌∷◌, [], OnOk, IfOk, IsTrue, false, true};
 ghost use Rattle.std.specs.Bool.{OnTrue, OnFalse};
-ghost use Rattle.std.specs.List.{flat_map, list_all};
+ghost use Rattle.std.specs.List.{flat_map};
 ghost use Rattle.std.specs.Io.KnownBytes.{Appends, Keeps};
 ghost use Rattle.reg_names.specs.Names.{folded_path};
 ghost use Rattle.reg_tree.specs.Maps.{is_there};
-ghost use Rattle.reg_export.specs.Encodings.{Prints, encoded, mark};
+ghost use Rattle.reg_export.specs.Encodings.{Prints, PrintsFile};
 ghost use Rattle.reg_export.specs.RegTexts.{reg_hive_lines, reg_units};
-ghost use Rattle.reg_export.specs.NameTests.{fits_line};
+ghost use Rattle.reg_export.specs.NameTests.{can_show};
 ghost use Rattle.reg_export.specs.Scans.{scan_with, new_scan, shown_names};
 ghost use Rattle.reg_export.specs.RegFiles.{file_names, reg_text};
 ghost use Rattle.reg_export.specs.Hives.{keys_below};
@@ -21,10 +21,11 @@ use reg_names::Name;
 use std::io;
 use std::io::Write;
 
-/// Writes the registration file of the key at a path of a hive and of all keys below it, and answers whether the key is
-/// there. If it isn't, nothing is written. It takes no memory.
+/// Writes the registration file of the key at a path of a hive and of all keys below it in this encoding, and answers
+/// whether the key is there. If it isn't, nothing is written. It takes no memory.
 pub fn write_reg_below<W: Write>(
     writer: &mut W,
+    encoding: Encoding,
     hive: &HiveKeys<'_>,
     path: &[Name],
 ) -> Result<bool, ExportError>
@@ -32,22 +33,22 @@ pub fn write_reg_below<W: Write>(
         ≡ is_there hive.now.tree.now (folded_path path.now)) }
     ensures text { IfOk result (λ there. OnTrue there
         (Appends (W.contents writer.old) (W.contents writer.new)
-        (reg_text (keys_below hive.now (folded_path path.now) ∷ [])))) }
+        (reg_text encoding (keys_below hive.now (folded_path path.now) ∷ [])))) }
     ensures missing { IfOk result (λ there. OnFalse there
         (Keeps (W.contents writer.old) (W.contents writer.new))) }
-    ensures bad_name { (result ≡ Err ExportError.BadName) ↔ (list_all fits_line
+    ensures bad_name { (result ≡ Err ExportError.BadName) ↔ (can_show encoding
         (file_names (keys_below hive.now (folded_path path.now) ∷ [])) ≡ false) }
     ensures unwritten { result ≡ Err ExportError.BadName →
         Keeps (W.contents writer.old) (W.contents writer.new) }
 {
     let (scan, there) = scan_part(hive, path);
-    if !scan.fit_lines {
+    if !scan.can_show(encoding) {
         return Err(ExportError::BadName);
     }
     if !there {
         return Ok(false);
     }
-    write_part(writer, scan.encoding(), hive, path)?;
+    write_part(writer, encoding, hive, path)?;
     Ok(true)
 }
 
@@ -69,8 +70,8 @@ fn write_part<W: Write>(
     hive: &HiveKeys<'_>,
     path: &[Name],
 ) -> io::Result<()>
-    ensures { OnOk result (Appends (W.contents writer.old) (W.contents writer.new) (mark encoding
-        ++ encoded encoding (reg_units (keys_below hive.now (folded_path path.now) ∷ [])))) }
+    ensures { OnOk result (PrintsFile encoding (W.contents writer.old) (W.contents writer.new)
+        (reg_units (keys_below hive.now (folded_path path.now) ∷ []))) }
 {
     write_reg_header(writer, encoding)?;
     write_lines(writer, encoding, hive, path)

@@ -1,8 +1,7 @@
 //! Keys as the lines of a registration file.
 ghost use Rattle.std.specs.Prelude.{◌++◌, OnOk, codes};
-ghost use Rattle.std.specs.Io.KnownBytes.{Appends};
 ghost use Rattle.key_walk.specs.KeyPaths.{names_on};
-ghost use Rattle.reg_export.specs.Encodings.{Prints, encoded, mark};
+ghost use Rattle.reg_export.specs.Encodings.{Prints, PrintsFile};
 ghost use Rattle.reg_export.specs.RegTexts.{line, reg_header, reg_path, reg_key_lines};
 ghost use Rattle.reg_export.specs.SinkLaws.{RegPrinted, reg_printed_none, reg_printed_more};
 
@@ -17,8 +16,8 @@ use std::io::Write;
 /// Writes what stands before the keys of a registration file: a mark if it is UTF-16, the line of version 5, and an
 /// empty line.
 pub fn write_reg_header<W: Write>(writer: &mut W, encoding: Encoding) -> io::Result<()>
-    ensures { OnOk result (Appends (W.contents writer.old) (W.contents writer.new)
-        (mark encoding ++ encoded encoding reg_header)) }
+    ensures { OnOk result (PrintsFile encoding (W.contents writer.old) (W.contents writer.new)
+        reg_header) }
 {
     write_mark(writer, encoding)?;
     write_text(
@@ -30,8 +29,9 @@ pub fn write_reg_header<W: Write>(writer: &mut W, encoding: Encoding) -> io::Res
 
 /// Prints keys as lines of a registration file, each key behind the prefix of its hive. It takes no memory.
 ///
-/// It is for a file that was begun in this encoding by [`write_reg_header`]. A name that a
-/// [`NameScan`](crate::NameScan) finds unfit for a line is printed as it is, and makes the file another one.
+/// It is for a file that was begun in this encoding by [`write_reg_header`], and for names that a
+/// [`NameScan`](crate::NameScan) finds fit for it. A name with the unit 0, 10 or 13 is printed as it is, and makes the
+/// file another one.
 #[derive(Drop)]
 pub struct RegSink<'a, W> {
     /// What is written into.
@@ -50,7 +50,8 @@ impl<W: Write> KeySink for RegSink<'_, W> {
 
     type Error = io::Error;
 
-    /// Prints the lines of a key. `Err` says that a write failed, or that a name is not ASCII in a file that is.
+    /// Prints the lines of a key. `Err` says that a write failed, or that in UTF-8 half of a pair of surrogates stands in
+    /// a name.
     fn take(&mut self, path: &KeyPath<'_>, key: &Key) -> io::Result<()> {
         write_key(self.writer, self.encoding, self.prefix, path, key)
     }

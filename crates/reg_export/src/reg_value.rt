@@ -7,7 +7,7 @@ ghost use Rattle.reg_export.specs.RegTexts.{escaped_unit, value_head, value_name
 
 use crate::encoding::{Encoding, write_text};
 use crate::reg_data::write_data;
-use crate::unit_form::write_quoted_units;
+use crate::reg_units::write_quoted_units;
 use reg_tree_parts::{Value, Values};
 use std::io;
 use std::io::Write;

@@ -4,28 +4,29 @@ ghost use Rattle.std.specs.List.{flat_map};
 ghost use Rattle.std.specs.FinMap as finite;
 ghost use Rattle.std.specs.Io.KnownBytes.{Appends};
 ghost use Rattle.key_walk.specs.KeyPaths.{names_on};
-ghost use Rattle.script_syntax.specs.Replies.{name_text};
+ghost use Rattle.reg_export.specs.Fields.{name_field};
 ghost use Rattle.reg_export.specs.TypeNames.{type_name};
 ghost use Rattle.tree_printer.specs.Printed.{Printed, printed_none, printed_more};
 ghost use Rattle.reg_export.specs.Meanings.{meant};
 ghost use Rattle.reg_export.specs.TsvTexts.{tsv_key_fields, tsv_key_lines, tsv_value_fields, tsv_value_line, tsv_meaning};
 
 use crate::meaning::{Meaning, data_meaning};
+use crate::tsv_names::{write_name_field, write_path_field};
 use crate::type_name::write_type;
 use crate::unit_form::{UnitForm, write_byte_units};
 use key_walk::{KeyPath, KeySink};
 use reg_tree_parts::{Key, Value};
-use script_syntax::{write_data, write_name};
+use script_syntax::write_data;
 use std::io;
 use std::io::Write;
-use tree_printer::write_key_path;
 
 /// Prints keys as lines of six fields, with a tab between each two: a line for each key, and after it one for each of
 /// its values. It takes no memory.
 ///
-/// Lines are ASCII and end with LF. The fields are the hive's number with the path, the moment of the key's last write
-/// as a FILETIME, the value's name, its type, its data as hex digits, and what the data mean by their type. The last
-/// four are empty in the line of a key. Names are written as in a reply to a script.
+/// Lines end with LF. The fields are the hive's number with the path, the moment of the key's last write as a FILETIME,
+/// the value's name, its type, its data as hex digits, and what the data mean by their type. The last four are empty in
+/// the line of a key. Names are UTF-8; a control character, `%` and half of a pair of surrogates are `%` and four hex
+/// digits there. The other fields are ASCII.
 #[derive(Drop)]
 pub struct TsvSink<'a, W> {
     /// What is written into.
@@ -109,7 +110,7 @@ fn write_key_fields<W: Write>(
         (tsv_key_fields hive (names_on path.now, key.now))) }
 {
     write!(writer, "{hive}:")?;
-    write_key_path(writer, path)?;
+    write_path_field(writer, path)?;
     write!(writer, "\t{}", key.time())
 }
 
@@ -128,11 +129,11 @@ fn write_value_fields<W: Write>(writer: &mut W, value: &Value) -> io::Result<()>
 // the fields of a name and a type, and the tab after them
 fn write_name_and_type<W: Write>(writer: &mut W, value: &Value) -> io::Result<()>
     ensures { OnOk result (Appends (W.contents writer.old) (W.contents writer.new)
-        (codes "\t" ++ name_text value.now.name ++ codes "\t" ++ type_name value.now.kind
+        (codes "\t" ++ name_field value.now.name ++ codes "\t" ++ type_name value.now.kind
         ++ codes "\t")) }
 {
     writer.write_all(b"\t")?;
-    write_name(writer, value.name.units())?;
+    write_name_field(writer, value.name.units())?;
     writer.write_all(b"\t")?;
     write_type(writer, value.kind)?;
     writer.write_all(b"\t")

@@ -1,14 +1,11 @@
-//! Units of names and of data, in the forms in which they are written.
+//! Units of names and of data, in JSON and in TSV.
 ghost use Rattle.std.specs.Prelude.{OnOk};
 ghost use Rattle.std.specs.List.{flat_map};
 ghost use Rattle.std.specs.Io.KnownBytes.{Appends};
 ghost use Rattle.reg_export.specs.ByteUnits.{units_of};
-ghost use Rattle.reg_export.specs.Encodings.{Prints};
-ghost use Rattle.reg_export.specs.RegTexts.{escaped_unit};
 ghost use Rattle.reg_export.specs.UnitForms.{form_text, json_unit, meaning_unit};
 
 use crate::byte_units::first_unit;
-use crate::encoding::{self, Encoding};
 use script_syntax::{write_data, write_name};
 use std::io;
 use std::io::Write;
@@ -16,52 +13,12 @@ use std::io::Write;
 /// How a unit is written.
 #[derive(Clone, Copy)]
 pub(crate) enum UnitForm {
-    /// As it is, in a registration file.
-    Plain(Encoding),
-    /// Within quotes of a registration file.
-    Quoted(Encoding),
     /// In a string of JSON.
     Json,
     /// In strings of JSON, one after the other: a unit 0 is between two of them.
     JsonTexts,
     /// In the last field of a line of TSV.
     Tsv,
-}
-
-/// Writes units as they are.
-pub(crate) fn write_plain_units<W: Write>(
-    writer: &mut W,
-    encoding: Encoding,
-    units: &[u16],
-) -> io::Result<()>
-    ensures { OnOk result (Prints encoding (W.contents writer.old) (W.contents writer.new)
-        units.now) }
-{
-    write_units(writer, UnitForm::Plain(encoding), units)
-}
-
-/// Writes units within quotes.
-pub(crate) fn write_quoted_units<W: Write>(
-    writer: &mut W,
-    encoding: Encoding,
-    units: &[u16],
-) -> io::Result<()>
-    ensures { OnOk result (Prints encoding (W.contents writer.old) (W.contents writer.new)
-        (flat_map escaped_unit units.now)) }
-{
-    write_units(writer, UnitForm::Quoted(encoding), units)
-}
-
-/// Writes the units of bytes within quotes.
-pub(crate) fn write_quoted_byte_units<W: Write>(
-    writer: &mut W,
-    encoding: Encoding,
-    bytes: &[u8],
-) -> io::Result<()>
-    ensures { OnOk result (Prints encoding (W.contents writer.old) (W.contents writer.new)
-        (flat_map escaped_unit (units_of bytes.now))) }
-{
-    write_byte_units(writer, UnitForm::Quoted(encoding), bytes)
 }
 
 /// Writes units.
@@ -97,8 +54,6 @@ fn write_unit<W: Write>(writer: &mut W, form: UnitForm, unit: u16) -> io::Result
         (form_text form unit)) }
 {
     match form {
-        UnitForm::Plain(encoding) => encoding::write_unit(writer, encoding, unit),
-        UnitForm::Quoted(encoding) => write_escaped(writer, encoding, unit),
         UnitForm::Json => write_json(writer, unit),
         UnitForm::JsonTexts => match unit {
             0 => writer.write_all(b"\",\""),
@@ -109,18 +64,6 @@ fn write_unit<W: Write>(writer: &mut W, form: UnitForm, unit: u16) -> io::Result
             0x40 => writer.write_all(b"@"),
             _ => write_name(writer, &[unit]),
         },
-    }
-}
-
-// a unit within quotes of a registration file
-fn write_escaped<W: Write>(writer: &mut W, encoding: Encoding, unit: u16) -> io::Result<()>
-    ensures { OnOk result (Prints encoding (W.contents writer.old) (W.contents writer.new)
-        (escaped_unit unit)) }
-{
-    match unit {
-        0x22 => encoding::write_text(writer, encoding, b"\\\""),
-        0x5c => encoding::write_text(writer, encoding, b"\\\\"),
-        _ => encoding::write_unit(writer, encoding, unit),
     }
 }
 

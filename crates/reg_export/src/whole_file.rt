@@ -1,10 +1,10 @@
 //! Whole registration files of hives in memory.
-ghost use Rattle.std.specs.Prelude.{◌≡◌, ◌++◌, ◌↔◌, OnOk, map, false};
-ghost use Rattle.std.specs.List.{flat_map, list_all};
+ghost use Rattle.std.specs.Prelude.{◌≡◌, ◌↔◌, OnOk, map, false};
+ghost use Rattle.std.specs.List.{flat_map};
 ghost use Rattle.std.specs.Io.KnownBytes.{Appends, Keeps};
-ghost use Rattle.reg_export.specs.Encodings.{Prints, encoded, mark};
+ghost use Rattle.reg_export.specs.Encodings.{Prints, PrintsFile};
 ghost use Rattle.reg_export.specs.RegTexts.{reg_hive_lines, reg_units};
-ghost use Rattle.reg_export.specs.NameTests.{fits_line};
+ghost use Rattle.reg_export.specs.NameTests.{can_show};
 ghost use Rattle.reg_export.specs.Scans.{scan_with, new_scan};
 ghost use Rattle.reg_export.specs.RegFiles.{file_names, reg_text};
 ghost use Rattle.reg_export.specs.Hives.{keys_of};
@@ -29,7 +29,8 @@ pub struct HiveKeys<'a> {
 /// Why a registration file is not written to its end.
 #[derive(Debug, Drop)]
 pub enum ExportError {
-    /// A name of a key or a value has the unit 0, 10 or 13. Nothing was written.
+    /// A file in this encoding can't show a name of a key or a value: it has the unit 0, 10 or 13, or in UTF-8 half of a
+    /// pair of surrogates. Nothing was written.
     BadName,
     /// A write failed. What was written before it stays written.
     Write(io::Error),
@@ -45,20 +46,24 @@ impl From<io::Error> for ExportError {
     }
 }
 
-/// Writes the registration file of these hives, in this order. It takes no memory.
-pub fn write_reg<W: Write>(writer: &mut W, hives: &[HiveKeys<'_>]) -> Result<(), ExportError>
+/// Writes the registration file of these hives, in this order and encoding. It takes no memory.
+pub fn write_reg<W: Write>(
+    writer: &mut W,
+    encoding: Encoding,
+    hives: &[HiveKeys<'_>],
+) -> Result<(), ExportError>
     ensures text { OnOk result (Appends (W.contents writer.old) (W.contents writer.new)
-        (reg_text (map keys_of hives.now))) }
+        (reg_text encoding (map keys_of hives.now))) }
     ensures bad_name { (result ≡ Err ExportError.BadName)
-        ↔ (list_all fits_line (file_names (map keys_of hives.now)) ≡ false) }
+        ↔ (can_show encoding (file_names (map keys_of hives.now)) ≡ false) }
     ensures unwritten { result ≡ Err ExportError.BadName →
         Keeps (W.contents writer.old) (W.contents writer.new) }
 {
     let scan = scan_hives(hives);
-    if !scan.fit_lines {
+    if !scan.can_show(encoding) {
         return Err(ExportError::BadName);
     }
-    write_file(writer, scan.encoding(), hives)?;
+    write_file(writer, encoding, hives)?;
     Ok(())
 }
 
@@ -79,8 +84,8 @@ fn write_file<W: Write>(
     encoding: Encoding,
     hives: &[HiveKeys<'_>],
 ) -> io::Result<()>
-    ensures { OnOk result (Appends (W.contents writer.old) (W.contents writer.new)
-        (mark encoding ++ encoded encoding (reg_units (map keys_of hives.now)))) }
+    ensures { OnOk result (PrintsFile encoding (W.contents writer.old) (W.contents writer.new)
+        (reg_units (map keys_of hives.now))) }
 {
     write_reg_header(writer, encoding)?;
     write_hives(writer, encoding, hives)

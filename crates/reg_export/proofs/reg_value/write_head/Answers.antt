@@ -1,0 +1,7 @@
+use Rattle.std.proofs.Common.{refl}
+use Rattle.key_walk.proofs.Rows.{on_ok}
+use Rattle.reg_export.specs.SinkLaws.{prints_both}
+use Rattle.reg_export.proofs.reg_value.write_head.Goals as goal
+
+pub returns : goal.returns
+returns g c = on_ok c.write_text.result (λ end. prints_both c.args.encoding _ _ _ _ _ _ c.in_ok-write_name.ensures end refl) c.write_text.ensures
