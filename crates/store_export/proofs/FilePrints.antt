@@ -1,5 +1,5 @@
 -- What is answered of keys that a sink took.
-use Rattle.std.proofs.Common.{◌≡◌, ◌⊎◌, inl, inr, ℕ, Bool, true, false, if◌then◌else◌, List, [], ◌∷◌, ◌++◌, Option, Some, None, Result, Ok, Err, MatchResult, IfSome, refl, sym, subst, ◌∙◌, ap}
+use Rattle.std.proofs.Common.{◌≡◌, ◌⊎◌, inl, inr, ℕ, Bool, true, false, ◌&&◌, if◌then◌else◌, List, [], ◌∷◌, ◌++◌, Option, Some, None, Result, Ok, Err, MatchResult, IfSome, refl, sym, subst, ◌∙◌, ap}
 use Rattle.std.specs.List.{flat_map, list_all}
 use Rattle.std.specs.Io.KnownBytes.{Appends, Keeps}
 use Rattle.std.specs.declared.io.Error.{Error}
@@ -21,11 +21,12 @@ use Rattle.hive_walk.specs.Walks.{IsNoFault}
 use Rattle.reg_prefixes.specs.declared.prefix.Prefix.{Prefix}
 use Rattle.reg_export.specs.declared.encoding.Encoding.{Encoding}
 use Rattle.reg_export.specs.declared.name_scan.NameScan.{NameScan}
-use Rattle.reg_export.specs.NameTests.{fits_line, is_ascii_name}
-use Rattle.reg_export.specs.Encodings.{encoded, mark}
+use Rattle.reg_export.specs.declared.encoding.Encoding.TheVariants.{Utf8, Utf16}
+use Rattle.reg_export.specs.NameTests.{are_chars, can_show, fits_line}
+use Rattle.reg_export.specs.Encodings.{PrintsFile}
 use Rattle.reg_export.specs.RegTexts.{reg_units}
-use Rattle.reg_export.specs.RegFiles.{encoding_of, file_encoding, file_names, reg_text}
-use Rattle.reg_export.specs.Scans.{new_scan, scan_with, shown_names}
+use Rattle.reg_export.specs.RegFiles.{file_names, reg_text}
+use Rattle.reg_export.specs.Scans.{new_scan, scan_with, seen_can_show, shown_names}
 use Rattle.reg_export.specs.TsvTexts.{tsv_key_lines}
 use Rattle.store_export.specs.declared.request.Form.{Form}
 use Rattle.store_export.specs.declared.request.Form.TheVariants.{Reg, Json, Tsv}
@@ -89,17 +90,20 @@ scanned_by (Err (error.Write fault)) form prefix keys before after f p = tt
 seen_names : (prefix : List ℕ) (keys : List NamedRow) (test : List ℕ → Bool) (seen : Bool) → seen ≡ list_all test (flat_map shown_names keys) → list_all test (file_names ((prefix, keys) ∷ [])) ≡ seen
 seen_names prefix keys test seen e = ap (list_all test) (append-nil (flat_map shown_names keys)) ∙ sym e
 
--- a registration file can't show a name that was seen
-pub bad_name : (T : Type 0) (names : NameScan) (prefix : List ℕ) (keys : List NamedRow) (known : Option (List ℕ)) → names ≡ scan_with new_scan (flat_map shown_names keys) → names.fit_lines ≡ false
-    → AnswersScanned {T = T} Reg prefix keys known known (Err (error.Refused BadName))
-bad_name T names prefix keys known seen bad = inr (refl, refl, seen_names prefix keys fits_line names.fit_lines (ap (λ (scan : NameScan). scan.fit_lines) seen) ∙ bad, keeps_same known)
+-- whether a file can show the names that were seen
+seen_shown : (encoding : Encoding) (names : NameScan) (prefix : List ℕ) (keys : List NamedRow) → names ≡ scan_with new_scan (flat_map shown_names keys) → can_show encoding (file_names ((prefix, keys) ∷ [])) ≡ seen_can_show encoding names
+seen_shown Utf8 names prefix keys seen =
+    let lines = seen_names prefix keys fits_line names.fit_lines (ap (λ (scan : NameScan). scan.fit_lines) seen) in
+    let whole = seen_names prefix keys are_chars names.are_chars (ap (λ (scan : NameScan). scan.are_chars) seen) in λ i. lines i && whole i
+seen_shown Utf16 names prefix keys seen = seen_names prefix keys fits_line names.fit_lines (ap (λ (scan : NameScan). scan.fit_lines) seen)
 
--- the file is written in the encoding of its names
-pub file_shown : (names : NameScan) (encoding : Encoding) (prefix : List ℕ) (keys : List NamedRow) (before after : Option (List ℕ)) → names ≡ scan_with new_scan (flat_map shown_names keys) → encoding ≡ encoding_of names.are_ascii
-    → Appends before after (mark encoding ++ encoded encoding (reg_units ((prefix, keys) ∷ []))) → ShowsKeys Reg prefix keys before after
-file_shown names encoding prefix keys before after seen same written =
-    let its : encoding ≡ file_encoding ((prefix, keys) ∷ []) = same ∙ ap encoding_of (sym (seen_names prefix keys is_ascii_name names.are_ascii (ap (λ (scan : NameScan). scan.are_ascii) seen))) in
-    (reg_text ((prefix, keys) ∷ []), refl, subst (λ (e : Encoding). Appends before after (mark e ++ encoded e (reg_units ((prefix, keys) ∷ [])))) its written)
+-- a registration file can't show a name that was seen
+pub bad_name : (T : Type 0) (encoding : Encoding) (names : NameScan) (prefix : List ℕ) (keys : List NamedRow) (known : Option (List ℕ)) → names ≡ scan_with new_scan (flat_map shown_names keys) → seen_can_show encoding names ≡ false
+    → AnswersScanned {T = T} (Reg encoding) prefix keys known known (Err (error.Refused BadName))
+bad_name T encoding names prefix keys known seen bad = inr (refl, (encoding, refl, seen_shown encoding names prefix keys seen ∙ bad), keeps_same known)
+
+pub file_shown : (encoding : Encoding) (prefix : List ℕ) (keys : List NamedRow) (before after : Option (List ℕ)) → PrintsFile encoding before after (reg_units ((prefix, keys) ∷ [])) → ShowsKeys (Reg encoding) prefix keys before after
+file_shown encoding prefix keys before after written = (reg_text encoding ((prefix, keys) ∷ []), refl, written.1)
 
 pub tsv_shown : (prefix : List ℕ) (keys : List NamedRow) (before after : Option (List ℕ)) → Appends before after (flat_map (tsv_key_lines 0) keys) → ShowsKeys Tsv prefix keys before after
 tsv_shown prefix keys before after written = (flat_map (tsv_key_lines 0) keys, refl, written)
@@ -119,7 +123,7 @@ unscanned T form prefix keys known (error.Write fault) refused = absurd refused
 pub scanned_keys : {T : Type 0} (answer : Result T ExportError) (form : Form) (prefix : List ℕ) (keys : List NamedRow) (before after : Option (List ℕ)) → are_some keys ≡ true → AnswersScanned form prefix keys before after answer → AnswersKeys form prefix keys before after answer
 scanned_keys (Ok done) form prefix keys before after some shown = (some, shown)
 scanned_keys (Err (error.Refused why)) form prefix keys before after some (inl lacking) = inl lacking
-scanned_keys (Err (error.Refused why)) form prefix keys before after some (inr bad) = inr (inr (bad.0, some, bad.1, bad.2), bad.3)
+scanned_keys (Err (error.Refused why)) form prefix keys before after some (inr bad) = inr (inr (bad.0, some, bad.1), bad.2)
 scanned_keys (Err error.CannotRead) form prefix keys before after some p = p
 scanned_keys (Err (error.Write fault)) form prefix keys before after some p = tt
 
@@ -127,7 +131,7 @@ scanned_keys (Err (error.Write fault)) form prefix keys before after some p = tt
 
 -- a text of keys of hive 0 is one of hives
 text_of_hives : (form : Form) (prefixes : List Prefix) (keys : List NamedRow) (text : List ℕ) → IsKeysText form (prefix_of prefixes 0) keys text → IsTextOf form prefixes ((0, keys) ∷ []) text
-text_of_hives Reg prefixes keys text is = is
+text_of_hives (Reg encoding) prefixes keys text is = is
 text_of_hives Json prefixes keys text is = (text, [], is, refl, sym (append-nil text))
 text_of_hives Tsv prefixes keys text is = is ∙ sym (append-nil (flat_map (tsv_key_lines 0) keys))
 
@@ -144,7 +148,7 @@ shows_rows request keys before after shown =
 
 rows_refused : (request : Request) (keys : List NamedRow) (why : Refusal) → KeysRefused request.form (prefix_of request.prefixes.now 0) keys why → RowsRefused request (found_keys keys) why
 rows_refused request keys why (inl none) = subst (λ rows. RowsRefused request rows why) (sym (none_found keys none.1)) none.0
-rows_refused request keys why (inr bad) = subst (λ rows. RowsRefused request rows why) (sym (found_is keys bad.1)) (inr (bad.0, (bad.2, bad.3)))
+rows_refused request keys why (inr bad) = subst (λ rows. RowsRefused request rows why) (sym (found_is keys bad.1)) (inr (bad.0, bad.2))
 
 pub asked_some : {T : Type 0} (request : Request) (asked : Option (List (List ℕ))) (path : List (List ℕ)) (prefix : List ℕ) (tree : TreeMap) (before after : Option (List ℕ)) (answer : Result T ExportError) → Some path ≡ asked → prefix ≡ prefix_of request.prefixes.now 0
     → AnswersKeys request.form prefix (part_of path (tree_rows tree)) before after answer → AnswersAsked request asked tree before after answer

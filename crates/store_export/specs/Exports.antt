@@ -1,6 +1,6 @@
 -- What is printed of the trees of a store.
 use Rattle.std.specs.Prelude.{◌≡◌, ◌⊎◌, ℕ, ◌+◌, if◌then◌else◌, List, [], ◌∷◌, ◌++◌, map, false, Option, Some, None, slice_get}
-use Rattle.std.specs.List.{flat_map, list_all}
+use Rattle.std.specs.List.{flat_map}
 use Rattle.std.specs.Borrow.{Bor}
 use Rattle.std.specs.Io.KnownBytes.{Appends, Keeps}
 use Rattle.refusals.specs.declared.refusal.Refusal.{Refusal}
@@ -11,7 +11,8 @@ use Rattle.key_walk.specs.KeyRows.{NamedRow, tree_rows}
 use Rattle.key_walk.specs.SubtreeRows.{rows_below}
 use Rattle.reg_prefixes.specs.declared.prefix.Prefix.{Prefix}
 use Rattle.reg_prefixes.specs.Places.{shown_in}
-use Rattle.reg_export.specs.NameTests.{fits_line}
+use Rattle.reg_export.specs.declared.encoding.Encoding.{Encoding}
+use Rattle.reg_export.specs.NameTests.{can_show}
 use Rattle.reg_export.specs.RegFiles.{file_names, reg_text}
 use Rattle.reg_export.specs.JsonTexts.{AreJsonLines}
 use Rattle.reg_export.specs.TsvTexts.{tsv_key_lines}
@@ -69,7 +70,7 @@ AreJsonTexts (hive ∷ hives) text =
 
 -- a text shows these keys in a form
 abbrev pub IsTextOf : Form → List Prefix → List HiveRows → List ℕ → Type 0
-IsTextOf Reg prefixes hives text = text ≡ reg_text (map (with_prefix prefixes) hives)
+IsTextOf (Reg encoding) prefixes hives text = text ≡ reg_text encoding (map (with_prefix prefixes) hives)
 IsTextOf Json prefixes hives text = AreJsonTexts hives text
 IsTextOf Tsv prefixes hives text = text ≡ tsv_text hives
 
@@ -77,9 +78,10 @@ IsTextOf Tsv prefixes hives text = text ≡ tsv_text hives
 abbrev pub Shows : Form → List Prefix → List HiveRows → Option (List ℕ) → Option (List ℕ) → Type 0
 Shows form prefixes hives before after = (text : List ℕ) × IsTextOf form prefixes hives text × Appends before after text
 
--- no registration file can show these keys: a name has the unit 0, 10 or 13
+-- no registration file can show these keys in the encoding that is asked for: a name has the unit 0, 10 or 13, or in UTF-8
+-- half of a pair of surrogates
 abbrev pub HaveBadName : Form → List Prefix → List HiveRows → Type 0
-HaveBadName form prefixes hives = (form ≡ Reg) × (list_all fits_line (file_names (map (with_prefix prefixes) hives)) ≡ false)
+HaveBadName form prefixes hives = (encoding : Encoding) × (form ≡ Reg encoding) × (can_show encoding (file_names (map (with_prefix prefixes) hives)) ≡ false)
 
 -- why keys are not shown: memory is lacking, or a name is bad
 abbrev pub CannotShow : Request → List HiveRows → Refusal → Type 0

@@ -1,6 +1,6 @@
 -- Steps of an export of a hive's file.
 use Rattle.std.specs.Prelude.{◌≡◌, ◌⊎◌, ℕ, true, false, Bool, List, [], ◌∷◌, Option, Some, None, IfSome, Result, Ok, Err}
-use Rattle.std.specs.List.{flat_map, list_all}
+use Rattle.std.specs.List.{flat_map}
 use Rattle.std.specs.Io.KnownBytes.{Appends, Keeps}
 use Rattle.std.specs.declared.io.Error.{Error}
 use Rattle.refusals.specs.declared.refusal.Refusal.{Refusal}
@@ -12,7 +12,8 @@ use Rattle.hive_walk.specs.declared.errors.ImageError.TheVariants as image_error
 use Rattle.hive_file_reader.specs.Readings.{FileBinsRefusedAs}
 use Rattle.reg_tree.specs.Maps.{TreeMap}
 use Rattle.key_walk.specs.KeyRows.{NamedRow, tree_rows}
-use Rattle.reg_export.specs.NameTests.{fits_line}
+use Rattle.reg_export.specs.declared.encoding.Encoding.{Encoding}
+use Rattle.reg_export.specs.NameTests.{can_show}
 use Rattle.reg_export.specs.RegFiles.{file_names, reg_text}
 use Rattle.reg_export.specs.JsonTexts.{AreJsonLines}
 use Rattle.reg_export.specs.TsvTexts.{tsv_key_lines}
@@ -48,7 +49,7 @@ ScanRefused keys (error.Write fault) = ⊥
 
 -- a text shows keys of hive 0 in a form, behind this prefix
 abbrev pub IsKeysText : Form → List ℕ → List NamedRow → List ℕ → Type 0
-IsKeysText Reg prefix keys text = text ≡ reg_text ((prefix, keys) ∷ [])
+IsKeysText (Reg encoding) prefix keys text = text ≡ reg_text encoding ((prefix, keys) ∷ [])
 IsKeysText Json prefix keys text = AreJsonLines 0 keys text
 IsKeysText Tsv prefix keys text = text ≡ flat_map (tsv_key_lines 0) keys
 
@@ -56,11 +57,15 @@ IsKeysText Tsv prefix keys text = text ≡ flat_map (tsv_key_lines 0) keys
 abbrev pub ShowsKeys : Form → List ℕ → List NamedRow → Option (List ℕ) → Option (List ℕ) → Type 0
 ShowsKeys form prefix keys before after = (text : List ℕ) × IsKeysText form prefix keys text × Appends before after text
 
+-- a registration file in the encoding that is asked for can't show a name
+abbrev pub HasBadName : Form → List ℕ → List NamedRow → Type 0
+HasBadName form prefix keys = (encoding : Encoding) × (form ≡ Reg encoding) × (can_show encoding (file_names ((prefix, keys) ∷ [])) ≡ false)
+
 -- why keys are not shown: there are none; or a registration file can't show a name
 abbrev pub KeysRefused : Form → List ℕ → List NamedRow → Refusal → Type 0
 KeysRefused form prefix keys why =
     ((why ≡ NotFound) × (are_some keys ≡ false))
-    ⊎ ((why ≡ BadName) × (are_some keys ≡ true) × (form ≡ Reg) × (list_all fits_line (file_names ((prefix, keys) ∷ [])) ≡ false))
+    ⊎ ((why ≡ BadName) × (are_some keys ≡ true) × HasBadName form prefix keys)
 
 -- there are keys, and they are shown; or why not, before which nothing was printed unless memory is lacking
 abbrev pub AnswersKeys : {T : Type 0} → Form → List ℕ → List NamedRow → Option (List ℕ) → Option (List ℕ) → Result T ExportError → Type 0
@@ -73,7 +78,7 @@ AnswersKeys form prefix keys before after (Err (error.Write fault)) = Unit {0}
 abbrev pub AnswersScanned : {T : Type 0} → Form → List ℕ → List NamedRow → Option (List ℕ) → Option (List ℕ) → Result T ExportError → Type 0
 AnswersScanned form prefix keys before after (Ok done) = ShowsKeys form prefix keys before after
 AnswersScanned form prefix keys before after (Err (error.Refused why)) =
-    (why ≡ NoMemory) ⊎ ((why ≡ BadName) × (form ≡ Reg) × (list_all fits_line (file_names ((prefix, keys) ∷ [])) ≡ false) × Keeps before after)
+    (why ≡ NoMemory) ⊎ ((why ≡ BadName) × HasBadName form prefix keys × Keeps before after)
 AnswersScanned form prefix keys before after (Err error.CannotRead) = ⊥
 AnswersScanned form prefix keys before after (Err (error.Write fault)) = Unit {0}
 

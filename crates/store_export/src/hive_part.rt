@@ -1,12 +1,12 @@
 //! The keys at and below a path of a hive's image, printed.
-ghost use Rattle.std.specs.Prelude.{◌≡◌, ◌∷◌, ◌++◌, [], OnOk, IfOk, IfErr, MatchResult, true};
+ghost use Rattle.std.specs.Prelude.{◌≡◌, ◌∷◌, [], OnOk, IfOk, IfErr, MatchResult, true};
 ghost use Rattle.std.specs.List.{flat_map};
 ghost use Rattle.std.specs.Io.KnownBytes.{Appends};
 ghost use Rattle.reg_tree.specs.Maps.{TreeMap};
 ghost use Rattle.key_walk.specs.KeyRows.{tree_rows};
 ghost use Rattle.hive_records.specs.Images.{BinsEncodeTree};
 ghost use Rattle.hive_walk.specs.Walks.{IsNoFault};
-ghost use Rattle.reg_export.specs.Encodings.{Prints, encoded, mark};
+ghost use Rattle.reg_export.specs.Encodings.{Prints, PrintsFile};
 ghost use Rattle.reg_export.specs.RegTexts.{reg_key_lines, reg_units};
 ghost use Rattle.reg_export.specs.TsvTexts.{tsv_key_lines};
 ghost use Rattle.reg_export.specs.Scans.{new_scan, scan_with, shown_names};
@@ -63,16 +63,17 @@ fn print_scanned<W: Write>(
         (W.contents writer.new) result }
 {
     match form {
-        Form::Reg => print_file(alloc, sound, names, prefix, path, writer),
+        Form::Reg(encoding) => print_file(alloc, sound, encoding, names, prefix, path, writer),
         Form::Json => print_json(alloc, sound, path, writer),
         Form::Tsv => print_tsv(alloc, sound, path, writer),
     }
 }
 
-// prints the keys as a registration file, if it can show their names
+// prints the keys as a registration file in this encoding, if it can show their names
 fn print_file<W: Write>(
     alloc: Global,
     sound: &SoundImage<'_>,
+    encoding: Encoding,
     names: NameScan,
     prefix: &[u8],
     path: &[Name],
@@ -80,13 +81,13 @@ fn print_file<W: Write>(
 ) -> Result<(), ExportError>
     ensures { (tree : TreeMap) → BinsEncodeTree sound.now.0 sound.now.1.0 sound.now.1.1 tree →
         names ≡ scan_with new_scan (flat_map shown_names (part_of path.now (tree_rows tree))) →
-        AnswersScanned Form.Reg prefix.now (part_of path.now (tree_rows tree)) (W.contents writer.old)
-        (W.contents writer.new) result }
+        AnswersScanned (Form.Reg encoding) prefix.now (part_of path.now (tree_rows tree))
+        (W.contents writer.old) (W.contents writer.new) result }
 {
-    if !names.fit_lines {
+    if !names.can_show(encoding) {
         return Err(ExportError::Refused(Refusal::BadName));
     }
-    print_reg(alloc, sound, names.encoding(), prefix, path, writer)
+    print_reg(alloc, sound, encoding, prefix, path, writer)
 }
 
 // what the names of the keys mean for a registration file; refused with `NotFound` if there is no key
@@ -116,8 +117,8 @@ fn print_reg<W: Write>(
     writer: &mut W,
 ) -> Result<(), ExportError>
     ensures { (tree : TreeMap) → BinsEncodeTree sound.now.0 sound.now.1.0 sound.now.1.1 tree →
-        IsPrinted (Appends (W.contents writer.old) (W.contents writer.new) (mark encoding
-        ++ encoded encoding (reg_units ((prefix.now, part_of path.now (tree_rows tree)) ∷ [])))) result }
+        IsPrinted (PrintsFile encoding (W.contents writer.old) (W.contents writer.new)
+        (reg_units ((prefix.now, part_of path.now (tree_rows tree)) ∷ []))) result }
 {
     write_reg_header(writer, encoding)?;
     print_reg_lines(alloc, sound, encoding, prefix, path, writer)

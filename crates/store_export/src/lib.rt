@@ -17,6 +17,7 @@ mod store;
 mod trees;
 
 pub use hive::export_hive;
+pub use reg_export::Encoding;
 pub use report::ExportError;
 pub use request::{Form, Request, Selection};
 pub use store::export_store;

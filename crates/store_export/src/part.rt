@@ -66,9 +66,9 @@ fn print_below<W: Write>(
         (W.contents writer.new) error) }
 {
     match request.form {
-        Form::Reg => {
+        Form::Reg(encoding) => {
             let prefix = request.prefix(hive);
-            write_reg_below(writer, &HiveKeys { prefix, tree }, path)?;
+            write_reg_below(writer, encoding, &HiveKeys { prefix, tree }, path)?;
             Ok(())
         }
         Form::Json => Ok(print_json_below(writer, hive, tree, path)?),

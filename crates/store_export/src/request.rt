@@ -2,14 +2,15 @@
 ghost use Rattle.std.specs.Prelude.{◌≡◌};
 ghost use Rattle.store_export.specs.Exports.{prefix_of};
 
+use reg_export::Encoding;
 use reg_names::Path;
 use reg_prefixes::Prefixes;
 
 /// How keys and values are printed.
 #[derive(Clone, Copy, Debug, PartialEq, Eq)]
 pub enum Form {
-    /// A registration file.
-    Reg,
+    /// A registration file in this encoding.
+    Reg(Encoding),
     /// Lines of JSON.
     Json,
     /// Lines of fields between tabs.

@@ -45,9 +45,9 @@ fn print_all<W: Write>(
         (W.contents writer.old) (W.contents writer.new) error) }
 {
     match request.form {
-        Form::Reg => {
+        Form::Reg(encoding) => {
             let hives = hive_keys(alloc, trees, request)?;
-            Ok(write_reg(writer, &hives)?)
+            Ok(write_reg(writer, encoding, &hives)?)
         }
         Form::Json => Ok(print_all_json(writer, trees)?),
         Form::Tsv => Ok(print_all_tsv(writer, trees)?),

@@ -6,7 +6,7 @@ use Rattle.store_export.proofs.hive_part.print_scanned.Goals as goal
 
 pub returns-in-Reg : goal.returns-in-Reg
 returns-in-Reg g c = λ tree encodes seen.
-    in_form c.print_file.result c.args.form Reg c.args.prefix.now (part_of c.args.path.now (tree_rows tree)) _ _ c.in-Reg.is (c.print_file.ensures tree encodes seen)
+    in_form c.print_file.result c.args.form (Reg c.in-Reg.encoding) c.args.prefix.now (part_of c.args.path.now (tree_rows tree)) _ _ c.in-Reg.is (c.print_file.ensures tree encodes seen)
 
 pub returns-in-Json : goal.returns-in-Json
 returns-in-Json g c = λ tree encodes seen.
