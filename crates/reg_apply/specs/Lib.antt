@@ -1,3 +1,4 @@
 pub mod Statements
 pub mod Outcomes
 pub mod Applied
+pub mod Checks

@@ -21,7 +21,7 @@ abbrev pub placed : ℕ → Result (List (List ℕ)) Refusal → Result Place De
 placed hive (Ok path) = Ok (record { hive = hive; path = path })
 placed hive (Err why) = Err (Refused why)
 
--- the key in the hive that a prefix names, if the store has that hive
+-- the key at the path of a hive to which a prefix leads, if the store has that hive
 abbrev pub placed_in : ℕ → Option (ℕ × List ℕ) → Result Place Denial
 placed_in hives None = Err NoHive
 placed_in hives (Some place) = if nat_le hives place.0 then Err NoHive else placed place.0 (path_of place.1)
@@ -55,7 +55,7 @@ asked prefixes hives current (CreateKey path) =
 asked prefixes hives current (DeleteKey path) =
     with_key (resolved prefixes hives path) (λ place. Ok (edit.RemoveKey place.hive place.path, None))
 asked prefixes hives current (SetValue name kind bytes) =
-    with_key (current_key current) (λ place. with_name (value_name name) (λ named. Ok (edit.Operation (op.SetValue place.hive place.path named kind bytes), Some place)))
+    with_key (current_key current) (λ place. with_name (value_name name) (λ named. Ok (edit.WriteValue place.hive place.path named kind bytes, Some place)))
 asked prefixes hives current (DeleteValue name) =
     with_key (current_key current) (λ place. with_name (value_name name) (λ named. Ok (edit.RemoveValue place.hive place.path named, Some place)))
 

@@ -1,6 +1,7 @@
 //! How the application of a file ended.
 ghost use Rattle.std.specs.Prelude.{◌≡◌, Some};
 ghost use Rattle.reg_apply.specs.Outcomes.{outcome_status, outcome_text};
+ghost use Rattle.reg_apply.specs.Checks.{is_refusal};
 
 use refusals::Refusal;
 use reg_file::{Fault, FaultKind};
@@ -54,6 +55,13 @@ impl Outcome {
             Outcome::NoHive { .. } => Status::Wrong,
             Outcome::Denied { .. } | Outcome::Refused { .. } => Status::Refused,
         }
+    }
+
+    /// Whether that is the status of a refusal.
+    pub(crate) fn is_refusal(&self) -> bool
+        ensures { result ≡ is_refusal self.now }
+    {
+        matches!(self.status(), Status::Refused)
     }
 }
 

@@ -77,13 +77,13 @@ pub(crate) fn place_of(
     ensures denied { IfErr result (λ denial. (resolved prefixes.now hives text.now ≡ Err denial)
         ⊎ (denial ≡ Refused NoMemory)) }
 {
-    let Some(place) = prefixes.place(text.units()) else {
+    let Some(place) = prefixes.place(alloc, text.units())? else {
         return Err(Denial::NoHive);
     };
     if usize::from(place.hive) >= hives {
         return Err(Denial::NoHive);
     }
-    let path = Path::parse(alloc, place.path)?;
+    let path = Path::parse(alloc, &place.path)?;
     Ok(Place {
         hive: place.hive,
         path,
@@ -144,14 +144,14 @@ fn set_value(
 {
     let (place, name) = value_of(alloc, current, name)?;
     let data = Data::from_vec(bytes.into_vec())?;
-    let op = Op::SetValue {
+    let edit = Edit::WriteValue {
         hive: place.hive,
         path: place.path.clone()?,
         name,
         kind,
         data,
     };
-    Ok((Edit::Operation { op }, Some(place)))
+    Ok((edit, Some(place)))
 }
 
 // the deletion of a value of the current key

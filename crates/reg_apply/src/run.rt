@@ -4,57 +4,34 @@ ghost use Rattle.std.specs.Io.KnownBytes.{Appends};
 ghost use Rattle.refusals.specs.declared.refusal.Refusal.{Refusal as AnyRefusal};
 ghost use Rattle.recovery.specs.Recovered.{seen_in};
 ghost use Rattle.store_model.specs.Machine.{is_open};
-ghost use Rattle.script_runner.specs.Later.{IsLater};
-ghost use Rattle.script_runner.specs.Running.{LeavesLife};
+ghost use Rattle.store_driver.specs.Later.{IsLater};
+ghost use Rattle.store_driver.specs.Openings.{LeavesLife};
 ghost use Rattle.one_change.specs.Commits.{KeepsAccepted};
 ghost use Rattle.reg_apply.specs.Outcomes.{outcome_status, outcome_text};
-ghost use Rattle.reg_apply.specs.Applied.{Ends, Finishes, IsPrinted, IsUnit, LeavesStore, Reports, StopsSo};
+ghost use Rattle.reg_apply.specs.declared.request.UnitOfWork.TheVariants.{Once};
+ghost use Rattle.reg_apply.specs.Applied.{Ends, EndsFor, EndsOnce, Finishes, IsPrinted, LeavesStore, Reports, unit_of};
 
 use crate::outcome::Outcome;
-use crate::place::Denial;
-use crate::statements::{Stop, take_all};
+use crate::request::{Request, UnitOfWork};
+use crate::statements::take_all;
 use change_plan::Plan;
 use disk_model::Disk;
 use engine::Engine;
-use one_change::commit;
+use one_change::{bytes_aside, commit};
 use refusals::Refusal;
-use reg_file::{Fault, FaultKind, RegFile};
-use reg_prefixes::Prefixes;
-use script_runner::{open_store, run_until_idle};
+use reg_file::RegFile;
 use script_syntax::Status;
 use std::alloc::Global;
 use std::io::{self, Write};
+use store_driver::{ask, open_store, run_until_idle};
+use store_model::{Event, Reply};
 use uuid::Uuid;
-
-/// How a file is to be applied.
-#[derive(Clone, Copy)]
-pub struct Request<'a> {
-    /// The prefixes by which its paths name hives.
-    pub prefixes: &'a Prefixes,
-    /// The moment of the change: 100 nanoseconds since the year 1601.
-    pub moment: u64,
-    /// The unit of work that the transaction is for. If none is given, it is made of the moment and the number of the
-    /// store's last change.
-    pub id: Option<Uuid>,
-}
-
-impl Request<'_> {
-    // the unit of work, if the store's last change has this number
-    fn unit_of_work(&self, number: u64) -> Uuid
-        ensures { IsUnit self.now.id result }
-    {
-        match self.id {
-            Some(id) => id,
-            None => {
-                let high = u128::from(self.moment) << 64;
-                Uuid::from_u128(high | u128::from(number))
-            }
-        }
-    }
-}
 
 /// Opens the store on a disk, applies a file to it as one transaction, and writes one line: how it ended. If the file
 /// was applied, the changes that a hive lacks go into the hive; what is refused of that is written in a line more.
+///
+/// For [`UnitOfWork::Once`] nothing is changed if the store keeps a commit of this unit: its number is told. A store that keeps
+/// no outcomes of commits refuses it with `Unsupported`.
 ///
 /// The disk is handed back. After a power cut at any moment an opening finds all that the file asks for, or nothing of
 /// it.
@@ -67,11 +44,11 @@ pub fn apply<D: Disk, W: Write>(
 ) -> (D, io::Result<Status>)
     ensures reports { IfOk result.1 (λ status. Reports D.faithful (D.failures disk < D.failures result.0)
         (D.faithful result.0) (seen_in (D.state_at disk (D.clock disk))) request.now.prefixes.now
-        request.now.moment request.now.id file (W.contents writer.old) (W.contents writer.new) status) }
+        request.now.moment request.now.unit file (W.contents writer.old) (W.contents writer.new) status) }
     ensures left { LeavesLife (D.failures disk < D.failures result.0) (D.faithful result.0)
         (D.state_at disk (D.clock disk)) (D.state_at result.0 (D.clock result.0))
         ⊎ LeavesStore D.faithful (seen_in (D.state_at disk (D.clock disk))) request.now.prefixes.now
-        request.now.moment request.now.id file (D.faithful result.0) (D.state_at result.0) (D.clock result.0) }
+        request.now.moment request.now.unit file (D.faithful result.0) (D.state_at result.0) (D.clock result.0) }
 {
     match open_store(alloc, disk) {
         Ok((engine, number)) => {
@@ -86,7 +63,8 @@ pub fn apply<D: Disk, W: Write>(
     }
 }
 
-/// Applies a file to an opened store as one transaction, whose last change has this number.
+/// Applies a file to an opened store as one transaction, whose last change has this number; nothing is changed if the
+/// file is to be applied once for a unit of work and the store keeps a commit of it.
 pub fn change<D: Disk>(
     alloc: Global,
     engine: &mut Engine<D>,
@@ -95,8 +73,53 @@ pub fn change<D: Disk>(
     file: RegFile,
 ) -> Outcome
     requires open { is_open engine.old.machine 0 ≡ true }
-    ensures ends { Ends request.now.prefixes.now request.now.moment request.now.id file engine.old.machine
+    ensures ends { EndsFor request.now.unit request.now.prefixes.now request.now.moment file engine.old.machine
         result engine.new.machine }
+    ensures later { IsLater D.faithful D.failures engine.old engine.new }
+{
+    match request.unit {
+        UnitOfWork::Own => change_anyway(alloc, engine, number, request, file),
+        UnitOfWork::Again(_) => change_anyway(alloc, engine, number, request, file),
+        UnitOfWork::Once(unit) => change_once(alloc, engine, number, request, unit, file),
+    }
+}
+
+// applies a file to an opened store, unless that keeps a commit of the unit of work
+fn change_once<D: Disk>(
+    alloc: Global,
+    engine: &mut Engine<D>,
+    number: u64,
+    request: &Request<'_>,
+    unit: Uuid,
+    file: RegFile,
+) -> Outcome
+    requires open { is_open engine.old.machine 0 ≡ true }
+    requires work { request.now.unit ≡ Once unit }
+    ensures ends { EndsOnce unit request.now.prefixes.now request.now.moment file engine.old.machine
+        result engine.new.machine }
+    ensures later { IsLater D.faithful D.failures engine.old engine.new }
+{
+    match ask(engine, Event::OutcomeOf { id: unit }) {
+        Reply::CommittedAs { number } => Outcome::Applied { number },
+        Reply::Refused { refusal } => match refusal {
+            Refusal::NotFound => change_anyway(alloc, engine, number, request, file),
+            _ => Outcome::Refused { refusal },
+        },
+        _ => unreachable!(),
+    }
+}
+
+// applies a file to an opened store, whatever commits it keeps
+fn change_anyway<D: Disk>(
+    alloc: Global,
+    engine: &mut Engine<D>,
+    number: u64,
+    request: &Request<'_>,
+    file: RegFile,
+) -> Outcome
+    requires open { is_open engine.old.machine 0 ≡ true }
+    ensures ends { Ends request.now.prefixes.now request.now.moment (unit_of request.now.unit) file
+        engine.old.machine result engine.new.machine }
     ensures later { IsLater D.faithful D.failures engine.old engine.new }
 {
     let RegFile { statements, fault } = file;
@@ -106,7 +129,7 @@ pub fn change<D: Disk>(
         };
     };
     let hives = trees.len();
-    let mut plan = Plan::new(alloc, trees, request.moment);
+    let mut plan = Plan::new(alloc, trees, request.moment, bytes_aside(engine));
     if let Err(stop) = take_all(
         alloc,
         request.prefixes,
@@ -148,31 +171,12 @@ fn report<D: Disk, W: Write>(
     }
 }
 
-// writes how it ended, in a line
-fn print<W: Write>(outcome: &Outcome, writer: &mut W) -> io::Result<Status>
+/// Writes how it ended, in a line.
+pub(crate) fn print<W: Write>(outcome: &Outcome, writer: &mut W) -> io::Result<Status>
     ensures { IfOk result (λ status. (status ≡ outcome_status outcome.now)
         × Appends (W.contents writer.old) (W.contents writer.new) (outcome_text outcome.now ++ 10 ∷ [])) }
 {
     writeln!(writer, "{outcome}")?;
     writer.flush()?;
     Ok(outcome.status())
-}
-
-impl Stop {
-    // how it ended
-    fn outcome(self) -> Outcome
-        ensures { StopsSo self.line self.denial result }
-    {
-        let line = self.line;
-        match self.denial {
-            Denial::NoHive => Outcome::NoHive { line },
-            Denial::NoKey => Outcome::BadFile {
-                fault: Fault {
-                    line,
-                    kind: FaultKind::NoKey,
-                },
-            },
-            Denial::Refused(refusal) => Outcome::Denied { line, refusal },
-        }
-    }
 }

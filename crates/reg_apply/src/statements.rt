@@ -1,12 +1,14 @@
 //! The statements of a file, taken into a plan.
-ghost use Rattle.std.specs.Prelude.{None, Option, IfOk, IfErr, OnOk};
+ghost use Rattle.std.specs.Prelude.{◌≡◌, None, Option, IfOk, IfErr, OnOk};
 ghost use Rattle.std.specs.Option.{option_copied};
 ghost use Rattle.reg_apply.specs.declared.place.Place.{Place as AnyPlace};
+ghost use Rattle.reg_apply.specs.Applied.{StopsSo};
 ghost use Rattle.reg_apply.specs.Statements.{Denies, StopsAt, TakesStatements, TakesStatement};
 
+use crate::outcome::Outcome;
 use crate::place::{Denial, Place, edit_of};
 use change_plan::Plan;
-use reg_file::{NumberedStatement, Statement};
+use reg_file::{Fault, FaultKind, NumberedStatement, Statement};
 use reg_prefixes::Prefixes;
 use std::alloc::Global;
 
@@ -17,6 +19,25 @@ pub(crate) struct Stop {
     pub(crate) line: u64,
     /// Why.
     pub(crate) denial: Denial,
+}
+
+impl Stop {
+    /// How it ends an application.
+    pub(crate) fn outcome(self) -> Outcome
+        ensures { StopsSo self.line self.denial result }
+    {
+        let line = self.line;
+        match self.denial {
+            Denial::NoHive => Outcome::NoHive { line },
+            Denial::NoKey => Outcome::BadFile {
+                fault: Fault {
+                    line,
+                    kind: FaultKind::NoKey,
+                },
+            },
+            Denial::Refused(refusal) => Outcome::Denied { line, refusal },
+        }
+    }
 }
 
 /// Takes the edits of all statements into a plan.
@@ -50,8 +71,9 @@ pub(crate) fn take_all(
     Ok(())
 }
 
-// takes the edit of a statement; answers the key that is current after it
-fn take(
+/// Takes the edit of a statement; answers the key that is current after it. One that isn't taken leaves the plan as it
+/// was.
+pub(crate) fn take(
     alloc: Global,
     prefixes: &Prefixes,
     hives: usize,
@@ -63,6 +85,7 @@ fn take(
         plan.old statement next plan.new) }
     ensures denied { IfErr result
         (Denies prefixes.now hives (option_copied current.entry) plan.old statement) }
+    ensures kept { IfErr result (λ denial. plan.new ≡ plan.old) }
 {
     let (edit, next) = edit_of(alloc, prefixes, hives, current, statement)?;
     plan.take(alloc, edit)?;

@@ -1,5 +1,5 @@
 use Rattle.std.proofs.Common.{Some, None, refl}
-use Rattle.script_runner.proofs.Later.{later_same}
+use Rattle.store_driver.proofs.Later.{later_same}
 use Rattle.one_change.proofs.Transacting.{keeps_same}
 use Rattle.one_change.proofs.Steps.{steps_keep}
 use Rattle.reg_apply.proofs.Finished.{no_steps}
