@@ -1,5 +1,5 @@
 -- Trees that calls may make: what their keys show, and that a registration file holds them.
-use Rattle.std.proofs.Common.{◌≡◌, ◌≢◌, ℕ, ◌*◌, ◌<◌, ◌≤◌, ◌^◌, Bool, true, false, not, List, [], ◌∷◌, ◌++◌, map, length, Some, is_some, refl, sym, ◌∙◌, ap, arith}
+use Rattle.std.proofs.Common.{◌≡◌, ◌≢◌, ℕ, ◌*◌, ◌<◌, ◌≤◌, ◌^◌, Bool, true, false, not, ◌&&◌, List, [], ◌∷◌, ◌++◌, map, length, Some, is_some, refl, sym, ◌∙◌, ap, arith}
 use Rattle.std.specs.Prelude.{◌==◌, nat_le}
 use Rattle.std.specs.List.{AllByRecursion, flat_map, list_all}
 use Rattle.std.specs.FinMap as finite
@@ -12,7 +12,10 @@ use Rattle.reg_tree_parts.specs.Rows.{Row}
 use Rattle.reg_tree_parts.proofs.Keys.{paths_total, names_total}
 use Rattle.reg_tree.specs.Maps.{TreeMap, row}
 use Rattle.key_walk.specs.KeyRows.{NamedRow, spelled_names, tree_rows}
-use Rattle.reg_export.specs.NameTests.{breaks_line, fits_line}
+use Rattle.reg_export.specs.declared.encoding.Encoding.{Encoding}
+use Rattle.reg_export.specs.declared.encoding.Encoding.TheVariants.{Utf8, Utf16}
+use Rattle.reg_export.specs.NameTests.{are_chars, breaks_line, can_show, fits_line}
+use Rattle.reg_export.specs.CharLaws.{ascii_chars}
 use Rattle.reg_export.specs.Scans.{shown_names}
 use Rattle.reg_export.specs.RegFiles.{file_names}
 use Rattle.reg_round_trip.specs.Exports.{IsPrefixText, IsBelowName, IsValueOfLimits, IsKeyOfLimits, IsHiveOfLimits}
@@ -111,14 +114,27 @@ unit_fits u h = by_tests (u == 0) (u == 10) (u == 13) refl refl refl
 name_fits : (name : List ℕ) → AllByRecursion (λ u. is_name_unit u ≡ true) name → fits_line name ≡ true
 name_fits name all = list_all_from (λ u. not (breaks_line u)) name (all_then (λ u. is_name_unit u ≡ true) (λ u. not (breaks_line u) ≡ true) unit_fits name all)
 
-key_fits : (key : NamedRow) → IsCallShown key → AllByRecursion (λ name. fits_line name ≡ true) (shown_names key)
-key_fits key call =
-    let values = finite.values (let its = key.1 in its.values) in
-    all_both (λ name. fits_line name ≡ true) key.0 (map (λ (value : Value). value.name) values)
-    (all_then (λ n. is_key_name n ≡ true) (λ name. fits_line name ≡ true) (λ n k. name_fits n (key_name_units n k)) key.0 call.names)
-    (all_map (λ name. fits_line name ≡ true) (λ (value : Value). value.name) values (all_then (λ (v : Value). (name : List ℕ) × IsCallValue name v) (λ (v : Value). fits_line v.name ≡ true) (λ v c. let its = c.1 in name_fits v.name (value_name_units v.name its.named)) values call.values))
+-- its names are characters
+small : (u : ℕ) → is_name_unit u ≡ true → u < 128
+small u h = grind (arith, nat_tests, h)
 
-pub hives_fit : (hives : List (List ℕ × List NamedRow)) → AllByRecursion (λ hive. AllByRecursion IsCallShown hive.1) hives → list_all fits_line (file_names hives) ≡ true
-hives_fit hives all =
-    list_all_from fits_line (file_names hives)
-    (all_flat (λ hive. AllByRecursion IsCallShown hive.1) (λ name. fits_line name ≡ true) (λ hive. flat_map shown_names hive.1) (λ hive keys. all_flat IsCallShown (λ name. fits_line name ≡ true) shown_names key_fits hive.1 keys) hives all)
+name_chars : (name : List ℕ) → AllByRecursion (λ u. is_name_unit u ≡ true) name → are_chars name ≡ true
+name_chars name all = ascii_chars name (all_then (λ u. is_name_unit u ≡ true) (λ u. u < 128) small name all)
+
+-- what holds of each name of calls holds of all that are shown
+module _ (test : List ℕ → Bool) (names : (name : List ℕ) → AllByRecursion (λ u. is_name_unit u ≡ true) name → test name ≡ true) where
+  key_passes : (key : NamedRow) → IsCallShown key → AllByRecursion (λ name. test name ≡ true) (shown_names key)
+  key_passes key call =
+      let values = finite.values (let its = key.1 in its.values) in
+      all_both (λ name. test name ≡ true) key.0 (map (λ (value : Value). value.name) values)
+      (all_then (λ n. is_key_name n ≡ true) (λ name. test name ≡ true) (λ n k. names n (key_name_units n k)) key.0 call.names)
+      (all_map (λ name. test name ≡ true) (λ (value : Value). value.name) values (all_then (λ (v : Value). (name : List ℕ) × IsCallValue name v) (λ (v : Value). test v.name ≡ true) (λ v c. let its = c.1 in names v.name (value_name_units v.name its.named)) values call.values))
+
+  hives_pass : (hives : List (List ℕ × List NamedRow)) → AllByRecursion (λ hive. AllByRecursion IsCallShown hive.1) hives → list_all test (file_names hives) ≡ true
+  hives_pass hives all =
+      list_all_from test (file_names hives)
+      (all_flat (λ hive. AllByRecursion IsCallShown hive.1) (λ name. test name ≡ true) (λ hive. flat_map shown_names hive.1) (λ hive keys. all_flat IsCallShown (λ name. test name ≡ true) shown_names key_passes hive.1 keys) hives all)
+
+pub hives_fit : (encoding : Encoding) (hives : List (List ℕ × List NamedRow)) → AllByRecursion (λ hive. AllByRecursion IsCallShown hive.1) hives → can_show encoding (file_names hives) ≡ true
+hives_fit Utf8 hives all = let lines = hives_pass fits_line name_fits hives all in let whole = hives_pass are_chars name_chars hives all in λ i. lines i && whole i
+hives_fit Utf16 hives all = hives_pass fits_line name_fits hives all

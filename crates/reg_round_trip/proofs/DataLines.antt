@@ -10,7 +10,7 @@ use Rattle.reg_export.specs.RegTexts.{next_column, next_byte, at_columns}
 use Rattle.reg_file.specs.Grammar.{AreBlanks, IsPair, IsBrokenLine, AreBytes}
 use Rattle.reg_round_trip.proofs.Units.{all_both, by_test}
 use Rattle.reg_round_trip.proofs.HexText.{byte_pair, bytes_printable, pair_length}
-use Rattle.reg_round_trip.proofs.TextLines.{text_of, returned_lines, return_ends}
+use Rattle.reg_round_trip.proofs.TextLines.{text_of, returned_lines, return_tail}
 
 -- what stands on a line behind a byte, and the further lines, if the next byte stands at this column
 abbrev pub line_rest : ℕ → List ℕ → List ℕ
@@ -40,7 +40,7 @@ rest_text column (byte ∷ bytes) =
 -- the grammar reads the bytes back
 one_broken : (blanks digits : List ℕ) (byte : ℕ) → AreBlanks blanks → IsPair digits byte → IsBrokenLine ((blanks ++ (digits ++ 44 ∷ 92 ∷ [])) ++ 13 ∷ []) (byte ∷ [])
 one_broken blanks digits byte b p =
-    (blanks, digits, 92 ∷ 13 ∷ [], append_assoc blanks (digits ++ 44 ∷ 92 ∷ []) (13 ∷ []) ∙ ap (λ xs. blanks ++ xs) (append_assoc digits (44 ∷ 92 ∷ []) (13 ∷ [])), b, p, ([], 13 ∷ [], refl, tt, return_ends))
+    (blanks, digits, 92 ∷ 13 ∷ [], append_assoc blanks (digits ++ 44 ∷ 92 ∷ []) (13 ∷ []) ∙ ap (λ xs. blanks ++ xs) (append_assoc digits (44 ∷ 92 ∷ []) (13 ∷ [])), b, p, ([], 13 ∷ [], refl, tt, return_tail))
 
 -- a byte in front of others on the same line
 onto_bytes : (blanks digits rest : List ℕ) (lines : List (List ℕ)) (byte next : ℕ) (bytes : List ℕ) → AreBlanks blanks → IsPair digits byte
@@ -63,7 +63,7 @@ read_more false blanks digits more rest further byte next bytes b p a =
 
 pub read_bytes : (column byte : ℕ) (bytes : List ℕ) → byte < 256 → AllByRecursion (λ b. b < 256) bytes → (blanks : List ℕ) → AreBlanks blanks
     → AreBytes (returned_lines ((blanks ++ (encode_lower (byte ∷ []) ++ line_rest column bytes)) ∷ further_lines column bytes)) (byte ∷ bytes)
-read_bytes column byte [] h all blanks b = (blanks, encode_lower (byte ∷ []), 13 ∷ [], last_line blanks (encode_lower (byte ∷ [])), b, byte_pair byte h, return_ends)
+read_bytes column byte [] h all blanks b = (blanks, encode_lower (byte ∷ []), 13 ∷ [], last_line blanks (encode_lower (byte ∷ [])), b, byte_pair byte h, return_tail)
 read_bytes column byte (next ∷ bytes) h all blanks b =
     read_more (column == 2) blanks (encode_lower (byte ∷ [])) (encode_lower (next ∷ [])) (line_rest (next_column column) bytes) (further_lines (next_column column) bytes) byte next bytes b (byte_pair byte h)
     (λ front f. read_bytes (next_column column) next bytes all.0 all.1 front f)

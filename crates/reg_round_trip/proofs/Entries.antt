@@ -4,21 +4,21 @@ use Rattle.std.specs.List.{AllByRecursion, flat_map}
 use Rattle.std.specs.FinMap as finite
 use Rattle.std.proofs.lemmas.List.{length-append, map-append}
 use Rattle.std.proofs.lemmas.Grind.{flat_map-append}
-use Rattle.reg_names.specs.Printable.{is_printable}
 use Rattle.reg_tree_parts.specs.declared.value.Value.{Value}
 use Rattle.key_walk.specs.KeyRows.{NamedRow}
 use Rattle.reg_export.specs.RegTexts.{reg_path, reg_value_line, reg_key_lines, reg_hive_lines}
-use Rattle.reg_file.specs.Grammar.{HasNoZero, IsKeyLine, Entry, IsEntry, IsInForm, AreEntries, entry_lines, numbered, one_numbered}
+use Rattle.reg_file.specs.Grammar.{HasNoZero, IsKeyLine, Entry, IsEntry, AreEntries, entry_lines, numbered, one_numbered}
 use Rattle.reg_file.specs.declared.statement.Statement.{Statement}
 use Rattle.reg_file.specs.declared.statement.Statement.TheVariants.{CreateKey}
 use Rattle.reg_file.specs.declared.statement.NumberedStatement.{NumberedStatement}
 use Rattle.reg_round_trip.specs.Statements.{value_statement, key_statements, export_statements}
 use Rattle.reg_round_trip.specs.Exports.{IsPrefixText, IsValueOfLimits, IsKeyOfLimits, IsHiveOfLimits}
 use Rattle.reg_round_trip.proofs.Units.{all_both, not_true}
-use Rattle.reg_round_trip.proofs.TextLines.{text_of, returned_lines, return_ends}
+use Rattle.reg_round_trip.proofs.TextLines.{text_of, returned_lines, return_tail}
 use Rattle.reg_round_trip.proofs.Values.{value_lines, value_text}
-use Rattle.reg_round_trip.proofs.ValueLines.{value_read, value_units, value_length, printed}
-use Rattle.reg_round_trip.proofs.Paths.{path_no_separator, path_no_minus, path_units}
+use Rattle.reg_round_trip.proofs.TextFacts.{AreTexts}
+use Rattle.reg_round_trip.proofs.ValueLines.{value_read, value_texts, value_length}
+use Rattle.reg_round_trip.proofs.Paths.{path_no_separator, path_no_minus, path_text}
 
 -- the values of a key
 abbrev pub values_of : NamedRow → List Value
@@ -126,11 +126,8 @@ pub export_listed : (hives : List (List ℕ × List NamedRow)) → flat_map list
 export_listed hives = returned_listed (export_entries hives) ∙ flat_listed hive_entries (λ hive. flat_map (key_statements hive.0) hive.1) (λ hive. flat_listed (key_entries hive.0) (key_statements hive.0) (key_listed hive.0) hive.1) hives
 
 -- the grammar has them
-in_form : (lines : List (List ℕ)) → IsInForm false lines
-in_form lines = λ old. absurd (not_true old)
-
-empty_read : (lines : List (List ℕ)) → IsEntry false (returned_lines ([] ∷ [])) None
-empty_read lines = (13 ∷ [], refl, inl return_ends)
+empty_read : IsEntry false (returned_lines ([] ∷ [])) None
+empty_read = (13 ∷ [], refl, return_tail)
 
 abbrev GoOn : List Entry → Type 0
 GoOn entries = (has_key : Bool) → AreEntries false has_key entries
@@ -138,7 +135,7 @@ GoOn entries = (has_key : Bool) → AreEntries false has_key entries
 values_read : (values : List Value) (rest : List Entry) → AllByRecursion IsValueOfLimits values → AllByRecursion (λ (v : Value). HasNoZero v.name) values → GoOn rest → AreEntries false true (map entry_returned (map value_entry values) ++ rest)
 values_read [] rest v z go = go true
 values_read (value ∷ values) rest v z go =
-    (value_read value v.0 z.0, in_form (returned_lines (value_lines value)), ((λ wants. refl), value_length value v.0), values_read values rest v.1 z.1 go)
+    (value_read value v.0 z.0, ((λ wants. refl), value_length value v.0), values_read values rest v.1 z.1 go)
 
 key_read : (prefix : List ℕ) (key : NamedRow) (rest : List Entry) → IsPrefixText prefix → IsKeyOfLimits prefix key → AllByRecursion (λ (v : Value). HasNoZero v.name) (values_of key) → GoOn rest → GoOn (map entry_returned (key_entries prefix key) ++ rest)
 key_read prefix key rest p k z go has_key =
@@ -146,16 +143,15 @@ key_read prefix key rest p k z go has_key =
     let end = empty_entry ∷ [] in
     let values = map value_entry (values_of key) in
     let shape : (91 ∷ (path ++ 93 ∷ [])) ++ 13 ∷ [] ≡ 91 ∷ (path ++ 93 ∷ 13 ∷ []) = ap (λ xs. 91 ∷ xs) (append_assoc path (93 ∷ []) (13 ∷ [])) in
-    let its_line : IsKeyLine ((91 ∷ (path ++ 93 ∷ [])) ++ 13 ∷ []) path = record { before = []; end = 13 ∷ []; parsed = shape; before_blanks = tt; is_end = return_ends } in
+    let its_line : IsKeyLine ((91 ∷ (path ++ 93 ∷ [])) ++ 13 ∷ []) path = record { before = []; end = 13 ∷ []; parsed = shape; before_blanks = tt; is_tail = return_tail; last = ((λ e. absurd (omega (arith, e))), tt) } in
     let one = length-append (91 ∷ (path ++ 93 ∷ [])) (13 ∷ []) in
     let two = length-append path (93 ∷ []) in
     let short = k.short in
     let entries : map entry_returned (values ++ end) ++ rest ≡ map entry_returned values ++ (map entry_returned end ++ rest) =
     ap (λ xs. xs ++ rest) (map-append entry_returned values end) ∙ append_assoc (map entry_returned values) (map entry_returned end) rest in (
       ((91 ∷ (path ++ 93 ∷ [])) ++ 13 ∷ [], path, refl, its_line, path_no_minus prefix key.0 p, inr (refl, path_no_separator prefix key.0 p k.names)),
-      in_form (returned_lines (key_line prefix key ∷ [])),
       ((λ wants. absurd (not_true wants)), omega (arith, one, two, short)),
-      subst (AreEntries false true) (sym entries) (values_read (values_of key) (map entry_returned end ++ rest) k.values z (λ key_there. (empty_read [], in_form (returned_lines ([] ∷ [])), tt, go key_there))),
+      subst (AreEntries false true) (sym entries) (values_read (values_of key) (map entry_returned end ++ rest) k.values z (λ key_there. (empty_read, tt, go key_there))),
     )
 
 -- no name of a value has the unit 0
@@ -177,35 +173,35 @@ export_read (hive ∷ hives) rest h z go has_key =
     ap (λ xs. xs ++ rest) (map-append entry_returned (hive_entries hive) (export_entries hives)) ∙ append_assoc (map entry_returned (hive_entries hive)) (map entry_returned (export_entries hives)) rest in
     subst (AreEntries false has_key) (sym entries) (keys_read hive.0 hive.1 (map entry_returned (export_entries hives) ++ rest) its.prefix its.keys z.0 (export_read hives rest h.1 z.1 go) has_key)
 
--- all units of a key's names are such
-pub record KeyFits (P : ℕ → Type 0) (key : NamedRow) : Type 0 where
-  pub path : AllByRecursion (AllByRecursion P) key.0
-  pub values : AllByRecursion (λ (v : Value). AllByRecursion P v.name) (values_of key)
+-- something holds of all names of a key
+pub record KeyFits (G : List ℕ → Type 0) (key : NamedRow) : Type 0 where
+  pub path : AllByRecursion G key.0
+  pub values : AllByRecursion (λ (v : Value). G v.name) (values_of key)
 
--- the units of their lines: those of names, and printable ones
-module _ (P : ℕ → Type 0) (prints : (u : ℕ) → is_printable u ≡ true → P u) where
+-- it holds of the lines
+module _ (G : List ℕ → Type 0) (t : AreTexts G) where
   abbrev AreFit : List Entry → Type 0
-  AreFit entries = AllByRecursion (AllByRecursion P) (entry_lines entries)
+  AreFit entries = AllByRecursion G (entry_lines entries)
 
   fit_both : (front back : List Entry) → AreFit front → AreFit back → AreFit (front ++ back)
-  fit_both front back f b = subst (AllByRecursion (AllByRecursion P)) (sym (lines_both front back)) (all_both (AllByRecursion P) (entry_lines front) (entry_lines back) f b)
+  fit_both front back f b = subst (AllByRecursion G) (sym (lines_both front back)) (all_both G (entry_lines front) (entry_lines back) f b)
 
   fit_flat : {X : Type 0} (Q : X → Type 0) (entries : X → List Entry) → ((x : X) → Q x → AreFit (entries x)) → (xs : List X) → AllByRecursion Q xs → AreFit (flat_map entries xs)
   fit_flat Q entries h [] all = tt
   fit_flat Q entries h (x ∷ xs) all = fit_both (entries x) (flat_map entries xs) (h x all.0) (fit_flat Q entries h xs all.1)
 
-  values_fit : (values : List Value) → AllByRecursion IsValueOfLimits values → AllByRecursion (λ (v : Value). AllByRecursion P v.name) values → AreFit (map value_entry values)
+  values_fit : (values : List Value) → AllByRecursion IsValueOfLimits values → AllByRecursion (λ (v : Value). G v.name) values → AreFit (map value_entry values)
   values_fit [] v n = tt
-  values_fit (value ∷ values) v n = all_both (AllByRecursion P) (value_lines value) (entry_lines (map value_entry values)) (value_units P prints value v.0 n.0) (values_fit values v.1 n.1)
+  values_fit (value ∷ values) v n = all_both G (value_lines value) (entry_lines (map value_entry values)) (value_texts G t value v.0 n.0) (values_fit values v.1 n.1)
 
-  key_fits : (prefix : List ℕ) → IsPrefixText prefix → (key : NamedRow) → IsKeyOfLimits prefix key × KeyFits P key → AreFit (key_entries prefix key)
+  key_fits : (prefix : List ℕ) → IsPrefixText prefix → (key : NamedRow) → IsKeyOfLimits prefix key × KeyFits G key → AreFit (key_entries prefix key)
   key_fits prefix p key k =
       let limits = k.0 in
       let fits = k.1 in
       let path = reg_path prefix key.0 in (
-        (prints 91 refl, all_both P path (93 ∷ []) (path_units P (prints 92 refl) prefix key.0 (printed P prints prefix p.units) fits.path) (prints 93 refl, tt)),
-        fit_both (map value_entry (values_of key)) (empty_entry ∷ []) (values_fit (values_of key) limits.values fits.values) (tt, tt),
+        t.both (91 ∷ []) (path ++ 93 ∷ []) (t.prints (91 ∷ []) (refl, tt)) (t.both path (93 ∷ []) (path_text G t prefix key.0 (t.prints prefix p.units) fits.path) (t.prints (93 ∷ []) (refl, tt))),
+        fit_both (map value_entry (values_of key)) (empty_entry ∷ []) (values_fit (values_of key) limits.values fits.values) (t.prints [] tt, tt),
       )
 
-  pub export_fits : (hives : List (List ℕ × List NamedRow)) → AllByRecursion (λ hive. IsPrefixText hive.0 × AllByRecursion (λ key. IsKeyOfLimits hive.0 key × KeyFits P key) hive.1) hives → AreFit (export_entries hives)
-  export_fits hives all = fit_flat (λ hive. IsPrefixText hive.0 × AllByRecursion (λ key. IsKeyOfLimits hive.0 key × KeyFits P key) hive.1) hive_entries (λ hive h. fit_flat (λ key. IsKeyOfLimits hive.0 key × KeyFits P key) (key_entries hive.0) (key_fits hive.0 h.0) hive.1 h.1) hives all
+  pub export_fits : (hives : List (List ℕ × List NamedRow)) → AllByRecursion (λ hive. IsPrefixText hive.0 × AllByRecursion (λ key. IsKeyOfLimits hive.0 key × KeyFits G key) hive.1) hives → AreFit (export_entries hives)
+  export_fits hives all = fit_flat (λ hive. IsPrefixText hive.0 × AllByRecursion (λ key. IsKeyOfLimits hive.0 key × KeyFits G key) hive.1) hive_entries (λ hive h. fit_flat (λ key. IsKeyOfLimits hive.0 key × KeyFits G key) (key_entries hive.0) (key_fits hive.0 h.0) hive.1 h.1) hives all

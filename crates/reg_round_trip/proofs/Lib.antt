@@ -1,4 +1,5 @@
 mod Units
+mod TextFacts
 mod HexText
 mod TextLines
 mod DataLines
@@ -6,12 +7,14 @@ mod Values
 mod ValueLines
 mod Paths
 mod Entries
+mod Utf8Lines
 mod Reading
 mod SortedKeys
 mod Spelled
 mod MadeTrees
 mod MadeWeights
 mod KeySteps
+mod AddedOps
 mod ValueSteps
 mod TreeSteps
 mod TreeLists

@@ -19,7 +19,7 @@ use Rattle.reg_file.specs.declared.statement.Statement.TheVariants.{CreateKey, D
 use Rattle.reg_file.specs.declared.statement.NumberedStatement.{NumberedStatement}
 use Rattle.change_plan.specs.declared.edit.Edit.{Edit}
 use Rattle.change_plan.specs.declared.edit.Edit.TheVariants as edit
-use Rattle.change_plan.specs.Edits.{OperationAsks}
+use Rattle.change_plan.specs.Edits.{EditAsks, EditRefused, OperationAsks}
 use Rattle.change_plan.specs.Plans.{Planned, ops_len, TakesEdit, NotTaken}
 use Rattle.reg_apply.specs.Statements.{resolved, with_key, current_key, value_name, with_name, asked, TakesStatement, TakesStatements, Denies, StopsAt}
 use Rattle.reg_round_trip.specs.Statements.{value_statement, key_statements, export_statements}
@@ -50,29 +50,33 @@ abbrev pub of_ok : {A D : Type 0} → A → Result A D → A
 of_ok d (Ok x) = x
 of_ok d (Err e) = d
 
--- they ask for operations
-abbrev IsOperation : Edit → Type 0
-IsOperation its = (o : Op) × (its ≡ edit.Operation o)
+-- edits that add
+abbrev IsAddingEdit : Edit → Type 0
+IsAddingEdit (edit.Operation o) = ⊤
+IsAddingEdit (edit.WriteValue hive path name kind bytes) = ⊤
+IsAddingEdit (edit.RemoveValue hive path name) = ⊥
+IsAddingEdit (edit.RemoveKey hive path) = ⊥
 
-asks_operation : (prefixes : List Prefix) (hives : ℕ) (current : Option Place) (statement : Statement) (its : Edit) (next : Option Place) → IsAdding statement → asked prefixes hives current statement ≡ Ok (its, next) → IsOperation its
-asks_operation prefixes hives current (CreateKey path) its next adds e = by_place (resolved prefixes hives path) e
+-- they ask for such edits
+asks_adding : (prefixes : List Prefix) (hives : ℕ) (current : Option Place) (statement : Statement) (its : Edit) (next : Option Place) → IsAdding statement → asked prefixes hives current statement ≡ Ok (its, next) → IsAddingEdit its
+asks_adding prefixes hives current (CreateKey path) its next adds e = by_place (resolved prefixes hives path) e
   where
-    by_place : (r : Result Place Denial) → with_key r (λ place. Ok (edit.Operation (op.CreateKey place.hive place.path), Some place)) ≡ Ok (its, next) → IsOperation its
-    by_place (Ok place) p = (op.CreateKey place.hive place.path, sym (ap (λ (r : Result (Edit × Option Place) Denial). (of_ok (its, next) r).0) p))
+    by_place : (r : Result Place Denial) → with_key r (λ place. Ok (edit.Operation (op.CreateKey place.hive place.path), Some place)) ≡ Ok (its, next) → IsAddingEdit its
+    by_place (Ok place) p = subst IsAddingEdit (ap (λ (r : Result (Edit × Option Place) Denial). (of_ok (its, next) r).0) p) tt
     by_place (Err denial) p = cc
-asks_operation prefixes hives current (DeleteKey path) its next adds e = absurd adds
-asks_operation prefixes hives current (SetValue name kind bytes) its next adds e = by_place (current_key current) e
+asks_adding prefixes hives current (DeleteKey path) its next adds e = absurd adds
+asks_adding prefixes hives current (SetValue name kind bytes) its next adds e = by_place (current_key current) e
   where
-    by_name : (place : Place) (r : Result (List ℕ) Refusal) → with_name r (λ named. Ok (edit.Operation (op.SetValue place.hive place.path named kind bytes), Some place)) ≡ Ok (its, next) → IsOperation its
-    by_name place (Ok named) p = (op.SetValue place.hive place.path named kind bytes, sym (ap (λ (r : Result (Edit × Option Place) Denial). (of_ok (its, next) r).0) p))
+    by_name : (place : Place) (r : Result (List ℕ) Refusal) → with_name r (λ named. Ok (edit.WriteValue place.hive place.path named kind bytes, Some place)) ≡ Ok (its, next) → IsAddingEdit its
+    by_name place (Ok named) p = subst IsAddingEdit (ap (λ (r : Result (Edit × Option Place) Denial). (of_ok (its, next) r).0) p) tt
     by_name place (Err why) p = cc
 
-    by_place : (r : Result Place Denial) → with_key r (λ place. with_name (value_name name) (λ named. Ok (edit.Operation (op.SetValue place.hive place.path named kind bytes), Some place))) ≡ Ok (its, next) → IsOperation its
+    by_place : (r : Result Place Denial) → with_key r (λ place. with_name (value_name name) (λ named. Ok (edit.WriteValue place.hive place.path named kind bytes, Some place))) ≡ Ok (its, next) → IsAddingEdit its
     by_place (Ok place) p = by_name place (value_name name) p
     by_place (Err denial) p = cc
-asks_operation prefixes hives current (DeleteValue name) its next adds e = absurd adds
+asks_adding prefixes hives current (DeleteValue name) its next adds e = absurd adds
 
--- an operation asks for one list of operations
+-- an operation asks for one list of operations, and so does an edit that adds
 same_asks : (trees : List TreeMap) (o : Op) (one two : List Op) → OperationAsks trees o one → OperationAsks trees o two → one ≡ two
 same_asks trees o one two (inl a) (inl b) = a.1 ∙ sym b.1
 same_asks trees o one two (inl a) (inr b) = absurd (apart (sym a.0 ∙ b.0))
@@ -85,13 +89,41 @@ same_asks trees o one two (inr a) (inl b) = absurd (apart (sym b.0 ∙ a.0))
     apart e = cc
 same_asks trees o one two (inr a) (inr b) = a.1 ∙ sym b.1
 
-same_edit : (old : Planned) (o : Op) (one two : Planned) → TakesEdit old (edit.Operation o) one → TakesEdit old (edit.Operation o) two → one ≡ two
-same_edit old o one two a b =
-    let more = same_asks old.view o a.more b.more a.asked b.asked in
+same_edit_asks : (trees : List TreeMap) (moment : ℕ) (its : Edit) (one two : List Op) → IsAddingEdit its → EditAsks trees moment its one → EditAsks trees moment its two → one ≡ two
+same_edit_asks trees moment (edit.Operation o) one two adds a b = same_asks trees o one two a b
+same_edit_asks trees moment (edit.WriteValue hive path name kind bytes) one two adds (inl a) (inl b) = a.1 ∙ sym b.1
+same_edit_asks trees moment (edit.WriteValue hive path name kind bytes) one two adds (inl a) (inr b) = absurd (b.0 a.0)
+same_edit_asks trees moment (edit.WriteValue hive path name kind bytes) one two adds (inr a) (inl b) = absurd (a.0 b.0)
+same_edit_asks trees moment (edit.WriteValue hive path name kind bytes) one two adds (inr a) (inr b) = same_asks trees (op.SetValue hive path name kind bytes) one two a.1 b.1
+same_edit_asks trees moment (edit.RemoveValue hive path name) one two adds a b = absurd adds
+same_edit_asks trees moment (edit.RemoveKey hive path) one two adds a b = absurd adds
+
+same_edit : (old : Planned) (its : Edit) (one two : Planned) → IsAddingEdit its → TakesEdit old its one → TakesEdit old its two → one ≡ two
+same_edit old its one two adds a b =
+    let more = same_edit_asks old.view old.moment its a.more b.more adds a.asked b.asked in
     let views : one.view ≡ two.view = a.view ∙ ap (λ ops. applied old.view ops old.moment) more ∙ sym b.view in
     let ops : one.ops ≡ two.ops = a.ops ∙ ap (λ m. old.ops ++ m) more ∙ sym b.ops in
     let moments : one.moment ≡ two.moment = a.moment ∙ sym b.moment in
-    λ i. record { view = views i; ops = ops i; moment = moments i }
+    let asides : one.aside ≡ two.aside = a.aside ∙ sym b.aside in
+    λ i. record { view = views i; ops = ops i; moment = moments i; aside = asides i }
+
+-- what is asked for isn't refused
+not_refused : (trees : List TreeMap) (o : Op) (ops : List Op) (why : Refusal) → OperationAsks trees o ops → legal trees o ≡ Err why → ⊥
+not_refused trees o ops why asks refused = by_asks asks
+  where
+    apart : (l : Legality) → ◌≡◌ {A = Result Legality Refusal} (Ok l) (Err why) → ⊥
+    apart l e = cc
+
+    by_asks : OperationAsks trees o ops → ⊥
+    by_asks (inl a) = apart Legal (sym a.0 ∙ refused)
+    by_asks (inr a) = apart Opened (sym a.0 ∙ refused)
+
+not_edit_refused : (trees : List TreeMap) (moment : ℕ) (its : Edit) (ops : List Op) (why : Refusal) → IsAddingEdit its → EditAsks trees moment its ops → EditRefused trees moment its why → ⊥
+not_edit_refused trees moment (edit.Operation o) ops why adds asks refused = not_refused trees o ops why asks refused
+not_edit_refused trees moment (edit.WriteValue hive path name kind bytes) ops why adds (inl there) refused = refused.0 there.0
+not_edit_refused trees moment (edit.WriteValue hive path name kind bytes) ops why adds (inr other) refused = not_refused trees (op.SetValue hive path name kind bytes) ops why other.1 refused.1
+not_edit_refused trees moment (edit.RemoveValue hive path name) ops why adds asks refused = absurd adds
+not_edit_refused trees moment (edit.RemoveKey hive path) ops why adds asks refused = absurd adds
 
 -- so a statement is taken in one way
 record SameStep (next : Option Place) (mid : Planned) (other : Option Place) (another : Planned) : Type 0 where
@@ -103,10 +135,8 @@ same_step : (prefixes : List Prefix) (hives : ℕ) (current : Option Place) (old
 same_step prefixes hives current old statement next other mid another adds a b =
     let edits : a.0 ≡ b.0 = of_edit a.0 b.0 (sym a.1 ∙ b.1) in
     let places : next ≡ other = of_place a.0 b.0 (sym a.1 ∙ b.1) in
-    let its = asks_operation prefixes hives current statement a.0 next adds a.1 in
-    let one : TakesEdit old (edit.Operation its.0) mid = subst (λ e. TakesEdit old e mid) its.1 a.2 in
-    let two : TakesEdit old (edit.Operation its.0) another = subst (λ e. TakesEdit old e another) (sym edits ∙ its.1) b.2 in
-    record { place = places; plan = same_edit old its.0 mid another one two }
+    let its = asks_adding prefixes hives current statement a.0 next adds a.1 in
+    record { place = places; plan = same_edit old a.0 mid another its a.2 (subst (λ e. TakesEdit old e another) (sym edits) b.2) }
   where
     of_edit : (x y : Edit) → ◌≡◌ {A = Result (Edit × Option Place) Denial} (Ok (x, next)) (Ok (y, other)) → x ≡ y
     of_edit x y e = ap (λ (r : Result (Edit × Option Place) Denial). (of_ok (x, next) r).0) e
@@ -151,31 +181,25 @@ denied_for_memory prefixes hives current old statement denial adds t (inr (inr d
         of_edit : (x y : Edit) → ◌≡◌ {A = Result (Edit × Option Place) Denial} (Ok (x, t.0)) (Ok (y, d.1)) → x ≡ y
         of_edit x y e = ap (λ (r : Result (Edit × Option Place) Denial). (of_ok (x, t.0) r).0) e
 
-    its : IsOperation t.2.0
-    its = asks_operation prefixes hives current statement t.2.0 t.0 adds t.2.1
+    its : IsAddingEdit t.2.0
+    its = asks_adding prefixes hives current statement t.2.0 t.0 adds t.2.1
 
-    made : TakesEdit old (edit.Operation its.0) t.1
-    made = subst (λ e. TakesEdit old e t.1) its.1 t.2.2
+    made : TakesEdit old t.2.0 t.1
+    made = t.2.2
 
-    why_of : NotTaken old (edit.Operation its.0) d.2 → d.2 ≡ NoMemory
+    why_of : NotTaken old t.2.0 d.2 → d.2 ≡ NoMemory
     why_of (inl memory) = memory
-    why_of (inr (inl refused)) = absurd (legal_or_not made.asked refused)
-      where
-        apart : (l : Legality) → ◌≡◌ {A = Result Legality Refusal} (Ok l) (Err d.2) → ⊥
-        apart l e = cc
-
-        legal_or_not : OperationAsks old.view its.0 made.more → legal old.view its.0 ≡ Err d.2 → ⊥
-        legal_or_not (inl a) r = apart Legal (sym a.0 ∙ r)
-        legal_or_not (inr a) r = apart Opened (sym a.0 ∙ r)
+    why_of (inr (inl refused)) = absurd (not_edit_refused old.view old.moment t.2.0 made.more d.2 its made.asked refused)
     why_of (inr (inr large)) =
-        let more = same_asks old.view its.0 large.1.0 made.more large.1.1 made.asked in
+        let more = same_edit_asks old.view old.moment t.2.0 large.1.0 made.more its large.1.1 made.asked in
         let long : ops_len (old.ops ++ large.1.0) ≡ ops_len t.1.ops = ap (λ m. ops_len (old.ops ++ m)) more ∙ ap ops_len (sym made.ops) in
         let short = made.short in
+        let aside = made.aside in
         let over = large.1.2 in
-        absurd (omega (arith, long, short, over))
+        absurd (omega (arith, long, short, aside, over))
 
     why_memory : NotTaken old d.0 d.2 → d.2 ≡ NoMemory
-    why_memory not_taken = why_of (subst (λ e. NotTaken old e d.2) (sym same_edits ∙ its.1) not_taken)
+    why_memory not_taken = why_of (subst (λ e. NotTaken old e d.2) (sym same_edits) not_taken)
 
 -- so statements that are taken stop for want of memory alone
 pub stops_for_memory : (prefixes : List Prefix) (hives : ℕ) (old : Planned) (numbered : List NumberedStatement) (last : Option Place) (new : Planned) (line : ℕ) (denial : Denial) → AllAdd numbered → TakesStatements prefixes hives None old numbered last new → StopsAt prefixes hives old numbered line denial → denial ≡ refused NoMemory

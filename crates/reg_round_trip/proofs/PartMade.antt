@@ -234,7 +234,7 @@ module _ (tree : TreeMap) (call : IsCallTree tree) (hive moment : ℕ) where
       let others = keys_made its its_call.light hive moment its_call.is_tree (λ path k at. call_values path k (its_call.keys path k at)) rest later rows written.0 ready in
       let steps_rest : LegalSteps moment written.0 (flat_map (key_ops hive) (map (λ (e : Entry). (spelled_names tree e.0, e.1)) rest)) others.0 =
       subst (λ keys. LegalSteps moment written.0 (flat_map (key_ops hive) keys) others.0) (same_rows tree is_tree top rest (all_left_of (λ (e : Entry). begins_path top e.0 ≡ true) (λ e. row tree e.0 ≡ Some e.1) rest all_rest)) others.1 in
-      let front = steps_both moment fresh_tree (changed fresh_tree op moment) written.0 (op ∷ []) (map (value_op hive names) (finite.values key.values)) (legal, refl) written.1 in
+      let front = steps_both moment fresh_tree (changed fresh_tree op moment) written.0 (op ∷ []) (map (value_op hive names) (finite.values key.values)) ((legal, tt), refl) written.1 in
       let steps = steps_both moment fresh_tree written.0 others.0 (key_ops hive (names, key)) (flat_map (key_ops hive) (map (λ (e : Entry). (spelled_names tree e.0, e.1)) rest)) front steps_rest in
       record {
         new = others.0;

@@ -1,5 +1,5 @@
 -- The export of a part restores this part.
-use Rattle.std.proofs.Common.{◌≡◌, ◌≢◌, ℕ, zero, suc, ◌<◌, ◌≤◌, true, List, [], ◌∷◌, length, Option, Some, None, IsSome, refl, sym, ◌∙◌, ap, subst, arith, append-nil}
+use Rattle.std.proofs.Common.{◌≡◌, ◌≢◌, ℕ, zero, suc, ◌+◌, ◌<◌, ◌≤◌, true, List, [], ◌∷◌, length, Option, Some, None, IsSome, refl, sym, ◌∙◌, ap, subst, arith, append-nil}
 use Rattle.std.specs.Prelude.{slice_get, slice_set}
 use Rattle.std.specs.List.{AllByRecursion, flat_map}
 use Rattle.std.specs.FinMap as finite
@@ -13,11 +13,11 @@ use Rattle.reg_tree.specs.Operations.{hive_of}
 use Rattle.reg_tree.specs.Judgement.{changed, legal_if, applied, applied_if, applied_one}
 use Rattle.reg_tree.specs.declared.op.Op.{Op}
 use Rattle.reg_tree.proofs.OthersStay.{hives_stay}
-use Rattle.store_model.specs.Machine.{Machine, named_trees}
-use Rattle.store_model.specs.Invariant.{AreLegalChanges}
+use Rattle.store_model.specs.Machine.{Machine, named_trees, outcome_bytes}
 use Rattle.key_walk.specs.SubtreeRows.{rows_below}
 use Rattle.reg_prefixes.specs.declared.prefix.Prefix.{Prefix}
 use Rattle.reg_prefixes.specs.Places.{shown_in}
+use Rattle.reg_export.specs.declared.encoding.Encoding.{Encoding}
 use Rattle.reg_export.specs.RegFiles.{reg_text}
 use Rattle.change_plan.specs.Plans.{ops_len}
 use Rattle.reg_apply.specs.Applied.{first_plan}
@@ -30,6 +30,7 @@ use Rattle.reg_round_trip.specs.Restores.{Restores, HasPartIn}
 use Rattle.reg_round_trip.proofs.Units.{all_then, none_some}
 use Rattle.reg_round_trip.proofs.SortedKeys.{each_got}
 use Rattle.reg_round_trip.proofs.Reading.{ReadsText, export_is_read}
+use Rattle.reg_round_trip.proofs.AddedOps.{AreAdded, new_among}
 use Rattle.reg_round_trip.proofs.ValueSteps.{LegalSteps}
 use Rattle.reg_round_trip.proofs.TreeLists.{AreOf, keys_of}
 use Rattle.reg_round_trip.proofs.ShownPlaces.{shown_all}
@@ -42,12 +43,12 @@ use Rattle.reg_round_trip.proofs.Restored.{AreShowable, call_row, restores_by}
 
 -- operations on one hive of a list
 record OnHive (trees : List TreeMap) (hive : ℕ) (ops : List Op) (moment : ℕ) (new : TreeMap) : Type 0 where
-  legals : AreLegalChanges trees ops moment
+  added : AreAdded trees ops moment
   there : slice_get (applied trees ops moment) hive ≡ Some new
   others : (other : ℕ) → other ≢ hive → slice_get (applied trees ops moment) other ≡ slice_get trees other
 
 on_hive : (trees : List TreeMap) (hive : ℕ) (tree : TreeMap) (ops : List Op) (moment : ℕ) (new : TreeMap) → slice_get trees hive ≡ Some tree → AreOf hive ops → LegalSteps moment tree ops new → OnHive trees hive ops moment new
-on_hive trees hive tree [] moment new there all steps = record { legals = tt; there = there ∙ ap Some (sym steps); others = λ other differ. refl }
+on_hive trees hive tree [] moment new there all steps = record { added = tt; there = there ∙ ap Some (sym steps); others = λ other differ. refl }
 on_hive trees hive tree (op ∷ ops) moment new there all steps =
     let found : slice_get trees (hive_of op) ≡ Some tree = ap (slice_get trees) all.0 ∙ there in
     let next : applied_one trees op moment ≡ slice_set trees (hive_of op) (changed tree op moment) = ap (λ o. applied_if trees o op moment) found in
@@ -55,7 +56,7 @@ on_hive trees hive tree (op ∷ ops) moment new there all steps =
     ap (λ ts. slice_get ts hive) next ∙ ap (slice_get (slice_set trees (hive_of op) (changed tree op moment))) (sym all.0) ∙ get_set trees (hive_of op) tree (changed tree op moment) found in
     let rest = on_hive (applied_one trees op moment) hive (changed tree op moment) ops moment new got all.1 steps.1 in
     record {
-      legals = (ap (λ o. legal_if o op) found ∙ steps.0, rest.legals);
+      added = ((ap (λ o. legal_if o op) found ∙ steps.0.0, new_among trees tree op found steps.0.1), rest.added);
       there = rest.there;
       others = λ other differ. rest.others other differ ∙ hives_stay trees op moment other (λ e. differ (e ∙ all.0));
     }
@@ -79,12 +80,12 @@ part_shown tree call top =
     rows_shown tree call (inside tree top)
     (all_then (λ (e : Entry). (begins_path top e.0 ≡ true) × (row tree e.0 ≡ Some e.1)) (λ e. row tree e.0 ≡ Some e.1) (λ e h. h.1) (inside tree top) (filter_all (λ (e : Entry). begins_path top e.0) (λ e. row tree e.0 ≡ Some e.1) (finite.entries tree) (each_got paths_total tree)))
 
-module _ (r : ReadsText) (prefixes : List Prefix) (hive : ℕ) (tree : TreeMap) (top : List (List ℕ)) (prefix : List ℕ) (moment : ℕ) (old : Machine) (texts : AreShowable prefixes) (apart : AreApart prefixes) (shown : shown_in prefixes hive ≡ Some prefix) (call : IsCallTree tree) (some : IsSome (row tree top))
-    (few : length top ≤ MOST_NEW_LEVELS) (short : ops_len (part_ops hive tree top) ≤ MOST_ELEMENT_BYTES) (are : AreTrees (named_trees old)) (new : slice_get (named_trees old) hive ≡ Some fresh_tree) where
-  pub part_read : AreReadAs (reg_text ((prefix, rows_below tree top) ∷ [])) (export_statements ((prefix, rows_below tree top) ∷ []))
+module _ (r : ReadsText) (encoding : Encoding) (prefixes : List Prefix) (hive : ℕ) (tree : TreeMap) (top : List (List ℕ)) (prefix : List ℕ) (moment : ℕ) (old : Machine) (texts : AreShowable prefixes) (apart : AreApart prefixes) (shown : shown_in prefixes hive ≡ Some prefix) (call : IsCallTree tree) (some : IsSome (row tree top))
+    (few : length top ≤ MOST_NEW_LEVELS) (short : ops_len (part_ops hive tree top) + outcome_bytes old ≤ MOST_ELEMENT_BYTES) (are : AreTrees (named_trees old)) (new : slice_get (named_trees old) hive ≡ Some fresh_tree) where
+  pub part_read : AreReadAs (reg_text encoding ((prefix, rows_below tree top) ∷ [])) (export_statements ((prefix, rows_below tree top) ∷ []))
   part_read =
       let its = shown_all (λ text. IsPrefixText text × (length text ≤ MOST_VALUE_BYTES)) prefixes texts hive prefix shown in
-      export_is_read r ((prefix, rows_below tree top) ∷ []) (keys_limits prefix its.0 its.1 (rows_below tree top) (part_shown tree call top), tt) (hives_fit ((prefix, rows_below tree top) ∷ []) (part_shown tree call top, tt))
+      export_is_read r encoding ((prefix, rows_below tree top) ∷ []) (keys_limits prefix its.0 its.1 (rows_below tree top) (part_shown tree call top), tt) (hives_fit encoding ((prefix, rows_below tree top) ∷ []) (part_shown tree call top, tt))
 
   made : (new_tree : TreeMap) × OnHive (named_trees old) hive (part_ops hive tree top) moment new_tree × HasPartIn tree top hive (named_trees old) (applied (named_trees old) (part_ops hive tree top) moment)
   made =
@@ -95,12 +96,12 @@ module _ (r : ReadsText) (prefixes : List Prefix) (hive : ℕ) (tree : TreeMap) 
   pub part_made : HasPartIn tree top hive (named_trees old) (applied (named_trees old) (part_ops hive tree top) moment)
   part_made = made.2
 
-  pub part_restores : hive < length (named_trees old) → Restores prefixes moment (reg_text ((prefix, rows_below tree top) ∷ [])) old (part_ops hive tree top) (HasPartIn tree top hive (named_trees old))
+  pub part_restores : hive < length (named_trees old) → Restores prefixes moment (reg_text encoding ((prefix, rows_below tree top) ∷ [])) old (part_ops hive tree top) (HasPartIn tree top hive (named_trees old))
   part_restores within =
       let on = made.1 in
       let first = first_plan old moment in
       let calls = all_then IsCallShown IsCallRow call_row (rows_below tree top) (part_shown tree call top) in
-      let taken = keys_taken prefixes (length (named_trees old)) apart hive within prefix shown (rows_below tree top) calls None first (trees_has (named_trees old) are) on.legals short in
+      let taken = keys_taken prefixes (length (named_trees old)) apart hive within prefix shown (rows_below tree top) calls None first (trees_has (named_trees old) are) on.added short in
       let whole : Takes prefixes (length (named_trees old)) None first (export_statements ((prefix, rows_below tree top) ∷ [])) taken.0 (behind first (part_ops hive tree top)) =
       subst (λ ss. Takes prefixes (length (named_trees old)) None first ss taken.0 (behind first (part_ops hive tree top))) (sym (append-nil (flat_map (key_statements prefix) (rows_below tree top)))) taken.1 in
-      restores_by prefixes moment (reg_text ((prefix, rows_below tree top) ∷ [])) old (part_ops hive tree top) (HasPartIn tree top hive (named_trees old)) (export_statements ((prefix, rows_below tree top) ∷ [])) part_read (export_adds ((prefix, rows_below tree top) ∷ [])) taken.0 whole part_made
+      restores_by prefixes moment (reg_text encoding ((prefix, rows_below tree top) ∷ [])) old (part_ops hive tree top) (HasPartIn tree top hive (named_trees old)) (export_statements ((prefix, rows_below tree top) ∷ [])) part_read (export_adds ((prefix, rows_below tree top) ∷ [])) taken.0 whole part_made

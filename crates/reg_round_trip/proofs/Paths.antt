@@ -3,7 +3,7 @@ use Rattle.std.proofs.Common.{◌≡◌, ◌≢◌, ℕ, List, [], ◌∷◌, �
 use Rattle.std.specs.List.{AllByRecursion, flat_map}
 use Rattle.reg_export.specs.RegTexts.{reg_path}
 use Rattle.reg_round_trip.specs.Exports.{HasNoBackslash, IsPrefixText, IsBelowName}
-use Rattle.reg_round_trip.proofs.Units.{all_both}
+use Rattle.reg_round_trip.proofs.TextFacts.{AreTexts}
 
 -- a path goes on behind a longer prefix
 pub path_more : (prefix name : List ℕ) (names : List (List ℕ)) → reg_path prefix (name ∷ names) ≡ reg_path (prefix ++ 92 ∷ name) names
@@ -63,10 +63,10 @@ path_no_minus prefix names p = first prefix names p.no_minus
         other e = absurd (omega (arith, e))
     first (u ∷ pre) ns h rest e = let same : u ≡ 45 = cc in h pre (ap (λ x. x ∷ pre) same)
 
--- its units are those of the prefix, of the names, and backslashes
-pub path_units : (P : ℕ → Type 0) → P 92 → (prefix : List ℕ) (names : List (List ℕ)) → AllByRecursion P prefix → AllByRecursion (AllByRecursion P) names → AllByRecursion P (reg_path prefix names)
-path_units P h prefix names p all = all_both P prefix (flat_map (λ n. 92 ∷ n) names) p (parts names all)
+-- it is a text if the prefix and the names are
+pub path_text : (G : List ℕ → Type 0) → AreTexts G → (prefix : List ℕ) (names : List (List ℕ)) → G prefix → AllByRecursion G names → G (reg_path prefix names)
+path_text G t prefix names p all = t.both prefix (flat_map (λ n. 92 ∷ n) names) p (parts names all)
   where
-    parts : (ns : List (List ℕ)) → AllByRecursion (AllByRecursion P) ns → AllByRecursion P (flat_map (λ n. 92 ∷ n) ns)
-    parts [] a = tt
-    parts (n ∷ ns) a = (h, all_both P n (flat_map (λ m. 92 ∷ m) ns) a.0 (parts ns a.1))
+    parts : (ns : List (List ℕ)) → AllByRecursion G ns → G (flat_map (λ n. 92 ∷ n) ns)
+    parts [] a = t.prints [] tt
+    parts (n ∷ ns) a = t.both (92 ∷ []) (n ++ flat_map (λ m. 92 ∷ m) ns) (t.prints (92 ∷ []) (refl, tt)) (t.both n (flat_map (λ m. 92 ∷ m) ns) a.0 (parts ns a.1))

@@ -9,10 +9,10 @@ use Rattle.reg_tree.specs.Maps.{TreeMap}
 use Rattle.reg_tree.specs.Fresh.{fresh_tree}
 use Rattle.reg_tree.specs.Judgement.{applied}
 use Rattle.reg_tree.specs.declared.op.Op.{Op}
-use Rattle.store_model.specs.Machine.{Machine, named_trees}
-use Rattle.store_model.specs.Invariant.{AreLegalChanges}
+use Rattle.store_model.specs.Machine.{Machine, named_trees, outcome_bytes}
 use Rattle.key_walk.specs.KeyRows.{NamedRow, tree_rows}
 use Rattle.reg_prefixes.specs.declared.prefix.Prefix.{Prefix}
+use Rattle.reg_export.specs.declared.encoding.Encoding.{Encoding}
 use Rattle.reg_export.specs.RegFiles.{reg_text}
 use Rattle.reg_file.specs.Files.{reg_file_of}
 use Rattle.reg_file.specs.declared.file.RegFile.{RegFile}
@@ -29,10 +29,11 @@ use Rattle.reg_round_trip.specs.NewTrees.{IsCallValue, IsCallTree}
 use Rattle.reg_round_trip.specs.Shown.{AreApart, IsShowable}
 use Rattle.reg_round_trip.specs.Restores.{Restores}
 use Rattle.reg_round_trip.proofs.Units.{all_then, all_mapped}
+use Rattle.reg_round_trip.proofs.AddedOps.{AreAdded}
 use Rattle.reg_round_trip.proofs.Entries.{plain}
 use Rattle.reg_round_trip.proofs.Reading.{ReadsText, export_is_read}
 use Rattle.reg_round_trip.proofs.MadeTrees.{fresh_is_tree}
-use Rattle.reg_round_trip.proofs.TreeLists.{all_legal, all_same}
+use Rattle.reg_round_trip.proofs.TreeLists.{all_added, all_same}
 use Rattle.reg_round_trip.proofs.ShownHives.{AreShown}
 use Rattle.reg_round_trip.proofs.ShownPlaces.{shown_all}
 use Rattle.reg_round_trip.proofs.CallTrees.{IsCallShown, tree_shown, keys_limits, hives_fit}
@@ -96,18 +97,18 @@ shown_rows prefixes hive (tree ∷ trees) shown are calls = subst (AllByRecursio
 call_rows : (trees : List TreeMap) → AllByRecursion IsCallTree trees → AllByRecursion (λ tree. AllByRecursion IsCallRow (tree_rows tree)) trees
 call_rows trees calls = all_then IsCallTree (λ tree. AllByRecursion IsCallRow (tree_rows tree)) (λ tree call. all_then IsCallShown IsCallRow call_row (tree_rows tree) (tree_shown tree call)) trees calls
 
-pub shown_read : ReadsText → (prefixes : List Prefix) (trees : List TreeMap) (shown : Rows) → AreShowable prefixes → AreShown prefixes 0 trees shown → AllByRecursion IsCallTree trees → AreReadAs (reg_text shown) (export_statements shown)
-shown_read r prefixes trees shown texts are calls = export_is_read r shown (limits prefixes texts 0 trees shown are calls) (hives_fit shown (shown_rows prefixes 0 trees shown are calls))
+pub shown_read : ReadsText → (encoding : Encoding) (prefixes : List Prefix) (trees : List TreeMap) (shown : Rows) → AreShowable prefixes → AreShown prefixes 0 trees shown → AllByRecursion IsCallTree trees → AreReadAs (reg_text encoding shown) (export_statements shown)
+shown_read r encoding prefixes trees shown texts are calls = export_is_read r encoding shown (limits prefixes texts 0 trees shown are calls) (hives_fit encoding shown (shown_rows prefixes 0 trees shown are calls))
 
 -- in new hives the same content is made
 pub made_same : (trees : List TreeMap) (moment : ℕ) (old : Machine) → AllByRecursion IsCallTree trees → named_trees old ≡ new_trees trees → AllZip SameContent trees (applied (named_trees old) (trees_ops 0 trees) moment)
 made_same trees moment old calls is_new = subst (λ ts. AllZip SameContent trees (applied ts (trees_ops 0 trees) moment)) (sym is_new) (all_same trees moment calls)
 
-pub export_restores : ReadsText → (prefixes : List Prefix) (trees : List TreeMap) (shown : Rows) (moment : ℕ) (old : Machine) → AreShowable prefixes → AreApart prefixes → AreShown prefixes 0 trees shown → AllByRecursion IsCallTree trees
-    → ops_len (trees_ops 0 trees) ≤ MOST_ELEMENT_BYTES → named_trees old ≡ new_trees trees → Restores prefixes moment (reg_text shown) old (trees_ops 0 trees) (AllZip SameContent trees)
-export_restores r prefixes trees shown moment old texts apart are calls short is_new =
+pub export_restores : ReadsText → (encoding : Encoding) (prefixes : List Prefix) (trees : List TreeMap) (shown : Rows) (moment : ℕ) (old : Machine) → AreShowable prefixes → AreApart prefixes → AreShown prefixes 0 trees shown → AllByRecursion IsCallTree trees
+    → ops_len (trees_ops 0 trees) + outcome_bytes old ≤ MOST_ELEMENT_BYTES → named_trees old ≡ new_trees trees → Restores prefixes moment (reg_text encoding shown) old (trees_ops 0 trees) (AllZip SameContent trees)
+export_restores r encoding prefixes trees shown moment old texts apart are calls short is_new =
     let count : length (named_trees old) ≡ length trees = ap length is_new ∙ length-map trees (λ _. fresh_tree) in
     let has : HasTrees (length (named_trees old)) (named_trees old) = subst (λ n. HasTrees n (named_trees old)) (sym count) (subst (HasTrees (length trees)) (sym is_new) (new_has trees)) in
-    let legals : AreLegalChanges (named_trees old) (trees_ops 0 trees) moment = subst (λ ts. AreLegalChanges ts (trees_ops 0 trees) moment) (sym is_new) (all_legal trees moment calls) in
-    let taken = hives_taken prefixes (length (named_trees old)) apart 0 trees shown are (omega (arith, count)) (call_rows trees calls) None (first_plan old moment) has legals short in
-    restores_by prefixes moment (reg_text shown) old (trees_ops 0 trees) (AllZip SameContent trees) (export_statements shown) (shown_read r prefixes trees shown texts are calls) (export_adds shown) taken.0 taken.1 (made_same trees moment old calls is_new)
+    let added : AreAdded (named_trees old) (trees_ops 0 trees) moment = subst (λ ts. AreAdded ts (trees_ops 0 trees) moment) (sym is_new) (all_added trees moment calls) in
+    let taken = hives_taken prefixes (length (named_trees old)) apart 0 trees shown are (omega (arith, count)) (call_rows trees calls) None (first_plan old moment) has added short in
+    restores_by prefixes moment (reg_text encoding shown) old (trees_ops 0 trees) (AllZip SameContent trees) (export_statements shown) (shown_read r encoding prefixes trees shown texts are calls) (export_adds shown) taken.0 taken.1 (made_same trees moment old calls is_new)

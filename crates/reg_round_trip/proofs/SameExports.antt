@@ -1,11 +1,10 @@
 -- Trees of the same content are shown by the same registration file.
 use Rattle.std.proofs.Common.{◌≡◌, ℕ, ◌+◌, List, [], ◌∷◌, ◌++◌, map, Option, Some, None, refl, sym, ◌∙◌, ap, ap₂, arith, codes}
-use Rattle.std.specs.List.{AllZip, flat_map, list_all}
+use Rattle.std.specs.List.{AllZip, flat_map}
 use Rattle.std.specs.Option.{option_map}
 use Rattle.std.specs.FinMap as finite
 use Rattle.std.specs.FinMap.{entries_sorted, get-entries, get-from_sorted, entries-from_sorted, same_map}
 use Rattle.std.specs.FinMap.Entries.{find}
-use Rattle.reg_tree_parts.specs.declared.value.Value.{Value}
 use Rattle.reg_tree_parts.specs.Orders.{path_order}
 use Rattle.reg_tree_parts.specs.Rows.{Row, ValueMap}
 use Rattle.reg_tree_parts.proofs.Keys.{paths_total, paths_apart}
@@ -13,10 +12,9 @@ use Rattle.reg_tree.specs.Maps.{TreeMap, row, beginnings}
 use Rattle.key_walk.specs.KeyRows.{NamedRow, name_of_row, spelled_names, tree_rows}
 use Rattle.reg_prefixes.specs.declared.prefix.Prefix.{Prefix}
 use Rattle.reg_export.specs.Encodings.{encoded, mark}
-use Rattle.reg_export.specs.NameTests.{is_ascii_name}
-use Rattle.reg_export.specs.Scans.{shown_names}
 use Rattle.reg_export.specs.RegTexts.{line, reg_header, reg_path, reg_value_line, reg_key_lines, reg_hive_lines}
-use Rattle.reg_export.specs.RegFiles.{encoding_of, file_names, reg_text}
+use Rattle.reg_export.specs.declared.encoding.Encoding.{Encoding}
+use Rattle.reg_export.specs.RegFiles.{reg_text}
 use Rattle.reg_round_trip.specs.Contents.{HasSameKey, SameContent}
 use Rattle.reg_round_trip.proofs.SortedKeys.{mapped, sorted_mapped, find_mapped}
 use Rattle.store_export.specs.Exports.{all_rows, prefix_of, with_prefix}
@@ -32,9 +30,6 @@ seen key = (key.0, let its = key.1 in its.values)
 seen_lines : List ℕ → Seen → List ℕ
 seen_lines prefix key = line (codes "[" ++ reg_path prefix key.0 ++ codes "]") ++ flat_map reg_value_line (finite.values key.1) ++ line []
 
-seen_names : Seen → List (List ℕ)
-seen_names key = key.0 ++ map (λ (value : Value). value.name) (finite.values key.1)
-
 by_seen : {X Y Z : Type 0} (f : X → List Z) (g : Y → List Z) (h : X → Y) → ((x : X) → f x ≡ g (h x)) → (xs : List X) → flat_map f xs ≡ flat_map g (map h xs)
 by_seen f g h same [] = refl
 by_seen f g h same (x ∷ xs) = ap₂ (λ a b. a ++ b) (same x) (by_seen f g h same xs)
@@ -42,10 +37,6 @@ by_seen f g h same (x ∷ xs) = ap₂ (λ a b. a ++ b) (same x) (by_seen f g h s
 lines_seen : (prefix : List ℕ) (key : NamedRow) → reg_key_lines prefix key ≡ seen_lines prefix (seen key)
 unfolding seen_lines
 lines_seen prefix key = refl
-
-names_seen : (key : NamedRow) → shown_names key ≡ seen_names (seen key)
-unfolding seen_names
-names_seen key = refl
 
 -- the values at paths
 abbrev its_values : Row → ValueMap
@@ -108,25 +99,16 @@ module _ (tree other : TreeMap) (same : SameContent tree other) where
   same_seen = seen_of tree (finite.entries tree) ∙ other_names (valued (finite.entries tree)) ∙ ap (map (with_names other)) same_valued ∙ sym (seen_of other (finite.entries other))
 
 -- hives one by one
-record SameShown (shown again : List (List ℕ × List NamedRow)) : Type 0 where
-  texts : flat_map reg_hive_lines shown ≡ flat_map reg_hive_lines again
-  names : file_names shown ≡ file_names again
-
-same_shown : (prefixes : List Prefix) (hive : ℕ) (trees others : List TreeMap) → AllZip SameContent trees others → SameShown (map (with_prefix prefixes) (all_rows hive trees)) (map (with_prefix prefixes) (all_rows hive others))
-same_shown prefixes hive [] [] same = record { texts = refl; names = refl }
-same_shown prefixes hive [] (other ∷ others) same = absurd same
-same_shown prefixes hive (tree ∷ trees) [] same = absurd same
-same_shown prefixes hive (tree ∷ trees) (other ∷ others) same =
-    let rest = same_shown prefixes (hive + 1) trees others same.1 in
+same_texts : (prefixes : List Prefix) (hive : ℕ) (trees others : List TreeMap) → AllZip SameContent trees others → flat_map reg_hive_lines (map (with_prefix prefixes) (all_rows hive trees)) ≡ flat_map reg_hive_lines (map (with_prefix prefixes) (all_rows hive others))
+same_texts prefixes hive [] [] same = refl
+same_texts prefixes hive [] (other ∷ others) same = absurd same
+same_texts prefixes hive (tree ∷ trees) [] same = absurd same
+same_texts prefixes hive (tree ∷ trees) (other ∷ others) same =
     let prefix = prefix_of prefixes hive in
     let seen_same = same_seen tree other same.0 in
     let lines : reg_hive_lines (prefix, tree_rows tree) ≡ reg_hive_lines (prefix, tree_rows other) =
     by_seen (reg_key_lines prefix) (seen_lines prefix) seen (lines_seen prefix) (tree_rows tree) ∙ ap (flat_map (seen_lines prefix)) seen_same ∙ sym (by_seen (reg_key_lines prefix) (seen_lines prefix) seen (lines_seen prefix) (tree_rows other)) in
-    let names : flat_map shown_names (tree_rows tree) ≡ flat_map shown_names (tree_rows other) =
-    by_seen shown_names seen_names seen names_seen (tree_rows tree) ∙ ap (flat_map seen_names) seen_same ∙ sym (by_seen shown_names seen_names seen names_seen (tree_rows other)) in
-    record { texts = ap₂ (λ a b. a ++ b) lines rest.texts; names = ap₂ (λ a b. a ++ b) names rest.names }
+    ap₂ (λ a b. a ++ b) lines (same_texts prefixes (hive + 1) trees others same.1)
 
-pub same_export : (prefixes : List Prefix) (trees others : List TreeMap) → AllZip SameContent trees others → reg_text (exported prefixes trees) ≡ reg_text (exported prefixes others)
-same_export prefixes trees others same =
-    let s = same_shown prefixes 0 trees others same in
-    ap₂ (λ names lines. mark (encoding_of (list_all is_ascii_name names)) ++ encoded (encoding_of (list_all is_ascii_name names)) (reg_header ++ lines)) s.names s.texts
+pub same_export : (encoding : Encoding) (prefixes : List Prefix) (trees others : List TreeMap) → AllZip SameContent trees others → reg_text encoding (exported prefixes trees) ≡ reg_text encoding (exported prefixes others)
+same_export encoding prefixes trees others same = ap (λ lines. mark encoding ++ encoded encoding (reg_header ++ lines)) (same_texts prefixes 0 trees others same)

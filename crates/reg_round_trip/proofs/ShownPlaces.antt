@@ -1,5 +1,5 @@
 -- The path of a key behind the prefix of its hive leads to that key.
-use Rattle.std.proofs.Common.{◌≡◌, ℕ, suc, ◌+◌, ◌<◌, ◌≤◌, Bool, true, false, cond, ◌&&◌, List, [], ◌∷◌, ◌++◌, length, drop, Some, Ok, refl, sym, ◌∙◌, ap, ap₂, subst, arith, append-nil}
+use Rattle.std.proofs.Common.{◌≡◌, ℕ, suc, ◌+◌, ◌<◌, ◌≤◌, Bool, true, false, cond, ◌&&◌, List, [], ◌∷◌, ◌++◌, length, drop, Option, Some, None, Ok, refl, sym, ◌∙◌, ap, ap₂, subst, arith, append-nil}
 use Rattle.std.specs.Prelude.{◌==◌, All, nat_le, slice_index_or, not}
 use Rattle.std.specs.List.{AllByRecursion, flat_map, list_all, slice_split}
 use Rattle.std.proofs.lemmas.Bool.Decides.{Decides-eqb, nat_tests}
@@ -8,7 +8,8 @@ use Rattle.refusals.specs.declared.limits.TheConstants.{MOST_PATH_NAMES}
 use Rattle.reg_names.specs.Names.{fold_unit, is_name_unit, is_key_unit, is_key_name, path_names, path_if, path_of}
 use Rattle.reg_names.proofs.Parts.{names_are_parts, no_names}
 use Rattle.reg_prefixes.specs.declared.prefix.Prefix.{Prefix}
-use Rattle.reg_prefixes.specs.Places.{begins, place_in, shown_in}
+use Rattle.std.specs.Option.{option_map}
+use Rattle.reg_prefixes.specs.Places.{begins, longer, longest_in, joined_path, led_by, place_in, leads_to_root, shown_in}
 use Rattle.reg_export.specs.RegTexts.{reg_path}
 use Rattle.reg_round_trip.specs.Shown.{AreApart}
 use Rattle.reg_round_trip.proofs.Units.{all_then, both_true, not_both, not_true, not_false}
@@ -63,14 +64,14 @@ begins_no_other (u ∷ other) (v ∷ prefix) names one two = by_test (begins_no_
 -- what is so of all prefixes is so of one that is shown
 pub shown_all : (P : List ℕ → Type 0) (prefixes : List Prefix) → AllByRecursion (λ (prefix : Prefix). P prefix.text.items) prefixes → (hive : ℕ) (text : List ℕ) → shown_in prefixes hive ≡ Some text → P text
 shown_all P [] all hive text e = cc
-shown_all P (prefix ∷ prefixes) all hive text e = by_hive (shown_all P prefixes all.1 hive text) (prefix.hive == hive) e
+shown_all P (prefix ∷ prefixes) all hive text e = by_root (shown_all P prefixes all.1 hive text) (leads_to_root hive prefix) e
   where
     same_of : Some prefix.text.items ≡ Some text → prefix.text.items ≡ text
     same_of p = cc
 
-    by_hive : (shown_in prefixes hive ≡ Some text → P text) → (t : Bool) → cond t (Some prefix.text.items) (shown_in prefixes hive) ≡ Some text → P text
-    by_hive later true p = subst P (same_of p) all.0
-    by_hive later false p = later p
+    by_root : (shown_in prefixes hive ≡ Some text → P text) → (t : Bool) → cond t (Some prefix.text.items) (shown_in prefixes hive) ≡ Some text → P text
+    by_root later true p = subst P (same_of p) all.0
+    by_root later false p = later p
 
 -- the others of a prefix, one by one
 abbrev IsApart : Prefix → Prefix → Type 0
@@ -97,9 +98,24 @@ drop_prefix prefix names = ap (λ n. drop n (prefix ++ behind names)) one ∙ dr
     dropped [] (n ∷ ns) = refl
     dropped (u ∷ p) ns = dropped p ns
 
-pub place_shown : (prefixes : List Prefix) → AreApart prefixes → (hive : ℕ) (prefix : List ℕ) → shown_in prefixes hive ≡ Some prefix → (names : List (List ℕ)) → place_in prefixes (reg_path prefix names) ≡ Some (hive, joined names)
-place_shown [] apart hive prefix e names = cc
-place_shown (first ∷ prefixes) apart hive prefix e names = by_hive (place_shown prefixes (apart_rest first prefixes apart) hive prefix) (first.hive == hive) refl e
+-- the prefix that is shown is the longest one that its paths begin with, since no other one fits
+none_fits : (prefixes : List Prefix) (text : List ℕ) → AllByRecursion (λ (q : Prefix). begins q.text.items text ≡ false) prefixes → longest_in prefixes text ≡ None
+none_fits [] text all = refl
+none_fits (q ∷ prefixes) text all = ap (λ b. cond b (Some (longer q (longest_in prefixes text))) (longest_in prefixes text)) all.0 ∙ none_fits prefixes text all.1
+
+pub record IsShownBy (prefixes : List Prefix) (hive : ℕ) (prefix : List ℕ) (names : List (List ℕ)) : Type 0 where
+  pub its : Prefix
+  pub longest : longest_in prefixes (reg_path prefix names) ≡ Some its
+  pub text : its.text.items ≡ prefix
+  pub number : its.hive ≡ hive
+  pub root : (length its.key.items == 0) ≡ true
+
+shown_longest : (prefixes : List Prefix) → AreApart prefixes → (hive : ℕ) (prefix : List ℕ) → shown_in prefixes hive ≡ Some prefix → (names : List (List ℕ)) → IsShownBy prefixes hive prefix names
+shown_longest [] apart hive prefix e names = absurd (bad e)
+  where
+    bad : ◌≡◌ {A = Option (List ℕ)} None (Some prefix) → ⊥
+    bad h = cc
+shown_longest (first ∷ prefixes) apart hive prefix e names = by_root (shown_longest prefixes (apart_rest first prefixes apart) hive prefix) (leads_to_root hive first) refl e
   where
     text : List ℕ
     text = reg_path prefix names
@@ -107,17 +123,42 @@ place_shown (first ∷ prefixes) apart hive prefix e names = by_hive (place_show
     same_of : Some first.text.items ≡ Some prefix → first.text.items ≡ prefix
     same_of p = cc
 
-    by_hive : (shown_in prefixes hive ≡ Some prefix → (ns : List (List ℕ)) → place_in prefixes (reg_path prefix ns) ≡ Some (hive, joined ns)) → (t : Bool) → (first.hive == hive) ≡ t → cond t (Some first.text.items) (shown_in prefixes hive) ≡ Some prefix
-        → cond (begins first.text.items (reg_path prefix names)) (Some (first.hive, drop (length first.text.items + 1) (reg_path prefix names))) (place_in prefixes (reg_path prefix names)) ≡ Some (hive, joined names)
-    by_hive later true t p =
+    no_other : first.text.items ≡ prefix → AllByRecursion (λ (q : Prefix). begins q.text.items text ≡ false) prefixes
+    no_other same = all_then (IsApart first) (λ (q : Prefix). begins q.text.items text ≡ false)
+        (λ q a. begins_no_other q.text.items prefix names (subst (λ p. begins q.text.items p ≡ false) same a.1) (subst (λ p. begins p q.text.items ≡ false) same a.0)) prefixes (apart_first first prefixes apart)
+
+    by_root : (shown_in prefixes hive ≡ Some prefix → (ns : List (List ℕ)) → IsShownBy prefixes hive prefix ns) → (t : Bool) → leads_to_root hive first ≡ t → cond t (Some first.text.items) (shown_in prefixes hive) ≡ Some prefix → IsShownBy (first ∷ prefixes) hive prefix names
+    by_root later true t p =
         let same = same_of p in
-        let number : first.hive ≡ hive = (Decides-eqb first.hive hive).0 t in
-        ap (λ q. cond (begins q (reg_path prefix names)) (Some (first.hive, drop (length q + 1) (reg_path prefix names))) (place_in prefixes (reg_path prefix names))) same
-        ∙ ap (λ b. cond b (Some (first.hive, drop (length prefix + 1) (reg_path prefix names))) (place_in prefixes (reg_path prefix names))) (begins_own prefix names)
-        ∙ ap₂ (λ h r. Some (h, r)) number (drop_prefix prefix names)
-    by_hive later false t p =
+        let two = both_true (first.hive == hive) (length first.key.items == 0) t in
+        let own : begins first.text.items text ≡ true = ap (λ q. begins q text) same ∙ begins_own prefix names in
+        record {
+          its = first;
+          longest = ap (λ b. cond b (Some (longer first (longest_in prefixes text))) (longest_in prefixes text)) own ∙ ap (λ o. Some (longer first o)) (none_fits prefixes text (no_other same));
+          text = same;
+          number = (Decides-eqb first.hive hive).0 two.0;
+          root = two.1;
+        }
+    by_root later false t p =
         let others = shown_all (λ q. (begins first.text.items q ≡ false) × (begins q first.text.items ≡ false)) prefixes (apart_first first prefixes apart) hive prefix p in
-        ap (λ b. cond b (Some (first.hive, drop (length first.text.items + 1) (reg_path prefix names))) (place_in prefixes (reg_path prefix names))) (begins_no_other first.text.items prefix names others.0 others.1) ∙ later p names
+        let rest = later p names in
+        record {
+          its = rest.its;
+          longest = ap (λ b. cond b (Some (longer first (longest_in prefixes text))) (longest_in prefixes text)) (begins_no_other first.text.items prefix names others.0 others.1) ∙ rest.longest;
+          text = rest.text;
+          number = rest.number;
+          root = rest.root;
+        }
+
+pub place_shown : (prefixes : List Prefix) → AreApart prefixes → (hive : ℕ) (prefix : List ℕ) → shown_in prefixes hive ≡ Some prefix → (names : List (List ℕ)) → place_in prefixes (reg_path prefix names) ≡ Some (hive, joined names)
+place_shown prefixes apart hive prefix e names =
+    let s = shown_longest prefixes apart hive prefix e names in
+    let its = s.its in
+    let text = reg_path prefix names in
+    let rest = drop (length its.text.items + 1) text in
+    let key = its.key.items in
+    ap (option_map (led_by text)) s.longest ∙ ap (λ test. Some (its.hive, cond test rest (cond (length rest == 0) key (key ++ 92 ∷ rest)))) s.root
+    ∙ ap₂ (λ h r. Some (h, r)) s.number (ap (λ q. drop (length q + 1) text) s.text ∙ drop_prefix prefix names)
 
 -- the names of the path are read back
 no_separator : (name : List ℕ) → is_key_name name ≡ true → All (λ u. (u == 92) ≡ false) name

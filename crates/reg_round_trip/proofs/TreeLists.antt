@@ -17,6 +17,7 @@ use Rattle.reg_round_trip.specs.Contents.{SameContent}
 use Rattle.reg_round_trip.specs.Operations.{creation, value_op, key_ops, tree_ops, trees_ops, new_trees}
 use Rattle.reg_round_trip.specs.NewTrees.{IsCallTree}
 use Rattle.reg_round_trip.proofs.Units.{all_both, all_flat, all_of}
+use Rattle.reg_round_trip.proofs.AddedOps.{AreAdded, added_both, added_legal, new_among}
 use Rattle.reg_round_trip.proofs.ValueSteps.{LegalSteps}
 use Rattle.reg_round_trip.proofs.TreeSteps.{tree_rebuilt}
 
@@ -42,17 +43,15 @@ module _ (front rest : List TreeMap) (moment : ℕ) where
       ap (λ o. applied_if (front ++ tree ∷ rest) o op moment) (ap (slice_get (front ++ tree ∷ rest)) is ∙ get_among front tree rest)
       ∙ ap (λ h. slice_set (front ++ tree ∷ rest) h (changed tree op moment)) is ∙ set_among front tree (changed tree op moment) rest
 
-  legal_among : (tree : TreeMap) (ops : List Op) (new : TreeMap) → AreOf (length front) ops → LegalSteps moment tree ops new → AreLegalChanges (front ++ tree ∷ rest) ops moment
-  legal_among tree [] new all steps = tt
-  legal_among tree (op ∷ ops) new all steps = (legal_is tree op all.0 ∙ steps.0, subst (λ ts. AreLegalChanges ts ops moment) (sym (one_is tree op all.0)) (legal_among (changed tree op moment) ops new all.1 steps.1))
+  added_among : (tree : TreeMap) (ops : List Op) (new : TreeMap) → AreOf (length front) ops → LegalSteps moment tree ops new → AreAdded (front ++ tree ∷ rest) ops moment
+  added_among tree [] new all steps = tt
+  added_among tree (op ∷ ops) new all steps =
+      let found = ap (slice_get (front ++ tree ∷ rest)) all.0 ∙ get_among front tree rest in
+      ((legal_is tree op all.0 ∙ steps.0.0, new_among (front ++ tree ∷ rest) tree op found steps.0.1), subst (λ ts. AreAdded ts ops moment) (sym (one_is tree op all.0)) (added_among (changed tree op moment) ops new all.1 steps.1))
 
   applied_among : (tree : TreeMap) (ops : List Op) (new : TreeMap) → AreOf (length front) ops → LegalSteps moment tree ops new → applied (front ++ tree ∷ rest) ops moment ≡ front ++ new ∷ rest
   applied_among tree [] new all steps = ap (λ t. front ++ t ∷ rest) (sym steps)
   applied_among tree (op ∷ ops) new all steps = ap (λ ts. applied ts ops moment) (one_is tree op all.0) ∙ applied_among (changed tree op moment) ops new all.1 steps.1
-
-pub legal_both : (trees : List TreeMap) (front back : List Op) (moment : ℕ) → AreLegalChanges trees front moment → AreLegalChanges (applied trees front moment) back moment → AreLegalChanges trees (front ++ back) moment
-legal_both trees [] back moment one two = two
-legal_both trees (op ∷ front) back moment one two = (one.0, legal_both (applied_one trees op moment) front back moment one.1 two)
 
 -- the operations of a hive are on it
 creation_of : (hive : ℕ) (names : List (List ℕ)) → AreOf hive (creation hive names)
@@ -75,33 +74,36 @@ tree_of hive tree = keys_of hive (tree_rows tree)
 -- all hives
 pub record AllRebuilt (front trees : List TreeMap) (moment : ℕ) : Type 0 where
   pub news : List TreeMap
-  pub legal : AreLegalChanges (front ++ new_trees trees) (trees_ops (length front) trees) moment
+  pub added : AreAdded (front ++ new_trees trees) (trees_ops (length front) trees) moment
   pub applied_is : applied (front ++ new_trees trees) (trees_ops (length front) trees) moment ≡ front ++ news
   pub same : AllZip SameContent trees news
 
 pub trees_rebuilt : (front trees : List TreeMap) (moment : ℕ) → AllByRecursion IsCallTree trees → AllRebuilt front trees moment
-trees_rebuilt front [] moment all = record { news = []; legal = tt; applied_is = refl; same = tt }
+trees_rebuilt front [] moment all = record { news = []; added = tt; applied_is = refl; same = tt }
 trees_rebuilt front (tree ∷ trees) moment all =
     let hive = length front in
     let one = tree_rebuilt tree hive moment all.0 in
-    let here = legal_among front (new_trees trees) moment fresh_tree (tree_ops hive tree) one.new (tree_of hive tree) one.steps in
+    let here = added_among front (new_trees trees) moment fresh_tree (tree_ops hive tree) one.new (tree_of hive tree) one.steps in
     let after : applied (front ++ fresh_tree ∷ new_trees trees) (tree_ops hive tree) moment ≡ (front ++ one.new ∷ []) ++ new_trees trees =
     applied_among front (new_trees trees) moment fresh_tree (tree_ops hive tree) one.new (tree_of hive tree) one.steps ∙ sym (append_assoc front (one.new ∷ []) (new_trees trees)) in
     let long : length (front ++ one.new ∷ []) ≡ hive + 1 = length-append front (one.new ∷ []) in
     let others = trees_rebuilt (front ++ one.new ∷ []) trees moment all.1 in
-    let later : AreLegalChanges (applied (front ++ fresh_tree ∷ new_trees trees) (tree_ops hive tree) moment) (trees_ops (hive + 1) trees) moment =
-    subst (λ ts. AreLegalChanges ts (trees_ops (hive + 1) trees) moment) (sym after) (subst (λ h. AreLegalChanges ((front ++ one.new ∷ []) ++ new_trees trees) (trees_ops h trees) moment) long others.legal) in
+    let later : AreAdded (applied (front ++ fresh_tree ∷ new_trees trees) (tree_ops hive tree) moment) (trees_ops (hive + 1) trees) moment =
+    subst (λ ts. AreAdded ts (trees_ops (hive + 1) trees) moment) (sym after) (subst (λ h. AreAdded ((front ++ one.new ∷ []) ++ new_trees trees) (trees_ops h trees) moment) long others.added) in
     record {
       news = one.new ∷ others.news;
-      legal = legal_both (front ++ fresh_tree ∷ new_trees trees) (tree_ops hive tree) (trees_ops (hive + 1) trees) moment here later;
+      added = added_both (front ++ fresh_tree ∷ new_trees trees) (tree_ops hive tree) (trees_ops (hive + 1) trees) moment here later;
       applied_is =
           one_by_one (front ++ fresh_tree ∷ new_trees trees) (tree_ops hive tree) (trees_ops (hive + 1) trees) moment ∙ ap (λ ts. applied ts (trees_ops (hive + 1) trees) moment) after
           ∙ ap (λ h. applied ((front ++ one.new ∷ []) ++ new_trees trees) (trees_ops h trees) moment) (sym long) ∙ others.applied_is ∙ append_assoc front (one.new ∷ []) others.news;
       same = (one.same, others.same);
     }
 
+pub all_added : (trees : List TreeMap) (moment : ℕ) → AllByRecursion IsCallTree trees → AreAdded (new_trees trees) (trees_ops 0 trees) moment
+all_added trees moment all = let made = trees_rebuilt [] trees moment all in made.added
+
 pub all_legal : (trees : List TreeMap) (moment : ℕ) → AllByRecursion IsCallTree trees → AreLegalChanges (new_trees trees) (trees_ops 0 trees) moment
-all_legal trees moment all = let made = trees_rebuilt [] trees moment all in made.legal
+all_legal trees moment all = added_legal (new_trees trees) (trees_ops 0 trees) moment (all_added trees moment all)
 
 pub all_same : (trees : List TreeMap) (moment : ℕ) → AllByRecursion IsCallTree trees → AllZip SameContent trees (applied (new_trees trees) (trees_ops 0 trees) moment)
 all_same trees moment all = let made = trees_rebuilt [] trees moment all in subst (AllZip SameContent trees) (sym made.applied_is) made.same

@@ -34,7 +34,7 @@ use Rattle.reg_round_trip.proofs.Spelled.{root_or_below, spelled_more, folded_sp
 use Rattle.reg_round_trip.proofs.MadeTrees.{Wanted, IsMade, IsBuilt, content, by_rest, wanted, fresh_built}
 use Rattle.reg_round_trip.proofs.MadeWeights.{values_weight, fewer_values, IsPart, IsBounded, built_weight}
 use Rattle.reg_round_trip.proofs.KeySteps.{updated, create_judged, create_built}
-use Rattle.reg_round_trip.proofs.ValueSteps.{LegalSteps, steps_both, light_is_legal, set_built, set_legal, HasOthers, has_none, has_all, no_more, written_has}
+use Rattle.reg_round_trip.proofs.ValueSteps.{LegalSteps, steps_both, light_is_legal, set_built, set_legal, set_new, HasOthers, has_none, has_all, no_more, was_none, written_has}
 
 -- the same is wanted
 pub same_want : (tree : TreeMap) (want other : Wanted) → ((path : List (List ℕ)) → want path ≡ other path) → IsBuilt tree want → IsBuilt tree other
@@ -90,8 +90,10 @@ module _ (whole : TreeMap) (light : made_tree_weight whole ≤ MOST_WEIGHT) (hiv
         let next_built : IsBuilt next (updated want path (key.name, written)) = same_want next (updated (updated want path (key.name, some)) path (key.name, written)) (updated want path (key.name, written)) twice made in
         let still = bounded_updated whole (updated want path (key.name, some)) path key written (bounded_updated whole want path key some bounded there (no_more key.values some (entry ∷ rest) h)) there (no_more key.values written rest further) in
         let legal = set_legal tree (updated want path (key.name, some)) b hive spelled path is_path key.name some here value.name value.kind value.«data» facts.few whole still light in
+        let none = ap (finite.get some) facts.filed ∙ was_none key.values some entry.0 value rest h facts.its facts.filed apart in
+        let new = set_new tree (updated want path (key.name, some)) b hive spelled path is_path key.name some here value.name value.kind value.«data» facts.few none in
         let others = values_written rest later all.1 next written next_built further in
-        (others.0, (legal, others.1), others.2)
+        (others.0, ((legal, new), others.1), others.2)
 
     pub key_written : (tree : TreeMap) → IsBuilt tree (updated want path (key.name, finite.empty)) → AllByRecursion (IsToWrite key.values) (finite.entries key.values) → Makes moment tree (map (value_op hive spelled) (finite.values key.values)) (updated want path (key.name, key.values))
     key_written tree b all = values_written (finite.entries key.values) (entries_sorted key.values) all tree finite.empty b (has_none key.values)
@@ -189,7 +191,7 @@ module _ (whole : TreeMap) (light : made_tree_weight whole ≤ MOST_WEIGHT) (hiv
         let less = built_weight (changed tree op 0) whole (updated want path (key.name, finite.empty)) (next_built 0) still in
         let legal : legal_in tree op ≡ Ok Legal = ap (λ j. legal_after op j (weight (changed tree op 0))) judged_is ∙ light_is_legal (weight (changed tree op 0)) (omega (arith, less, light)) in
         let made = key_written spelled path whole_is key there want bounded (changed tree op moment) (next_built moment) (values_are path key there) in
-        let first : LegalSteps moment tree (creation hive spelled) (changed tree op moment) = subst (λ ops. LegalSteps moment tree ops (changed tree op moment)) (sym (creation_is sp key.name)) (legal, refl) in
+        let first : LegalSteps moment tree (creation hive spelled) (changed tree op moment) = subst (λ ops. LegalSteps moment tree ops (changed tree op moment)) (sym (creation_is sp key.name)) ((legal, tt), refl) in
         let steps = steps_both moment tree (changed tree op moment) made.0 (creation hive spelled) (map (value_op hive spelled) (finite.values key.values)) first made.1 in (
           made.0,
           subst (λ ns. LegalSteps moment tree (creation hive ns ++ map (value_op hive ns) (finite.values key.values)) made.0) (sym names) steps,

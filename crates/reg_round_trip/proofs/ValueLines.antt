@@ -1,4 +1,4 @@
--- The lines of a value are a value by the grammar, have the units of its name and printable ones, and are not too many.
+-- The lines of a value are a value by the grammar, are texts if its name is one, and are not too many.
 use Rattle.std.proofs.Common.{◌≡◌, ℕ, zero, suc, ◌+◌, ◌*◌, ◌-◌, ◌<◌, ◌≤◌, ◌^◌, true, false, cond, ◌&&◌, ◌||◌, List, [], ◌∷◌, ◌++◌, length, take, refl, ◌∙◌, ap, inl, inr, arith, append_assoc, append-nil, codes}
 use Rattle.std.specs.Prelude.{◌==◌}
 use Rattle.std.specs.List.{AllByRecursion, flat_map}
@@ -8,16 +8,16 @@ use Rattle.std.proofs.lemmas.List.{length-append}
 use Rattle.std.proofs.lemmas.Bool.Decides.{Decides-eqb}
 use Rattle.refusals.specs.declared.limits.TheConstants.{MOST_ELEMENT_BYTES, MOST_VALUE_BYTES}
 use Rattle.hex.specs.Hex.{encode_lower}
-use Rattle.reg_names.specs.Printable.{is_printable}
 use Rattle.reg_tree_parts.specs.declared.value.Value.{Value}
 use Rattle.reg_export.specs.ByteUnits.{units_of, front_units, is_plain_text}
 use Rattle.reg_export.specs.RegTexts.{escaped_unit, quoted, value_name_text, next_column, next_byte, at_columns, list_label, number_text, value_head}
 use Rattle.reg_file.specs.Grammar as grammar
 use Rattle.reg_file.specs.Grammar.{HasNoZero, IsHead, IsText, IsNumber, AreBytes, IsList, IsType, IsTextData, IsNumberData, IsListData, IsListValue, IsPlainValue, IsValue}
 use Rattle.reg_round_trip.specs.Exports.{IsValueOfLimits}
-use Rattle.reg_round_trip.proofs.Units.{all_both, all_then, all_flat, both_true, by_test, not_true}
+use Rattle.reg_round_trip.proofs.Units.{all_then, both_true, by_test, not_true}
+use Rattle.reg_round_trip.proofs.TextFacts.{AreTexts}
 use Rattle.reg_round_trip.proofs.HexText.{kind_digits, eight_digits, be_bytes, bytes_printable, pair_length, eight_long}
-use Rattle.reg_round_trip.proofs.TextLines.{returned_lines, return_ends, units_of_text}
+use Rattle.reg_round_trip.proofs.TextLines.{returned_lines, return_tail, units_of_text}
 use Rattle.reg_round_trip.proofs.DataLines.{line_rest, further_lines, read_bytes, rest_printable, further_printable, bytes_length}
 use Rattle.reg_round_trip.proofs.Values.{Printable, list_lines, value_lines, list_lines_text, head_read, type_read, IsPlain, plain_read, no_zero, IsNumberOf, number_read}
 
@@ -29,7 +29,7 @@ text_value name kind bytes h k p =
     let rest : List ℕ = 34 ∷ (quotes ++ 34 ∷ 13 ∷ []) in
     let shape : (value_head name ++ quoted text) ++ 13 ∷ [] ≡ value_head name ++ rest =
     append_assoc (value_head name) (quoted text) (13 ∷ []) ∙ ap (λ xs. value_head name ++ 34 ∷ xs) (append_assoc quotes (34 ∷ []) (13 ∷ [])) in
-    inl (value_head name ++ rest, rest, [], ap (λ l. l ∷ []) shape, head_read name rest h, inl (quotes ++ 34 ∷ 13 ∷ [], text, refl, (13 ∷ [], refl, no_zero text p.units, return_ends), k, p.same))
+    inl (value_head name ++ rest, rest, [], ap (λ l. l ∷ []) shape, head_read name rest h, inl (quotes ++ 34 ∷ 13 ∷ [], text, refl, (13 ∷ [], refl, no_zero text p.units, return_tail), k, p.same))
 
 number_value : (name : List ℕ) (kind : ℕ) (bytes : List ℕ) → HasNoZero name → kind ≡ 4 → IsNumberOf bytes (from_le_bytes w32 bytes) → IsValue false (returned_lines ((value_head name ++ number_text (from_le_bytes w32 bytes)) ∷ [])) name kind bytes
 number_value name kind bytes h k p =
@@ -37,14 +37,14 @@ number_value name kind bytes h k p =
     let digits = encode_lower (to_be_bytes w32 number) in
     let rest : List ℕ = codes "dword:" ++ (digits ++ 13 ∷ []) in
     let shape : (value_head name ++ number_text number) ++ 13 ∷ [] ≡ value_head name ++ rest = append_assoc (value_head name) (number_text number) (13 ∷ []) in
-    inl (value_head name ++ rest, rest, [], ap (λ l. l ∷ []) shape, head_read name rest h, inr (digits, number, 13 ∷ [], refl, refl, eight_digits number p.small, return_ends, k, p.same))
+    inl (value_head name ++ rest, rest, [], ap (λ l. l ∷ []) shape, head_read name rest h, inr (digits, number, 13 ∷ [], refl, refl, eight_digits number p.small, return_tail, k, p.same))
 
 list_value : (name : List ℕ) (kind : ℕ) (bytes : List ℕ) → HasNoZero name → kind < 2 ^ 32 → AllByRecursion (λ b. b < 256) bytes → IsValue false (returned_lines (list_lines (value_head name) kind bytes)) name kind bytes
 list_value name kind [] h k all =
     let label = list_label kind in
     let rest = label ++ 13 ∷ [] in
     let shape : (value_head name ++ (label ++ [])) ++ 13 ∷ [] ≡ value_head name ++ rest = append_assoc (value_head name) (label ++ []) (13 ∷ []) ∙ ap (λ xs. value_head name ++ (xs ++ 13 ∷ [])) (append-nil label) in
-    inr ((value_head name ++ rest, rest, [], ap (λ l. l ∷ []) shape, head_read name rest h, (label, 13 ∷ [], refl, type_read kind k, inl (13 ∷ [], refl, return_ends, refl))), λ old. absurd (not_true old))
+    inr ([], (value_head name ++ rest, rest, [], ap (λ l. l ∷ []) shape, head_read name rest h, (label, 13 ∷ [], refl, type_read kind k, inl (13 ∷ [], refl, return_tail, refl))), refl)
 list_value name kind (byte ∷ bytes) h k all =
     let label = list_label kind in
     let column = next_column (length (value_head name) + length label) in
@@ -52,7 +52,7 @@ list_value name kind (byte ∷ bytes) h k all =
     let more = returned_lines (further_lines column bytes) in
     let rest = label ++ (digits ++ 13 ∷ []) in
     let shape : (value_head name ++ (label ++ digits)) ++ 13 ∷ [] ≡ value_head name ++ rest = append_assoc (value_head name) (label ++ digits) (13 ∷ []) ∙ ap (λ xs. value_head name ++ xs) (append_assoc label digits (13 ∷ [])) in
-    inr ((value_head name ++ rest, rest, more, ap (λ l. l ∷ more) shape, head_read name rest h, (label, digits ++ 13 ∷ [], refl, type_read kind k, inr (read_bytes column byte bytes all.0 all.1 [] tt))), λ old. absurd (not_true old))
+    inr (byte ∷ bytes, (value_head name ++ rest, rest, more, ap (λ l. l ∷ more) shape, head_read name rest h, (label, digits ++ 13 ∷ [], refl, type_read kind k, inr (read_bytes column byte bytes all.0 all.1 [] tt))), refl)
 
 pub value_read : (value : Value) → IsValueOfLimits value → HasNoZero value.name → IsValue false (returned_lines (value_lines value)) value.name value.kind value.«data»
 value_read value v h =
@@ -67,48 +67,43 @@ value_read value v h =
     (λ is_number. let two = both_true (kind == 4) (length bytes == 4) is_number in number_value name kind bytes h ((Decides-eqb kind 4).0 two.0) (number_read bytes v.bytes ((Decides-eqb (length bytes) 4).0 two.1)))
     (λ other. list_value name kind bytes h v.kind v.bytes))
 
--- their units
-module _ (P : ℕ → Type 0) (prints : (u : ℕ) → is_printable u ≡ true → P u) where
-  pub printed : (units : List ℕ) → Printable units → AllByRecursion P units
-  printed units all = all_then (λ u. is_printable u ≡ true) P prints units all
+-- what holds of their texts
+module _ (G : List ℕ → Type 0) (t : AreTexts G) where
+  quoted_text : (text : List ℕ) → G text → G (quoted text)
+  quoted_text text g = t.both (34 ∷ []) (flat_map escaped_unit text ++ 34 ∷ []) (t.prints (34 ∷ []) (refl, tt)) (t.both (flat_map escaped_unit text) (34 ∷ []) (t.escaped text g) (t.prints (34 ∷ []) (refl, tt)))
 
-  escaped : (u : ℕ) → P u → AllByRecursion P (escaped_unit u)
-  escaped u h = by_test (AllByRecursion P) (u == 34 || u == 92) (92 ∷ u ∷ []) (u ∷ []) (λ e. (prints 92 refl, (h, tt))) (λ e. (h, tt))
+  head_text : (name : List ℕ) → G name → G (value_head name)
+  head_text name g =
+      t.both (value_name_text name) (61 ∷ []) (by_test G (length name == 0) (64 ∷ []) (quoted name) (λ e. t.prints (64 ∷ []) (refl, tt)) (λ e. quoted_text name g)) (t.prints (61 ∷ []) (refl, tt))
 
-  quoted_units : (text : List ℕ) → AllByRecursion P text → AllByRecursion P (quoted text)
-  quoted_units text all = (prints 34 refl, all_both P (flat_map escaped_unit text) (34 ∷ []) (all_flat P P escaped_unit escaped text all) (prints 34 refl, tt))
+  label_text : (kind : ℕ) → kind < 2 ^ 32 → G (list_label kind)
+  label_text kind h = by_test G (kind == 3) (codes "hex:") (codes "hex(" ++ digits 16 false kind ++ codes "):")
+      (λ e. t.prints (codes "hex:") (refl, (refl, (refl, (refl, tt)))))
+      (λ e. t.both (codes "hex(" ++ digits 16 false kind) (codes "):") (t.both (codes "hex(") (digits 16 false kind) (t.prints (codes "hex(") (refl, (refl, (refl, (refl, tt))))) (t.prints (digits 16 false kind) (kind_digits kind h).1)) (t.prints (codes "):") (refl, (refl, tt))))
 
-  head_units : (name : List ℕ) → AllByRecursion P name → AllByRecursion P (value_head name)
-  head_units name all =
-      all_both P (value_name_text name) (61 ∷ []) (by_test (AllByRecursion P) (length name == 0) (64 ∷ []) (quoted name) (λ e. (prints 64 refl, tt)) (λ e. quoted_units name all)) (prints 61 refl, tt)
-
-  label_units : (kind : ℕ) → kind < 2 ^ 32 → AllByRecursion P (list_label kind)
-  label_units kind h = by_test (AllByRecursion P) (kind == 3) (codes "hex:") (codes "hex(" ++ digits 16 false kind ++ codes "):")
-      (λ e. printed (codes "hex:") (refl, (refl, (refl, (refl, tt)))))
-      (λ e. all_both P (codes "hex(" ++ digits 16 false kind) (codes "):") (all_both P (codes "hex(") (digits 16 false kind) (printed (codes "hex(") (refl, (refl, (refl, (refl, tt))))) (printed (digits 16 false kind) (kind_digits kind h).1)) (prints 41 refl, (prints 58 refl, tt)))
-
-  list_units : (head : List ℕ) (kind : ℕ) (bytes : List ℕ) → AllByRecursion P head → kind < 2 ^ 32 → AllByRecursion (λ b. b < 256) bytes → AllByRecursion (AllByRecursion P) (list_lines head kind bytes)
-  list_units head kind [] h k all = (all_both P head (list_label kind ++ []) h (all_both P (list_label kind) [] (label_units kind k) tt), tt)
-  list_units head kind (byte ∷ bytes) h k all =
+  list_texts : (head : List ℕ) (kind : ℕ) (bytes : List ℕ) → G head → kind < 2 ^ 32 → AllByRecursion (λ b. b < 256) bytes → AllByRecursion G (list_lines head kind bytes)
+  list_texts head kind [] h k all = (t.both head (list_label kind ++ []) h (t.both (list_label kind) [] (label_text kind k) (t.prints [] tt)), tt)
+  list_texts head kind (byte ∷ bytes) h k all =
       let column = next_column (length head + length (list_label kind)) in
       let digits = encode_lower (byte ∷ []) in
       let rest = line_rest column bytes in (
-        all_both P head (list_label kind ++ (digits ++ rest)) h (all_both P (list_label kind) (digits ++ rest) (label_units kind k) (all_both P digits rest (printed digits (bytes_printable (byte ∷ []) (all.0, tt))) (printed rest (rest_printable column bytes all.1)))),
-        all_then Printable (AllByRecursion P) printed (further_lines column bytes) (further_printable column bytes all.1),
+        t.both head (list_label kind ++ (digits ++ rest)) h (t.both (list_label kind) (digits ++ rest) (label_text kind k) (t.both digits rest (t.prints digits (bytes_printable (byte ∷ []) (all.0, tt))) (t.prints rest (rest_printable column bytes all.1)))),
+        all_then Printable G t.prints (further_lines column bytes) (further_printable column bytes all.1),
       )
 
-  pub value_units : (value : Value) → IsValueOfLimits value → AllByRecursion P value.name → AllByRecursion (AllByRecursion P) (value_lines value)
-  value_units value v h =
+  pub value_texts : (value : Value) → IsValueOfLimits value → G value.name → AllByRecursion G (value_lines value)
+  value_texts value v h =
       let kind = value.kind in
       let bytes = value.«data» in
       let head = value_head value.name in
       let text = units_of (front_units bytes) in
       let number = number_text (from_le_bytes w32 bytes) in
-      by_test (AllByRecursion (AllByRecursion P)) (kind == 1 && is_plain_text bytes) ((head ++ quoted text) ∷ []) (cond (kind == 4 && length bytes == 4) ((head ++ number) ∷ []) (list_lines head kind bytes))
-      (λ is_text. let two = both_true (kind == 1) (is_plain_text bytes) is_text in let p = plain_read bytes v.bytes two.1 in (all_both P head (quoted text) (head_units value.name h) (quoted_units text (printed text p.units)), tt))
-      (λ no_text. by_test (AllByRecursion (AllByRecursion P)) (kind == 4 && length bytes == 4) ((head ++ number) ∷ []) (list_lines head kind bytes)
-      (λ is_number. (all_both P head number (head_units value.name h) (all_both P (codes "dword:") (encode_lower (to_be_bytes w32 (from_le_bytes w32 bytes))) (printed (codes "dword:") (refl, (refl, (refl, (refl, (refl, (refl, tt))))))) (printed _ (bytes_printable _ (be_bytes (from_le_bytes w32 bytes))))), tt))
-      (λ other. list_units head kind bytes (head_units value.name h) v.kind v.bytes))
+      by_test (AllByRecursion G) (kind == 1 && is_plain_text bytes) ((head ++ quoted text) ∷ []) (cond (kind == 4 && length bytes == 4) ((head ++ number) ∷ []) (list_lines head kind bytes))
+      (λ is_text. let two = both_true (kind == 1) (is_plain_text bytes) is_text in let p = plain_read bytes v.bytes two.1 in (t.both head (quoted text) (head_text value.name h) (quoted_text text (t.prints text p.units)), tt))
+      (λ no_text. by_test (AllByRecursion G) (kind == 4 && length bytes == 4) ((head ++ number) ∷ []) (list_lines head kind bytes)
+      (λ is_number.
+      (t.both head number (head_text value.name h) (t.both (codes "dword:") (encode_lower (to_be_bytes w32 (from_le_bytes w32 bytes))) (t.prints (codes "dword:") (refl, (refl, (refl, (refl, (refl, (refl, tt))))))) (t.prints _ (bytes_printable _ (be_bytes (from_le_bytes w32 bytes))))), tt))
+      (λ other. list_texts head kind bytes (head_text value.name h) v.kind v.bytes))
 
 -- how many there are
 escaped_length : (text : List ℕ) → length (flat_map escaped_unit text) ≤ 2 * length text

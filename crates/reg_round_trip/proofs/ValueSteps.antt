@@ -1,7 +1,7 @@
 -- The values of a key, written one after another.
 use Rattle.std.proofs.Common.{◌≡◌, ℕ, ◌≤◌, Bool, true, false, cond, T, List, [], ◌∷◌, ◌++◌, length, Option, Some, None, Ok, Err, IsSome, refl, sym, ◌∙◌, ap, subst, arith}
 use Rattle.std.specs.Prelude.{nat_lt}
-use Rattle.std.specs.Option.{option_map}
+use Rattle.std.specs.Option.{option_map, option_and_then}
 use Rattle.std.specs.Ordering.{eq_by_cmp}
 use Rattle.std.specs.FinMap as finite
 use Rattle.std.specs.FinMap.{get-insert, same_map, get-empty, get-entries}
@@ -18,6 +18,7 @@ use Rattle.reg_tree_parts.specs.ValueEdits.{values_with, spelled_name}
 use Rattle.reg_tree_parts.proofs.Keys.{names_total, names_apart}
 use Rattle.reg_tree_parts.proofs.Finds.{equal_of}
 use Rattle.reg_tree.specs.Maps.{TreeMap, row, weight}
+use Rattle.reg_tree.specs.Reads.{value_at}
 use Rattle.reg_tree.specs.Operations.{touched, row_edited, tree_after}
 use Rattle.reg_tree.specs.Judgement.{judged, judged_there, changed, changed_if, legal_in, legal_after, weighed}
 use Rattle.reg_tree.specs.declared.op.Op.{Op}
@@ -28,16 +29,17 @@ use Rattle.reg_tree.proofs.Sums.{of_option}
 use Rattle.reg_tree.proofs.TreesAfter.{row-tree_after}
 use Rattle.reg_tree.proofs.TreesStay.{changed_stays}
 use Rattle.reg_round_trip.specs.NewTrees.{made_tree_weight}
+use Rattle.reg_round_trip.proofs.AddedOps.{WritesNew}
 use Rattle.reg_round_trip.proofs.Units.{none_some}
 use Rattle.reg_round_trip.proofs.SortedKeys.{none_at}
 use Rattle.reg_round_trip.proofs.MadeTrees.{Wanted, IsMade, IsBuilt}
 use Rattle.reg_round_trip.proofs.MadeWeights.{values_weight, fewer_values, IsBounded, built_weight}
 use Rattle.reg_round_trip.proofs.KeySteps.{updated}
 
--- operations on one tree, each of which is legal and changes it
+-- operations on one tree, each of which is legal, changes it, and writes no value that is there
 abbrev pub LegalSteps : ℕ → TreeMap → List Op → TreeMap → Type 0
 LegalSteps moment tree [] new = new ≡ tree
-LegalSteps moment tree (op ∷ ops) new = (legal_in tree op ≡ Ok Legal) × LegalSteps moment (changed tree op moment) ops new
+LegalSteps moment tree (op ∷ ops) new = ((legal_in tree op ≡ Ok Legal) × WritesNew tree op) × LegalSteps moment (changed tree op moment) ops new
 
 pub steps_both : (moment : ℕ) (tree mid new : TreeMap) (front back : List Op) → LegalSteps moment tree front mid → LegalSteps moment mid back new → LegalSteps moment tree (front ++ back) new
 steps_both moment tree mid new [] back one two = subst (λ t. LegalSteps moment t back new) one two
@@ -84,6 +86,14 @@ module _ (tree : TreeMap) (want : Wanted) (built : IsBuilt tree want) (hive : �
       by_path true t = edited_made moment at (row tree at) (subst (IsMade at (row tree at)) (ap want (eq_is at path t) ∙ here) (built.made at))
       by_path false t = built.made at
 
+  -- it isn't there if the values that the key is to have lack it
+  pub set_new : finite.get values (folded name) ≡ None → WritesNew tree (SetValue hive spelled name kind bytes)
+  set_new none = ap (λ p. value_at tree p name) is_path ∙ by_row (row tree path) (subst (IsMade path (row tree path)) here (built.made path))
+    where
+      by_row : (o : Option Row) → IsMade path o (Some (key_name, values)) → option_and_then (λ key. finite.get key.values (folded name)) o ≡ None
+      by_row None m = absurd m
+      by_row (Some key) m = ap (λ v. finite.get v (folded name)) m.values ∙ none
+
   pub set_built : (moment : ℕ) → IsBuilt (changed tree (SetValue hive spelled name kind bytes) moment) (updated want path (key_name, values_with values name kind bytes))
   set_built moment = record {
     is_tree = changed_stays tree built.is_tree (SetValue hive spelled name kind bytes) moment;
@@ -126,7 +136,7 @@ module _ (whole some : ValueMap) (name : List ℕ) (value : Value) (rest : List 
   self : (n : List ℕ) → eq_by_cmp name_order n n ≡ true
   self n = name_self n
 
-  was_none : finite.get some name ≡ None
+  pub was_none : finite.get some name ≡ None
   was_none = others name ∙ ap (λ t. got (cond t (Some value) (find name_order name rest)) (finite.get whole name)) (self name)
 
   written_is : values_with some value.name value.kind value.«data» ≡ finite.insert some name value

@@ -1,13 +1,14 @@
 //! Laws of exports that are read again. They have no code: each is the contract of a function.
 ghost use Rattle.std.specs.Prelude.{◌≡◌, ◌≢◌, ◌==◌, [], ◌∷◌, ◌≤◌, ℕ, List, length, Option, true, Some, Ok};
-ghost use Rattle.std.specs.List.{AllByRecursion, AllZip, list_all, slice_split};
+ghost use Rattle.std.specs.List.{AllByRecursion, AllZip, slice_split};
 ghost use Rattle.refusals.specs.declared.limits.TheConstants.{MOST_PATH_NAMES};
 ghost use Rattle.reg_names.specs.Names.{is_key_name, path_of};
 ghost use Rattle.reg_names.specs.Printable.{is_printable};
 ghost use Rattle.reg_prefixes.specs.declared.prefix.Prefix.{Prefix};
 ghost use Rattle.reg_prefixes.specs.Places.{place_in, shown_in};
 ghost use Rattle.reg_export.specs.RegTexts.{reg_path};
-ghost use Rattle.reg_export.specs.NameTests.{fits_line};
+ghost use Rattle.reg_export.specs.declared.encoding.Encoding.{Encoding};
+ghost use Rattle.reg_export.specs.NameTests.{can_show};
 ghost use Rattle.reg_export.specs.RegFiles.{file_names, reg_text};
 ghost use Rattle.reg_tree.specs.Maps.{TreeMap};
 ghost use Rattle.reg_tree.specs.Judgement.{applied};
@@ -27,12 +28,13 @@ ghost use Rattle.reg_round_trip.specs.Restores.{Restores, EndsGood, HasPartIn};
 ghost use Rattle.reg_round_trip.specs.Parts.{part_ops};
 ghost use Rattle.reg_round_trip.specs.Conditions.{CanRestore, CanRestorePart};
 
-/// The bytes of an export are read as its statements, and without a fault: for each key in order its creation, and then
-/// for each of its values that it is written. It is so of hives within the limits of `specs/Exports`, if all names fit
-/// lines: else no export is written.
+/// The bytes of an export, in UTF-16 or in UTF-8, are read as its statements, and without a fault: for each key in order
+/// its creation, and then for each of its values that it is written. It is so of hives within the limits of
+/// `specs/Exports`, if a file in this encoding can show all names: else no export is written.
 pub fn exports_are_read()
-    ensures { (hives : List (List ℕ × List NamedRow)) → AllByRecursion IsHiveOfLimits hives →
-        list_all fits_line (file_names hives) ≡ true → AreReadAs (reg_text hives) (export_statements hives) }
+    ensures { (encoding : Encoding) (hives : List (List ℕ × List NamedRow)) →
+        AllByRecursion IsHiveOfLimits hives → can_show encoding (file_names hives) ≡ true →
+        AreReadAs (reg_text encoding hives) (export_statements hives) }
 {
     reg_file::laws::files_are_parsed();
     reg_file::laws::text_is_read();
@@ -63,26 +65,27 @@ pub fn operations_rebuild_trees()
         AllZip SameContent trees (applied (new_trees trees) (trees_ops 0 trees) moment) }
 {}
 
-/// Trees of the same content have the same export, by the same prefixes.
+/// Trees of the same content have the same export, by the same prefixes in the same encoding.
 pub fn same_content_same_export()
-    ensures { (prefixes : List Prefix) (trees others : List TreeMap) → AllZip SameContent trees others →
-        reg_text (exported prefixes trees) ≡ reg_text (exported prefixes others) }
+    ensures { (encoding : Encoding) (prefixes : List Prefix) (trees others : List TreeMap) →
+        AllZip SameContent trees others →
+        reg_text encoding (exported prefixes trees) ≡ reg_text encoding (exported prefixes others) }
 {}
 
-/// The export of trees, applied to a store with as many new hives, if `specs/Conditions` holds:
+/// The export of trees, in UTF-16 or in UTF-8, applied to a store with as many new hives, if `specs/Conditions` holds:
 ///
 /// - `restores`: the export is read without a fault, and its statements are taken into one plan and no other. The plan has
 ///   the operations of the trees' keys and values, and then trees of the same content.
 /// - `ended`: once the export was applied, the store's trees have the same content. No line of it is refused, but for want
 ///   of memory.
 pub fn exports_restore_trees()
-    ensures restores { (prefixes : List Prefix) (trees : List TreeMap) (moment : ℕ) (old : Machine) →
+    ensures restores { (encoding : Encoding) (prefixes : List Prefix) (trees : List TreeMap) (moment : ℕ) (old : Machine) →
         CanRestore prefixes trees old →
-        Restores prefixes moment (reg_text (exported prefixes trees)) old (trees_ops 0 trees)
+        Restores prefixes moment (reg_text encoding (exported prefixes trees)) old (trees_ops 0 trees)
         (AllZip SameContent trees) }
-    ensures ended { (prefixes : List Prefix) (trees : List TreeMap) (moment : ℕ)
+    ensures ended { (encoding : Encoding) (prefixes : List Prefix) (trees : List TreeMap) (moment : ℕ)
         (unit : Option (List ℕ)) (old new : Machine) (outcome : Outcome) → CanRestore prefixes trees old →
-        Ends prefixes moment unit (reg_file_of (reg_text (exported prefixes trees))) old outcome new →
+        Ends prefixes moment unit (reg_file_of (reg_text encoding (exported prefixes trees))) old outcome new →
         EndsGood (AllZip SameContent trees) outcome new }
 {
     reg_file::laws::files_are_parsed();
@@ -93,13 +96,13 @@ pub fn exports_restore_trees()
 /// holds. It is as in [`exports_restore_trees`], but the hive gets the content of this part: its keys and values, and the
 /// keys on the way to it without values. The other hives stay.
 pub fn part_exports_restore_parts()
-    ensures restores { (prefixes : List Prefix) (hive : ℕ) (tree : TreeMap) (top : List (List ℕ))
+    ensures restores { (encoding : Encoding) (prefixes : List Prefix) (hive : ℕ) (tree : TreeMap) (top : List (List ℕ))
         (moment : ℕ) (old : Machine) → CanRestorePart prefixes hive tree top old →
-        Restores prefixes moment (reg_text (exported_part prefixes hive tree top)) old (part_ops hive tree top)
+        Restores prefixes moment (reg_text encoding (exported_part prefixes hive tree top)) old (part_ops hive tree top)
         (HasPartIn tree top hive (named_trees old)) }
-    ensures ended { (prefixes : List Prefix) (hive : ℕ) (tree : TreeMap) (top : List (List ℕ))
+    ensures ended { (encoding : Encoding) (prefixes : List Prefix) (hive : ℕ) (tree : TreeMap) (top : List (List ℕ))
         (moment : ℕ) (unit : Option (List ℕ)) (old new : Machine) (outcome : Outcome) → CanRestorePart prefixes hive tree top old →
-        Ends prefixes moment unit (reg_file_of (reg_text (exported_part prefixes hive tree top))) old outcome new →
+        Ends prefixes moment unit (reg_file_of (reg_text encoding (exported_part prefixes hive tree top))) old outcome new →
         EndsGood (HasPartIn tree top hive (named_trees old)) outcome new }
 {
     reg_file::laws::files_are_parsed();
