@@ -1,5 +1,5 @@
 -- Whether a repair is left, by a stage and by a count.
-use Rattle.std.proofs.Common.{◌≡◌, ◌≢◌, ℕ, Bool, true, false, refl, arith}
+use Rattle.std.proofs.Common.{◌≡◌, ◌≢◌, Bool, true, false, refl, arith}
 use Rattle.dirty_vector.specs.Pages.{Pages}
 use Rattle.hive_writer.specs.WriterSteps.{IsFlushing}
 use Rattle.hive_writer.specs.declared.stage.FlushStage.{FlushStage}

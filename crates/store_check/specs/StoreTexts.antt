@@ -1,5 +1,5 @@
 -- The text of what is found of a store.
-use Rattle.std.specs.Prelude.{ℕ, ◌+◌, ◌==◌, nat_lt, if◌then◌else◌, List, [], ◌∷◌, ◌++◌, codes}
+use Rattle.std.specs.Prelude.{ℕ, ◌+◌, ◌==◌, nat_lt, if◌then◌else◌, List, [], ◌∷◌, ◌++◌, Option, Some, None, codes}
 use Rattle.std.specs.Fmt.{decimal}
 use Rattle.uuid.specs.Text.{hyphenated_text, lower}
 use Rattle.refusals.specs.Refusals.{refusal_text}
@@ -18,11 +18,25 @@ use Rattle.store_check.specs.Advice.{advice}
 
 -- what a hive's files lack
 abbrev pub lacks_text : ℕ → List ℕ
-lacks_text count = if count == 0 then codes ", has all changes\n" else codes ", lacks " ++ decimal count ++ codes " changes; the next run moves them in\n"
+lacks_text count =
+    if count == 0 then codes ", has all changes\n"
+    else if count == 1 then codes ", lacks 1 change; the next run moves it in\n"
+    else codes ", lacks " ++ decimal count ++ codes " changes; the next run moves them in\n"
 
--- how many pages of its file are to be repaired by its log, if some are
-abbrev pub repair_text : ℕ → List ℕ
-repair_text pages = if pages == 0 then [] else codes ", half written in " ++ decimal pages ++ codes " pages"
+-- how many pages of a half written file its log repairs; there may be none beside the first sector
+abbrev pub pages_text : ℕ → List ℕ
+pages_text pages =
+    if pages == 0 then []
+    else if pages == 1 then codes " in 1 page"
+    else codes " in " ++ decimal pages ++ codes " pages"
+
+abbrev pub half_written_text : ℕ → List ℕ
+half_written_text pages = codes ", half written" ++ pages_text pages
+
+-- whether its file is half written, and how many pages of it are to be repaired
+abbrev pub repair_text : Option ℕ → List ℕ
+repair_text None = []
+repair_text (Some pages) = half_written_text pages
 
 -- a hive by its number, if calls name it; else it is that of outcomes
 abbrev pub hive_text : ℕ → ℕ → List ℕ
@@ -32,18 +46,18 @@ hive_text named hive = if nat_lt hive named then codes "hive " ++ decimal hive e
 abbrev pub applied_text : ℕ → ℕ → ℕ → List ℕ
 applied_text named hive applied = hive_text named hive ++ (codes ": applied " ++ decimal applied)
 
--- how many pages a repair of a hive's file writes: none if no repair is left
-abbrev pub pages_to_repair : HiveFile → ℕ
-pages_to_repair file = if repairs_left file == 0 then 0 else dirty_pages file
+-- how many pages of a hive's file a repair writes, if a repair is left
+abbrev pub repair_of : HiveFile → Option ℕ
+repair_of file = if repairs_left file == 0 then None else Some (dirty_pages file)
 
-abbrev pub state_line : ℕ → ℕ → ℕ → ℕ → ℕ → List ℕ
-state_line named hive applied pages count = applied_text named hive applied ++ (repair_text pages ++ lacks_text count)
+abbrev pub state_line : ℕ → ℕ → ℕ → Option ℕ → ℕ → List ℕ
+state_line named hive applied repair count = applied_text named hive applied ++ (repair_text repair ++ lacks_text count)
 
 -- the line of a hive: which it is, the number of the last change that is surely in its files, and what they lack
 abbrev pub hive_line : ℕ → ℕ → List NumberedChange → HiveFile → List ℕ
 hive_line named hive changes file =
     let applied = (file_choice file).now.1 in
-    state_line named hive applied (pages_to_repair file) (count_lacked hive applied changes)
+    state_line named hive applied (repair_of file) (count_lacked hive applied changes)
 
 -- the lines of hives, the first of which has this number; calls name the first `named` of all
 abbrev pub hive_lines : ℕ → ℕ → List NumberedChange → List HiveFile → List ℕ

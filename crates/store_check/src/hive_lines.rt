@@ -2,7 +2,7 @@
 ghost use Rattle.std.specs.Prelude.{◌≡◌, ◌<◌, length, OnOk};
 ghost use Rattle.std.specs.Io.KnownBytes.{Appends};
 ghost use Rattle.recovery.specs.Retained.{numbered_changes};
-ghost use Rattle.store_check.specs.StoreTexts.{hive_line, hive_lines, hive_text, lacks_text, repair_text, applied_text, pages_to_repair, state_line};
+ghost use Rattle.store_check.specs.StoreTexts.{applied_text, half_written_text, hive_line, hive_lines, hive_text, lacks_text, pages_text, repair_of, repair_text, state_line};
 
 use hive_flush::HiveFile;
 use recovery::RetainedChanges;
@@ -38,17 +38,17 @@ fn write_hive<W: Write>(
 {
     let applied = file.applied();
     let count = changes.count_lacked(hive, applied);
-    write_line(writer, named, hive, applied, pages_to_repair(file), count)
+    write_line(writer, named, hive, applied, repair_of(file), count)
 }
 
-// how many pages a repair of a hive's file writes: none if no repair is left
-fn pages_to_repair(file: &HiveFile) -> usize
-    ensures { result ≡ pages_to_repair file.now }
+// how many pages of a hive's file a repair writes, if a repair is left
+fn repair_of(file: &HiveFile) -> Option<usize>
+    ensures { result ≡ repair_of file.now }
 {
     if file.is_whole() {
-        return 0;
+        return None;
     }
-    file.dirty_pages()
+    Some(file.dirty_pages())
 }
 
 // the same, by numbers
@@ -57,14 +57,14 @@ fn write_line<W: Write>(
     named: u8,
     hive: u8,
     applied: u64,
-    pages: usize,
+    repair: Option<usize>,
     count: usize,
 ) -> io::Result<()>
     ensures { OnOk result (Appends (W.contents writer.old) (W.contents writer.new)
-        (state_line named hive applied pages count)) }
+        (state_line named hive applied repair count)) }
 {
     write_applied(writer, named, hive, applied)?;
-    write_repair(writer, pages)?;
+    write_repair(writer, repair)?;
     write_lacks(writer, count)
 }
 
@@ -89,15 +89,37 @@ fn write_which<W: Write>(writer: &mut W, named: u8, hive: u8) -> io::Result<()>
     }
 }
 
-// how many pages of a hive's file are to be repaired by its log, if some are
-fn write_repair<W: Write>(writer: &mut W, pages: usize) -> io::Result<()>
+// whether a hive's file is half written, and how many pages of it its log repairs
+fn write_repair<W: Write>(writer: &mut W, repair: Option<usize>) -> io::Result<()>
     ensures { OnOk result (Appends (W.contents writer.old) (W.contents writer.new)
-        (repair_text pages)) }
+        (repair_text repair)) }
+{
+    match repair {
+        None => Ok(()),
+        Some(pages) => write_half_written(writer, pages),
+    }
+}
+
+fn write_half_written<W: Write>(writer: &mut W, pages: usize) -> io::Result<()>
+    ensures { OnOk result (Appends (W.contents writer.old) (W.contents writer.new)
+        (half_written_text pages)) }
+{
+    writer.write_all(b", half written")?;
+    write_pages(writer, pages)
+}
+
+// how many pages of a half written file its log repairs, if there are any
+fn write_pages<W: Write>(writer: &mut W, pages: usize) -> io::Result<()>
+    ensures { OnOk result (Appends (W.contents writer.old) (W.contents writer.new)
+        (pages_text pages)) }
 {
     if pages == 0 {
-        return Ok(());
+        Ok(())
+    } else if pages == 1 {
+        writer.write_all(b" in 1 page")
+    } else {
+        write!(writer, " in {pages} pages")
     }
-    write!(writer, ", half written in {pages} pages")
 }
 
 // what a hive's files lack
@@ -107,6 +129,8 @@ fn write_lacks<W: Write>(writer: &mut W, count: usize) -> io::Result<()>
 {
     if count == 0 {
         writer.write_all(b", has all changes\n")
+    } else if count == 1 {
+        writer.write_all(b", lacks 1 change; the next run moves it in\n")
     } else {
         writeln!(
             writer,
