@@ -28,11 +28,11 @@ pub fn print_about<'a, R: Files<File = File> + Print + Eprint + AllocGlobal>(
 pub fn print_usages<'a, R: Print + Eprint + AllocGlobal>(
     rt: &R,
     output: TerminalOutput,
-    name: Option<&str>,
+    name: Option<&'a str>,
 ) -> Result<Status, CommandError<'a>> {
     if let Some(name) = name {
         if !USAGES.iter().any(|usage| usage.name == name) {
-            return Err(CommandError::WrongWords);
+            return Err(CommandError::WrongWord(name));
         }
     }
     let mut writer = BufWriter::new(rt.alloc(), io::writer(rt))?;

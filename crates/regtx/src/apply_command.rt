@@ -1,19 +1,22 @@
-//! What the word `apply` does with files: a registration file, and the folder of the store that it is applied to.
+//! What the words `apply` and `apply-check` do with files: a registration file, and the folder of the store that it is
+//! applied to, or on which it is tried.
 //!
-//! `reg_file` reads the file's bytes, and `reg_apply` applies it and prints how that ended, over the folder as a disk.
+//! `reg_file` reads the file's bytes, and `reg_apply` applies or checks it and prints how that ended, over the folder as a
+//! disk.
 use crate::command_error::CommandError;
-use crate::files::{Source, Trouble, last_error, opened};
+use crate::files::{Source, Trouble, last_error};
 use crate::hint::Hint;
+use crate::input_file::opened;
 use crate::script_commands::{hint_at, store_in};
 use crate::store_disk::StoreDisk;
 use crate::terminal::TerminalOutput;
 use file_disk::LockError;
-use reg_apply::{Request, apply};
+use reg_apply::{Request, UnitOfWork, apply, check};
 use reg_file::{RegFile, parse};
 use reg_prefixes::{Prefixes, WordError};
 use script_syntax::Status;
 use std::alloc::{AllocError, Global};
-use std::io::{self, BufWriter, Eprint, ErrorKind, Read};
+use std::io::{self, BufWriter, Eprint, ErrorKind, Input, Read};
 use std::rt::Files;
 use std::time::{Clock, SystemTime, UNIX_EPOCH};
 use uuid::Uuid;
@@ -21,11 +24,14 @@ use uuid::Uuid;
 /// The year 1970 as a moment: 100 nanoseconds since the year 1601.
 const UNIX_MOMENT: u64 = 116_444_736_000_000_000;
 
+/// The word before a unit of work that is to be done once.
+const ONCE: &str = "once";
+
 /// Applies a registration file to the store in a folder, which no other program has open until this ends. The words
-/// name prefixes; the last one may be the unit of work that the change is for.
+/// name prefixes; the last one may be the unit of work that the change is for, with `once` before it.
 pub fn apply_file<
     'a,
-    R: Files + Print + Eprint + Clock + AllocGlobal,
+    R: Files + Input + Print + Eprint + Clock + AllocGlobal,
     D: StoreDisk + Drop,
     F: FnOnce(&'a str) -> Result<D, LockError>,
 >(
@@ -39,13 +45,13 @@ pub fn apply_file<
     requires { F.pre opener folder }
 {
     let alloc = rt.alloc();
-    let (words, id) = parted(words);
-    let prefixes = prefixes_of(alloc, words)?;
+    let (words, unit) = parted(words);
+    let prefixes = understood(Prefixes::new(alloc, words))?;
     let file = read_file(rt, path)?;
     let request = Request {
         prefixes: &prefixes,
         moment: moment_now(rt),
-        id,
+        unit,
     };
     let disk = store_in(opener(folder), folder)?;
     let mut writer = BufWriter::new(alloc, io::writer(rt))?;
@@ -54,20 +60,50 @@ pub fn apply_file<
     Ok(output.status(rt, applied))
 }
 
-// the words that name prefixes, and the unit of work if the last word is one
-fn parted<'a, 'b>(words: &'b [&'a str]) -> (&'b [&'a str], Option<Uuid>) {
-    match words.split_last() {
-        Some((last, front)) => match Uuid::parse_str(last) {
-            Ok(id) => (front, Some(id)),
-            Err(_) => (words, None),
-        },
-        None => (words, None),
+/// Prints which lines of a registration file the store in a folder would refuse. The store is only read. The words name
+/// prefixes.
+pub fn check_file<
+    'a,
+    R: Files + Input + Print + Eprint + AllocGlobal,
+    D: StoreDisk + Drop,
+    F: FnOnce(&'a str) -> Result<D, LockError>,
+>(
+    rt: &R,
+    output: TerminalOutput,
+    opener: F,
+    folder: &'a str,
+    path: &'a str,
+    words: &[&'a str],
+) -> Result<Status, CommandError<'a>>
+    requires { F.pre opener folder }
+{
+    let alloc = rt.alloc();
+    let prefixes = understood(Prefixes::new(alloc, words))?;
+    let file = read_file(rt, path)?;
+    let disk = store_in(opener(folder), folder)?;
+    let mut writer = BufWriter::new(alloc, io::writer(rt))?;
+    let (disk, checked) = check(alloc, disk, &prefixes, file, &mut writer);
+    hint_at(rt, output, folder, &disk, &checked);
+    Ok(output.status(rt, checked))
+}
+
+// the words that name prefixes, and the unit of work
+fn parted<'a, 'b>(words: &'b [&'a str]) -> (&'b [&'a str], UnitOfWork) {
+    let Some((last, front)) = words.split_last() else {
+        return (words, UnitOfWork::Own);
+    };
+    let Ok(id) = Uuid::parse_str(last) else {
+        return (words, UnitOfWork::Own);
+    };
+    match front.split_last() {
+        Some((word, prefixes)) if *word == ONCE => (prefixes, UnitOfWork::Once(id)),
+        _ => (front, UnitOfWork::Again(id)),
     }
 }
 
-/// The prefixes that words name.
-pub fn prefixes_of<'a>(alloc: Global, words: &[&'a str]) -> Result<Prefixes, CommandError<'a>> {
-    match Prefixes::new(alloc, words) {
+/// The prefixes that words name, or why they name none.
+pub fn understood<'a>(prefixes: Result<Prefixes, WordError>) -> Result<Prefixes, CommandError<'a>> {
+    match prefixes {
         Ok(prefixes) => Ok(prefixes),
         Err(WordError::NotUnderstood) => Err(CommandError::WrongWords),
         Err(WordError::NoMemory) => Err(CommandError::from(AllocError)),
@@ -75,7 +111,7 @@ pub fn prefixes_of<'a>(alloc: Global, words: &[&'a str]) -> Result<Prefixes, Com
 }
 
 // the statements of the registration file of this path
-fn read_file<'a, R: Files + AllocGlobal>(
+fn read_file<'a, R: Files + Input + AllocGlobal>(
     rt: &R,
     path: &'a str,
 ) -> Result<RegFile, CommandError<'a>> {

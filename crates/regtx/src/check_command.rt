@@ -2,22 +2,23 @@
 //!
 //! `store_check` reports a store, over the folder as a disk that is only read, and `hive_check` a hive's file.
 use crate::command_error::CommandError;
-use crate::files::{Source, Target, Trouble, is_folder, last_error, opened};
+use crate::files::{Source, Target, Trouble, last_error};
 use crate::hint::Hint;
+use crate::input_file::{is_folder, opened};
 use crate::script_commands::{hint_at, store_in};
 use crate::store_disk::StoreDisk;
 use crate::terminal::TerminalOutput;
 use file_disk::LockError;
 use hive_check::{CheckError, check_hive};
 use script_syntax::Status;
-use std::io::{self, BufWriter, Eprint};
+use std::io::{self, BufWriter, Eprint, Input};
 use std::rt::Files;
 use store_check::check_store;
 
 /// Prints a report of a store or of a hive's file.
 pub fn check<
     'a,
-    R: Files + Print + Eprint + AllocGlobal,
+    R: Files + Input + Print + Eprint + AllocGlobal,
     D: StoreDisk + Drop,
     F: FnOnce(&'a str) -> Result<D, LockError>,
 >(rt: &R, output: TerminalOutput, opener: F, source: &'a str) -> Result<Status, CommandError<'a>>
@@ -48,7 +49,7 @@ fn report_store<
 }
 
 // prints a report of the hive in the file of this path
-fn report_hive<'a, R: Files + Print + Eprint + AllocGlobal>(
+fn report_hive<'a, R: Files + Input + Print + Eprint + AllocGlobal>(
     rt: &R,
     output: TerminalOutput,
     path: &'a str,

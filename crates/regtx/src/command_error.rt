@@ -1,5 +1,5 @@
 //! What the program says if it can't begin its work.
-use crate::hint::Hint;
+use crate::hint::{Hint, Why};
 use refusals::Refusal;
 use script_syntax::Status;
 use std::alloc::{AllocError, AllocFailed};
@@ -12,6 +12,9 @@ pub enum CommandError<'a> {
     /// The words of the command line are not understood, a request for help or version among them.
     #[error("wrong words")]
     WrongWords,
+    /// This word of the command line is not understood.
+    #[error("wrong words")]
+    WrongWord(&'a str),
     /// A file that the command line names can't be read.
     #[error("cannot read file")]
     CannotReadFile(Hint<'a>),
@@ -31,7 +34,7 @@ impl<'a> CommandError<'a> {
     /// The status that the program ends with.
     pub fn status(&self) -> Status {
         match self {
-            CommandError::WrongWords => Status::Wrong,
+            CommandError::WrongWords | CommandError::WrongWord(_) => Status::Wrong,
             CommandError::CannotReadFile(_)
             | CommandError::CannotMakeStore(_)
             | CommandError::CannotOpenStore(_)
@@ -45,6 +48,7 @@ impl<'a> CommandError<'a> {
             CommandError::CannotReadFile(hint)
             | CommandError::CannotMakeStore(hint)
             | CommandError::CannotOpenStore(hint) => Some(*hint),
+            CommandError::WrongWord(word) => Some(Hint::of(word, Why::NotUnderstood)),
             CommandError::WrongWords | CommandError::Refused(_) => None,
         }
     }

@@ -1,10 +1,11 @@
-//! What the words `export`, `export-json` and `export-tsv` do with files: the folder of a store, or a hive's file.
+//! What the words `export`, `export-utf8`, `export-json` and `export-tsv` do with files: the folder of a store, or a hive's file.
 //!
 //! `store_export` prints, over the folder as a disk that is only read, or over the file.
-use crate::apply_command::prefixes_of;
+use crate::apply_command::understood;
 use crate::command_error::CommandError;
-use crate::files::{Source, Target, Trouble, is_folder, last_error, opened};
+use crate::files::{Source, Target, Trouble, last_error};
 use crate::hint::Hint;
+use crate::input_file::{is_folder, opened};
 use crate::key_words::key_named;
 use crate::script_commands::{hint_at, store_in};
 use crate::store_disk::StoreDisk;
@@ -13,15 +14,15 @@ use crate::terminal::TerminalOutput;
 use file_disk::LockError;
 use reg_prefixes::Prefixes;
 use script_syntax::Status;
-use std::io::{self, BufWriter, Eprint};
+use std::io::{self, BufWriter, Eprint, Input};
 use std::rt::Files;
-use store_export::{ExportError, Form, Request, Selection, export_hive, export_store};
+use store_export::{Encoding, ExportError, Form, Request, Selection, export_hive, export_store};
 
 /// Prints a store or a hive's file, or a key of it with all below it. The first of the words may name the key,
-/// `HIVE:PATH`; the others name prefixes.
+/// `HIVE:PATH`; the others name prefixes, which a registration file alone has.
 pub fn export<
     'a,
-    R: Files + Print + Eprint + AllocGlobal,
+    R: Files + Input + Print + Eprint + AllocGlobal,
     D: StoreDisk + Drop,
     F: FnOnce(&'a str) -> Result<D, LockError>,
 >(
@@ -36,7 +37,12 @@ pub fn export<
 {
     let alloc = rt.alloc();
     let (key, words) = parted(words);
-    let prefixes = prefixes_of(alloc, words)?;
+    if let Some(word) = words.first() {
+        if !has_prefixes(form) {
+            return Err(CommandError::WrongWord(word));
+        }
+    }
+    let prefixes = understood(Prefixes::of_hives(alloc, words))?;
     let selection = match key {
         Some(word) => Some(key_named(alloc, word)?),
         None => None,
@@ -47,6 +53,11 @@ pub fn export<
     } else {
         print_hive(rt, output, source, &request)
     }
+}
+
+// whether paths are shown behind prefixes in this form
+fn has_prefixes(form: ExportForm) -> bool {
+    matches!(form, ExportForm::Reg | ExportForm::RegUtf8)
 }
 
 // the word that names a key, which begins with a digit, and the words after it
@@ -69,7 +80,8 @@ fn request_of<'b>(
     prefixes: &'b Prefixes,
 ) -> Request<'b> {
     let form = match form {
-        ExportForm::Reg => Form::Reg,
+        ExportForm::Reg => Form::Reg(Encoding::Utf16),
+        ExportForm::RegUtf8 => Form::Reg(Encoding::Utf8),
         ExportForm::Json => Form::Json,
         ExportForm::Tsv => Form::Tsv,
     };
@@ -105,7 +117,7 @@ fn print_store<
 }
 
 // prints the hive in the file of this path
-fn print_hive<'a, R: Files + Print + Eprint + AllocGlobal>(
+fn print_hive<'a, R: Files + Input + Print + Eprint + AllocGlobal>(
     rt: &R,
     output: TerminalOutput,
     path: &'a str,

@@ -1,11 +1,6 @@
-//! Files that the words name, and where replies go: each keeps why it failed.
-use crate::command_error::CommandError;
-use crate::hint::Hint;
-use refusals::Refusal;
+//! Files that are read, and where replies go: each keeps why it failed.
 use std::cell::Cell;
-use std::fs::{self, File};
 use std::io::{self, ErrorKind, Read, Write};
-use std::rt::Files;
 
 /// Why a file or a device failed last, if it did.
 pub type Trouble = Cell<Option<io::Error>>;
@@ -69,23 +64,4 @@ impl<'a, W: Write + Drop> Write for Target<'a, W> {
 /// The last failure. A failure without a reported error is that of a device that was interrupted again and again.
 pub fn last_error(trouble: &Trouble) -> io::Error {
     trouble.get().unwrap_or(ErrorKind::Interrupted.into())
-}
-
-/// A file that is to be read.
-pub fn opened<'a, R: Files>(rt: &R, path: &'a str) -> Result<R::File, CommandError<'a>> {
-    match File::open(rt, path) {
-        Ok(file) => Ok(file),
-        Err(error) if error.kind() == ErrorKind::OutOfMemory => {
-            Err(CommandError::Refused(Refusal::NoMemory))
-        }
-        Err(error) => Err(CommandError::CannotReadFile(Hint::denied(path, error))),
-    }
-}
-
-/// Whether a path is that of a folder.
-pub fn is_folder<R: Files>(rt: &R, path: &str) -> bool {
-    match fs::metadata(rt, path) {
-        Ok(metadata) => metadata.is_dir(),
-        Err(_) => false,
-    }
 }

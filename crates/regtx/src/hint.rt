@@ -3,13 +3,15 @@ use crate::store_disk::StoreDisk;
 use file_disk::{Denial, FileName, LockError};
 use std::alloc::Global;
 use std::fmt;
-use std::io::{self, Eprint};
+use std::io::{self, Eprint, ErrorKind};
 
 /// Why a file or a folder can't be used.
 #[derive(Clone, Copy, Debug)]
 pub enum Why {
     /// The system refuses it.
     Denied(io::Error),
+    /// It is a key with subkeys, which another command deletes.
+    HasSubkeys,
     /// Another program has it.
     InUse,
     /// It is there already.
@@ -18,12 +20,14 @@ pub enum Why {
     NoFile,
     /// There is no such folder.
     NoFolder,
+    /// The word isn't understood.
+    NotUnderstood,
 }
 
 /// Such a line, for example `regtx: store/hive00.log: Permission denied`.
 #[derive(Clone, Copy, Debug)]
 pub struct Hint<'a> {
-    // what the line is about: a path, or other words
+    // what the line is about: a path, a word of the command line, or other words
     subject: &'a str,
     // the file of a store, if the path is that of the store's folder
     file: Option<FileName>,
@@ -112,11 +116,16 @@ impl Why {
     fn reason(self, alloc: Global) -> io::Result<String> {
         let mut words = String::new(alloc);
         match self {
+            Why::Denied(error) if error.kind() == ErrorKind::StaleNetworkFileHandle => {
+                words.push_str("the folder isn't at its path any more")?
+            }
             Why::Denied(error) => write!(words, "{error}")?,
+            Why::HasSubkeys => words.push_str("has subkeys; del-tree deletes all of it")?,
             Why::InUse => words.push_str("another program has it")?,
             Why::IsThere => words.push_str("is there already")?,
             Why::NoFile => words.push_str("no such file")?,
             Why::NoFolder => words.push_str("no such folder")?,
+            Why::NotUnderstood => words.push_str("not understood")?,
         }
         if let Some(end) = words.find(" (os error ") {
             words.truncate(end);

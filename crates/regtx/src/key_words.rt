@@ -3,7 +3,7 @@
 use crate::command_error::CommandError;
 use refusals::Refusal;
 use reg_names::{Name, Path, ValueName};
-use script_syntax::{KeyRef, Line, ParseError, Request, read_line};
+use script_syntax::{KeyRef, Line, ParseError, Request, Text, read_line};
 use std::alloc::{AllocError, Global};
 use store_export::Selection;
 
@@ -11,7 +11,28 @@ use store_export::Selection;
 const BLANK: &[u8] = b"%0020";
 
 /// The key that a word `HIVE:PATH` names.
-pub fn key_named<'a>(alloc: Global, word: &str) -> Result<Selection, CommandError<'a>> {
+pub fn key_named<'a>(alloc: Global, word: &'a str) -> Result<Selection, CommandError<'a>> {
+    let key_ref = key_ref_of(alloc, word)?;
+    key_of(alloc, &key_ref)
+}
+
+/// The key that a word `HIVE:PATH` names, and the name of a value that another word is; `@` is the empty name.
+pub fn value_named<'a>(
+    alloc: Global,
+    word: &'a str,
+    name: &'a str,
+) -> Result<(Selection, ValueName), CommandError<'a>> {
+    let key_ref = key_ref_of(alloc, word)?;
+    let units = name_text_of(alloc, name)?;
+    let key = key_of(alloc, &key_ref)?;
+    match Name::value(alloc, units.units()) {
+        Ok(name) => Ok((key, name)),
+        Err(refusal) => Err(CommandError::Refused(refusal)),
+    }
+}
+
+// what a word `HIVE:PATH` says, which may be no key's path
+fn key_ref_of<'a>(alloc: Global, word: &'a str) -> Result<KeyRef, CommandError<'a>> {
     let mut line = b"keys ".to_vec(alloc)?;
     push_word(&mut line, word)?;
     match read_line(alloc, &line) {
@@ -19,36 +40,24 @@ pub fn key_named<'a>(alloc: Global, word: &str) -> Result<Selection, CommandErro
             Line::Plain {
                 request: Request::Keys { key_ref },
             },
-        ) => key_of(alloc, &key_ref),
+        ) => Ok(key_ref),
         Err(ParseError::NoMemory) => Err(CommandError::Refused(Refusal::NoMemory)),
-        _ => Err(CommandError::WrongWords),
+        _ => Err(CommandError::WrongWord(word)),
     }
 }
 
-/// The key that a word `HIVE:PATH` names, and the name of a value that another word is; `@` is the empty name.
-pub fn value_named<'a>(
-    alloc: Global,
-    word: &str,
-    name: &str,
-) -> Result<(Selection, ValueName), CommandError<'a>> {
-    let mut line = b"get ".to_vec(alloc)?;
+// the units that a word spells, which may be no value's name
+fn name_text_of<'a>(alloc: Global, word: &'a str) -> Result<Text, CommandError<'a>> {
+    let mut line = b"get 0: ".to_vec(alloc)?;
     push_word(&mut line, word)?;
-    line.push(b' ')?;
-    push_word(&mut line, name)?;
     match read_line(alloc, &line) {
         Ok(
             Line::Plain {
-                request: Request::Get { key_ref, name },
+                request: Request::Get { key_ref: _, name },
             },
-        ) => {
-            let key = key_of(alloc, &key_ref)?;
-            match Name::value(alloc, name.units()) {
-                Ok(name) => Ok((key, name)),
-                Err(refusal) => Err(CommandError::Refused(refusal)),
-            }
-        }
+        ) => Ok(name),
         Err(ParseError::NoMemory) => Err(CommandError::Refused(Refusal::NoMemory)),
-        _ => Err(CommandError::WrongWords),
+        _ => Err(CommandError::WrongWord(word)),
     }
 }
 

@@ -9,22 +9,25 @@ use std::fs::File;
 use std::rt::Files;
 use std::time::{Clock, Duration};
 
-/// How long a wait lasts between two tries, in milliseconds.
-const PAUSE: u64 = 50;
+/// How long a wait lasts after the first try, in milliseconds. After each further try it is twice as long.
+const FIRST_PAUSE: u64 = 1;
+
+/// The longest that a wait lasts between two tries, in milliseconds.
+const LONGEST_PAUSE: u64 = 16;
 
 /// The most seconds that a command waits: a day.
 const MOST_SECONDS: u64 = 86_400;
 
-/// How often a command tries again to open a store that another program has.
+/// How long a command tries again to open a store that another program has, in milliseconds.
 #[derive(Clone, Copy)]
 pub struct LockWait {
-    tries: u64,
+    millis: u64,
 }
 
 impl LockWait {
     /// It doesn't try again.
     pub fn none() -> LockWait {
-        LockWait { tries: 0 }
+        LockWait { millis: 0 }
     }
 
     /// Opens the store in a folder, and again after a pause if another program has it.
@@ -35,9 +38,15 @@ impl LockWait {
         access: Access,
         folder: &str,
     ) -> Result<FileDisk<&'a R, Unknown>, LockError> {
-        for _ in 0..self.tries {
+        let mut left = self.millis;
+        let mut pause = FIRST_PAUSE;
+        for _ in 0..self.millis {
             match access.open(rt, alloc, folder) {
-                Err(LockError::InUse) => std::thread::sleep(rt, Duration::from_millis(PAUSE)),
+                Err(LockError::InUse) if left > 0 => {
+                    std::thread::sleep(rt, Duration::from_millis(pause.min(left)));
+                    left = left.saturating_sub(pause);
+                    pause = pause.saturating_mul(2).min(LONGEST_PAUSE);
+                }
                 opened => return opened,
             }
         }
@@ -84,7 +93,7 @@ pub fn take_wait<'a>(words: &mut Vec<String>) -> Result<LockWait, CommandError<'
     words.remove(1);
     words.remove(1);
     Ok(LockWait {
-        tries: seconds * (1_000 / PAUSE),
+        millis: seconds * 1_000,
     })
 }
 

@@ -5,7 +5,7 @@
 //! standard error is a terminal, or `REGTX_HINTS` is `1`, it shows why something can't be done. If standard output is
 //! no terminal, standard error also shows on a terminal how far a long script is read. The status is 0 if no refusal
 //! was printed. It is 1 if one was, a script or a file can't be read, a store can't be made or opened, or a write fails.
-//! It is 2 at a line that is none or at wrong words.
+//! It is 2 at a line that is none or at wrong words, and 3 if `kept` finds nothing.
 #![tactic(auto)]
 
 mod about;
@@ -13,9 +13,12 @@ mod apply_command;
 mod build_mark;
 mod check_command;
 mod command_error;
+mod ending;
 mod export_command;
 mod files;
 mod hint;
+mod input_file;
+mod kept_command;
 mod key_words;
 mod lock_wait;
 mod script_commands;
@@ -23,18 +26,23 @@ mod store_commands;
 mod store_disk;
 mod tasks;
 mod terminal;
+mod typed_lines;
 mod usages;
 mod value_commands;
+mod value_file;
 mod value_words;
 mod words;
 
 use crate::about::{print_about, print_usages};
-use crate::apply_command::apply_file;
+use crate::apply_command::{apply_file, check_file};
 use crate::check_command::check;
 use crate::command_error::CommandError;
+use crate::ending::Ending;
 use crate::export_command::export;
-use crate::files::{Source, Target, Trouble, last_error, opened};
+use crate::files::{Source, Target, Trouble, last_error};
 use crate::hint::Hint;
+use crate::input_file::opened;
+use crate::kept_command::tell_kept;
 use crate::lock_wait::{Access, LockWait, take_wait};
 use crate::script_commands::{InMemory, play_script, run_script};
 use crate::store_commands::{import_store, new_store, upgrade_store};
@@ -48,7 +56,7 @@ use hive_dump::{DumpError, dump};
 use script_syntax::Status;
 use std::alloc::Global;
 use std::fs::File;
-use std::io::{BufWriter, Eprint};
+use std::io::{BufWriter, Eprint, Input};
 use std::process::ExitCode;
 use std::rt::{Env, Files};
 use std::sync::Wait;
@@ -57,9 +65,9 @@ use std::time::Clock;
 use std::{env, io};
 
 fn main(rt: HostRuntime) -> ExitCode {
-    let output = TerminalOutput::to(&rt, &rt.stderr(), &rt.stdout());
+    let output = TerminalOutput::of(&rt, &rt.stderr(), &rt.stdout(), &rt.stdin());
     let alloc = rt.alloc();
-    let status = match words_given(&rt, alloc) {
+    let ending = match words_given(&rt, alloc) {
         Ok((wait, words)) => answer(
             &rt,
             output,
@@ -67,32 +75,34 @@ fn main(rt: HostRuntime) -> ExitCode {
             |folder| wait.open(&rt, alloc, Access::ReadOnly, folder),
             &words,
         ),
-        Err(command_error) => print_error(&rt, output, None, &command_error),
+        Err(command_error) => Ending::Replied(print_error(&rt, output, None, &command_error)),
     };
-    ExitCode::from(status.code())
+    ExitCode::from(ending.code())
 }
 
 // does what the words ask for, or reports why that can't be begun
 fn answer<
     'a,
-    R: Files<File = File> + Print + Eprint + Clock + AllocGlobal + Threads + Wait + Sync,
+    R: Files<File = File> + Input + Print + Eprint + Clock + AllocGlobal + Threads + Wait + Sync,
     D: StoreDisk + Drop + Send,
     F: FnOnce(&'a str) -> Result<D, LockError> + Drop,
     G: FnOnce(&'a str) -> Result<D, LockError> + Drop,
->(rt: &'a R, output: TerminalOutput, opener: F, reader: G, words: &'a [String]) -> Status
+>(rt: &'a R, output: TerminalOutput, opener: F, reader: G, words: &'a [String]) -> Ending
     requires opens { F.IsAlwaysCallable opener }
     requires reads { G.IsAlwaysCallable reader }
 {
     match run(rt, output, opener, reader, words) {
-        Ok(status) => status,
-        Err(command_error) => print_error(rt, output, words.get(1), &command_error),
+        Ok(ending) => ending,
+        Err(command_error) => {
+            Ending::Replied(print_error(rt, output, words.get(1), &command_error))
+        }
     }
 }
 
 // does what the words ask for; a write that fails ends it with the status of a refusal
 fn run<
     'a,
-    R: Files<File = File> + Print + Eprint + Clock + AllocGlobal + Threads + Wait + Sync,
+    R: Files<File = File> + Input + Print + Eprint + Clock + AllocGlobal + Threads + Wait + Sync,
     D: StoreDisk + Drop + Send,
     F: FnOnce(&'a str) -> Result<D, LockError> + Drop,
     G: FnOnce(&'a str) -> Result<D, LockError> + Drop,
@@ -102,11 +112,12 @@ fn run<
     opener: F,
     reader: G,
     words: &'a [String],
-) -> Result<Status, CommandError<'a>>
+) -> Result<Ending, CommandError<'a>>
     requires opens { F.IsAlwaysCallable opener }
     requires reads { G.IsAlwaysCallable reader }
 {
-    match parse_task(rt.alloc(), words)? {
+    let told = match parse_task(rt.alloc(), words)? {
+        Task::Kept { folder, unit } => return tell_kept(rt, output, reader, folder, &unit),
         Task::Play { script } => play_script(rt, output, InMemory::Play, script),
         Task::Lab { script } => play_script(rt, output, InMemory::Lab, script),
         Task::Sweep { script } => play_script(rt, output, InMemory::Sweep, script),
@@ -124,6 +135,11 @@ fn run<
             file,
             words,
         } => apply_file(rt, output, opener, folder, file, &words),
+        Task::ApplyCheck {
+            folder,
+            file,
+            words,
+        } => check_file(rt, output, reader, folder, file, &words),
         Task::Export {
             source,
             form,
@@ -134,11 +150,12 @@ fn run<
         Task::Check { source } => check(rt, output, reader, source),
         Task::About => print_about(rt, output),
         Task::Usage { word } => print_usages(rt, output, word),
-    }
+    };
+    Ok(Ending::Replied(told?))
 }
 
-// prints why nothing could be begun; a terminal shows more, and the usage of the command of this name if the words are
-// wrong
+// prints why nothing could be begun; a terminal shows more: which word is wrong, and the usage of the command of this
+// name if the words are
 fn print_error<R: Print + Eprint + AllocGlobal>(
     rt: &R,
     output: TerminalOutput,
@@ -148,15 +165,15 @@ fn print_error<R: Print + Eprint + AllocGlobal>(
     if let Err(error) = println!(rt; "{command_error}") {
         return output.status(rt, Err(error));
     }
-    match command_error {
-        CommandError::WrongWords => output.usage(rt, name.map(|name| name.as_str())),
-        _ => output.hint(rt, command_error.hint()),
+    output.hint(rt, command_error.hint());
+    if command_error.status() == Status::Wrong {
+        output.usage(rt, name.map(|name| name.as_str()));
     }
     command_error.status()
 }
 
 // prints the hive in the file of this path
-fn dump_file<'a, R: Files + Print + Eprint + AllocGlobal>(
+fn dump_file<'a, R: Files + Input + Print + Eprint + AllocGlobal>(
     rt: &R,
     output: TerminalOutput,
     path: &'a str,

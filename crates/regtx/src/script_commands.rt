@@ -7,8 +7,10 @@
 use crate::command_error::CommandError;
 use crate::files::{Source, Trouble};
 use crate::hint::Hint;
+use crate::input_file::{length_of, open_input};
 use crate::store_disk::StoreDisk;
-use crate::terminal::{TerminalOutput, end, length_of, reading};
+use crate::terminal::{TerminalOutput, end, reading};
+use crate::typed_lines::TypedLines;
 use crash_lab::lab;
 use crash_sweep::sweep;
 use disk_model::Disk;
@@ -20,7 +22,7 @@ use script_runner::{play, refuse_script};
 use script_syntax::Status;
 use std::alloc::Global;
 use std::fs::File;
-use std::io::{self, BufReader, BufWriter, Eprint, LineWriter, Read, Write};
+use std::io::{self, BufReader, BufWriter, Eprint, Input, LineWriter, Read, Write};
 use std::rt::Files;
 use std::sync::Wait;
 use std::thread::Threads;
@@ -64,7 +66,7 @@ impl InMemory {
 }
 
 /// Does this with the script of a path.
-pub fn play_script<'a, R: Files + Print + Eprint + Clock + AllocGlobal>(
+pub fn play_script<'a, R: Files + Input + Print + Eprint + Clock + AllocGlobal>(
     rt: &R,
     output: TerminalOutput,
     how: InMemory,
@@ -86,7 +88,7 @@ pub fn play_script<'a, R: Files + Print + Eprint + Clock + AllocGlobal>(
 /// Runs the script of this path over the store in a folder, which no other program has open until this ends.
 pub fn run_script<
     'a,
-    R: Files<File = File> + Print + Eprint + Clock + AllocGlobal + Threads + Wait + Sync,
+    R: Files<File = File> + Input + Print + Eprint + Clock + AllocGlobal + Threads + Wait + Sync,
     D: StoreDisk + Drop + Send,
     F: FnOnce(&'a str) -> Result<D, LockError>,
 >(
@@ -145,14 +147,14 @@ fn is_plain_file<R: Files>(rt: &R, script: &str) -> bool {
 }
 
 // does this with the script; the inner answer reports writes that failed
-fn play_file<'a, R: Files + Eprint + Clock + AllocGlobal, W: Write>(
+fn play_file<'a, R: Files + Input + Eprint + Clock + AllocGlobal, W: Write>(
     rt: &R,
     output: TerminalOutput,
     how: InMemory,
     script: &'a str,
     writer: &mut W,
 ) -> Result<io::Result<Status>, CommandError<'a>> {
-    let file = match File::open(rt, script) {
+    let file = match open_input(rt, script) {
         Ok(file) => file,
         Err(error) => {
             let told = refuse_script(writer);
@@ -184,7 +186,7 @@ fn hint_unread<R: Eprint + AllocGlobal>(
 // runs the script over the store in a folder; the inner answer reports writes that failed
 fn run_file<
     'a,
-    R: Files<File = File> + Eprint + Clock + AllocGlobal + Threads + Wait + Sync,
+    R: Files<File = File> + Input + Print + Eprint + Clock + AllocGlobal + Threads + Wait + Sync,
     D: StoreDisk + Drop + Send,
     W: Write,
 >(
@@ -201,7 +203,14 @@ fn run_file<
     };
     let trouble = Trouble::new(None);
     let line = output.line(rt, opening);
-    let ran = run_watched(rt, disk, script, &trouble, line.as_ref(), writer);
+    let ran = run_watched(
+        rt,
+        disk,
+        (script, output.is_typed(script)),
+        &trouble,
+        line.as_ref(),
+        writer,
+    );
     end(line);
     let (disk, ran) = ran?;
     hint_at(rt, output, folder, &disk, &ran);
@@ -209,27 +218,29 @@ fn run_file<
     Ok(ran)
 }
 
-// the same, with a line for it if there is one
+// the same, with a line for it if there is one; the script is a word, and whether a person types what its file gives
 fn run_watched<
     'a,
-    R: Files + Eprint + Clock + AllocGlobal + Threads + Wait + Sync,
+    R: Files + Input + Print + Eprint + Clock + AllocGlobal + Threads + Wait + Sync,
     D: Disk + Drop + Send,
     W: Write,
 >(
     rt: &R,
     disk: D,
-    script: &'a str,
+    script: (&'a str, bool),
     trouble: &Trouble,
     line: Option<&ProgressLine<'_, R>>,
     writer: &mut W,
 ) -> Result<(D, io::Result<Status>), CommandError<'a>> {
     let alloc = rt.alloc();
+    let (script, is_typed) = script;
     let disk = WatchedDisk::new(disk, Moved::Read, line);
-    let (disk, ran) = match File::open(rt, script) {
+    let (disk, ran) = match open_input(rt, script) {
         Ok(file) => {
             let source = Source::new(file, trouble);
             let source = WatchedReader::new(source, line, Some(reading(rt, Work::Run, script)));
-            let mut reader = BufReader::new(alloc, source)?;
+            let lines = TypedLines::new(rt, alloc, source, is_typed);
+            let mut reader = BufReader::new(alloc, lines)?;
             run(rt, alloc, disk, &mut reader, writer)
         }
         Err(error) => {

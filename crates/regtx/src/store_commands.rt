@@ -7,12 +7,13 @@
 ghost use Rattle.std.specs.Prelude.{◌≤◌, IfOk};
 
 use crate::command_error::CommandError;
-use crate::files::{Source, Trouble, last_error, opened};
+use crate::files::{Source, Trouble, last_error};
 use crate::hint::Hint;
+use crate::input_file::{length_of, opened};
 use crate::script_commands::{hint_at, store_in};
 use crate::store_disk::StoreDisk;
 use crate::tasks::{HiveCount, Sources};
-use crate::terminal::{TerminalOutput, end, length_of};
+use crate::terminal::{TerminalOutput, end};
 use disk_model::Disk;
 use file_disk::{Denial, FileDisk, LockError, Unknown};
 use progress_line::{Moved, ProgressLine, WatchedDisk, WatchedReader, Work, WorkStage};
@@ -20,7 +21,7 @@ use refusals::Refusal;
 use script_syntax::Status;
 use std::alloc::Global;
 use std::fs::{self, File};
-use std::io::{self, BufWriter, Eprint, ErrorKind, Write};
+use std::io::{self, BufWriter, Eprint, ErrorKind, Input, Write};
 use std::path::Path;
 use std::rt::Files;
 use std::time::Clock;
@@ -45,7 +46,7 @@ pub fn new_store<'a, R: Files<File = File> + Print + Eprint + AllocGlobal>(
 
 /// Makes a store of the hives of some files in a folder, and prints whether it is made. All files are read first, then
 /// the folder is looked at, and last the files' content is judged.
-pub fn import_store<'a, R: Files<File = File> + Print + Eprint + Clock + AllocGlobal>(
+pub fn import_store<'a, R: Files<File = File> + Input + Print + Eprint + Clock + AllocGlobal>(
     rt: &R,
     output: TerminalOutput,
     folder: &'a str,
@@ -87,7 +88,7 @@ pub fn upgrade_store<
 }
 
 // the same as an import, with a line for it if there is one; answers what the system refused of the store's files, too
-fn import_watched<'a, R: Files<File = File> + Print + Eprint + Clock + AllocGlobal>(
+fn import_watched<'a, R: Files<File = File> + Input + Print + Eprint + Clock + AllocGlobal>(
     rt: &R,
     folder: &'a str,
     id: Uuid,
@@ -131,7 +132,7 @@ fn importing<R: Files>(rt: &R, sources: &Sources<'_>) -> WorkStage {
 }
 
 // the import of files, each read as the hive of its index
-fn import_of<'a, R: Files + Eprint + Clock + AllocGlobal>(
+fn import_of<'a, R: Files + Input + Eprint + Clock + AllocGlobal>(
     rt: &R,
     sources: &Sources<'a>,
     line: Option<&ProgressLine<'_, R>>,

@@ -44,8 +44,17 @@ pub enum Task<'a> {
         /// How many hives it is to have.
         count: HiveCount,
     },
-    /// `apply DIR FILE [PREFIX=HIVE ..] [ID]`: a registration file is to be applied to a store.
+    /// `apply DIR FILE [PREFIX=HIVE ..] [[once] ID]`: a registration file is to be applied to a store.
     Apply {
+        /// The folder of the store.
+        folder: &'a str,
+        /// The path of the registration file.
+        file: &'a str,
+        /// The words after it.
+        words: Vec<&'a str>,
+    },
+    /// `apply-check DIR FILE [PREFIX=HIVE ..]`: the lines of a registration file that a store would refuse are to be told.
+    ApplyCheck {
         /// The folder of the store.
         folder: &'a str,
         /// The path of the registration file.
@@ -62,19 +71,26 @@ pub enum Task<'a> {
         /// The words after it.
         words: Vec<&'a str>,
     },
-    /// `get` or `ls`: something is to be read of a store.
+    /// `get`, `get-raw` or `ls`: something is to be read of a store.
     Read {
         /// The folder of the store.
         folder: &'a str,
         /// What.
         reading: Reading<'a>,
     },
-    /// `set` or `del`: something is to be changed in a store.
+    /// `set`, `set-raw`, `create`, `del` or `del-tree`: something is to be changed in a store.
     Write {
         /// The folder of the store.
         folder: &'a str,
         /// What.
         writing: Writing<'a>,
+    },
+    /// `kept DIR ID`: the commit of a unit of work is to be looked for in a store.
+    Kept {
+        /// The folder of the store.
+        folder: &'a str,
+        /// The unit of work.
+        unit: Uuid,
     },
     /// `check SOURCE`: a report is to be printed.
     Check {
@@ -127,8 +143,10 @@ pub struct Sources<'a> {
 /// How keys and values are printed.
 #[derive(Clone, Copy, Debug, PartialEq, Eq)]
 pub enum ExportForm {
-    /// `export`: a registration file.
+    /// `export`: a registration file in UTF-16.
     Reg,
+    /// `export-utf8`: a registration file in UTF-8.
+    RegUtf8,
     /// `export-json`: lines of JSON.
     Json,
     /// `export-tsv`: lines of fields between tabs.

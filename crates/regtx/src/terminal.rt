@@ -1,9 +1,10 @@
-//! What a terminal shows beside the replies: how far long work has come, and why something can't be done.
+//! What a terminal shows beside the replies: how far long work has come, and why something can't be done. Also whether
+//! lines are typed at one.
 use crate::hint::Hint;
+use crate::input_file::{is_standard_input, length_of};
 use crate::usages::{USAGES, Usage};
 use progress_line::{ProgressLine, Work, WorkStage};
 use script_syntax::Status;
-use std::fs;
 use std::io::{self, Eprint, IsTerminal};
 use std::rt::{Env, Files};
 use std::time::Clock;
@@ -11,28 +12,37 @@ use std::time::Clock;
 /// The variable of the environment by which a caller asks for hints, if it is `1`.
 const ASKED_BY: &str = "REGTX_HINTS";
 
-/// What standard error shows, which is nothing unless it is a terminal or hints are asked for.
+/// What standard error shows, which is nothing unless it is a terminal or hints are asked for; and whether standard input
+/// is a terminal.
 #[derive(Clone, Copy)]
 pub struct TerminalOutput {
     // why something can't be done
     hints: bool,
     // how far long work has come, in a line
     line: bool,
+    is_typed: bool,
 }
 
 impl TerminalOutput {
-    /// What standard error and standard output allow. If the replies go to a terminal too, they show enough of long
-    /// work, and a line between them would spoil them. Hints are also for whoever reads standard error and asks for them.
-    pub fn to<R: Env, E: IsTerminal, O: IsTerminal>(
+    /// What the three standard streams allow. If the replies go to a terminal too, they show enough of long work, and a
+    /// line between them would spoil them. Hints are also for whoever reads standard error and asks for them.
+    pub fn of<R: Env, E: IsTerminal, O: IsTerminal, I: IsTerminal>(
         rt: &R,
         errors: &E,
         replies: &O,
+        input: &I,
     ) -> TerminalOutput {
         let is_terminal = errors.is_terminal();
         TerminalOutput {
             hints: is_terminal || are_hints_asked(rt),
             line: is_terminal && !replies.is_terminal(),
+            is_typed: input.is_terminal(),
         }
+    }
+
+    /// Whether a person types what the file of this word gives.
+    pub fn is_typed(self, word: &str) -> bool {
+        self.is_typed && is_standard_input(word)
     }
 
     /// A line for work that begins with this stage, if lines are shown.
@@ -103,13 +113,5 @@ pub fn reading<R: Files>(rt: &R, work: Work, path: &str) -> WorkStage {
     WorkStage {
         work,
         whole: length_of(rt, path),
-    }
-}
-
-/// The length of a plain file; of any other file it isn't known.
-pub fn length_of<R: Files>(rt: &R, path: &str) -> Option<u64> {
-    match fs::metadata(rt, path) {
-        Ok(metadata) if metadata.is_file() => Some(metadata.len()),
-        _ => None,
     }
 }

@@ -18,7 +18,7 @@ impl fmt::Display for Usage {
 }
 
 /// How each command is used.
-pub const USAGES: [Usage; 20] = [
+pub const USAGES: [Usage; 27] = [
     Usage {
         name: "new",
         call: "new DIR ID COUNT",
@@ -41,13 +41,28 @@ pub const USAGES: [Usage; 20] = [
     },
     Usage {
         name: "apply",
-        call: "apply DIR FILE [PREFIX=HIVE ..] [ID]",
+        call: "apply DIR FILE [PREFIX=HIVE ..] [once] [ID]",
         does: "applies a registration file as one transaction",
+    },
+    Usage {
+        name: "apply-check",
+        call: "apply-check DIR FILE [PREFIX=HIVE ..]",
+        does: "prints each line that `apply` would refuse, and changes nothing",
+    },
+    Usage {
+        name: "kept",
+        call: "kept DIR ID",
+        does: "tells whether the store keeps the commit of a unit of work; status 3 if not",
     },
     Usage {
         name: "get",
         call: "get DIR HIVE:PATH [NAME]",
         does: "prints a value's type and data, by default those of `@`",
+    },
+    Usage {
+        name: "get-raw",
+        call: "get-raw DIR HIVE:PATH [NAME]",
+        does: "prints a value's bytes and nothing else",
     },
     Usage {
         name: "ls",
@@ -60,14 +75,34 @@ pub const USAGES: [Usage; 20] = [
         does: "writes a value; TYPE is sz, expand, dword, qword, multi, hex or hex(T)",
     },
     Usage {
+        name: "set-raw",
+        call: "set-raw DIR HIVE:PATH NAME TYPE FILE",
+        does: "writes a value of this type with the bytes of a file; - is standard input",
+    },
+    Usage {
+        name: "create",
+        call: "create DIR HIVE:PATH",
+        does: "makes a key, with all that are missing above it",
+    },
+    Usage {
         name: "del",
         call: "del DIR HIVE:PATH [NAME]",
-        does: "deletes a value, or a key with all below it",
+        does: "deletes a value, or a key without subkeys",
+    },
+    Usage {
+        name: "del-tree",
+        call: "del-tree DIR HIVE:PATH",
+        does: "deletes a key with all below it",
     },
     Usage {
         name: "export",
         call: "export SOURCE [HIVE:PATH] [PREFIX=HIVE ..]",
         does: "prints a store or a clean hive as a registration file",
+    },
+    Usage {
+        name: "export-utf8",
+        call: "export-utf8 SOURCE [HIVE:PATH] [PREFIX=HIVE ..]",
+        does: "prints the same file as UTF-8",
     },
     Usage {
         name: "export-json",

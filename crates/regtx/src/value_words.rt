@@ -1,9 +1,10 @@
-//! The words of `get`, `ls`, `set` and `del`, which are taken as they stand: a name or a text may be `--`, or begin with a
-//! hyphen.
+//! The words of commands for one key or value, which are taken as they stand: a name or a text may be `--`, or begin with
+//! a hyphen.
 
 use crate::command_error::CommandError;
 use crate::tasks::Task;
 use crate::value_commands::{Reading, Writing};
+use store_values::ValueForm;
 
 /// What the words ask for, of which the first two are the program and the command; `None` if the command is none of these.
 pub fn parse_value_task<'a>(words: &'a [String]) -> Option<Result<Task<'a>, CommandError<'a>>> {
@@ -11,31 +12,30 @@ pub fn parse_value_task<'a>(words: &'a [String]) -> Option<Result<Task<'a>, Comm
         return None;
     };
     match command.as_str() {
-        "get" => Some(get_task(rest)),
+        "get" => Some(get_task(rest, ValueForm::Line)),
+        "get-raw" => Some(get_task(rest, ValueForm::Data)),
         "ls" => Some(ls_task(rest)),
         "set" => Some(set_task(rest)),
+        "set-raw" => Some(set_raw_task(rest)),
+        "create" => Some(create_task(rest)),
         "del" => Some(del_task(rest)),
+        "del-tree" => Some(del_tree_task(rest)),
         _ => None,
     }
 }
 
-// `get DIR KEY [NAME]`
-fn get_task<'a>(words: &'a [String]) -> Result<Task<'a>, CommandError<'a>> {
+// `get DIR KEY [NAME]`, and `get-raw`
+fn get_task<'a>(words: &'a [String], form: ValueForm) -> Result<Task<'a>, CommandError<'a>> {
     let (folder, key, name) = key_and_name(words)?;
-    let reading = Reading::Value { key, name };
+    let reading = Reading::Value { key, name, form };
     Ok(Task::Read { folder, reading })
 }
 
 // `ls DIR KEY`
 fn ls_task<'a>(words: &'a [String]) -> Result<Task<'a>, CommandError<'a>> {
-    let [folder, key] = words else {
-        return Err(CommandError::WrongWords);
-    };
-    let reading = Reading::Key { key: key.as_str() };
-    Ok(Task::Read {
-        folder: folder.as_str(),
-        reading,
-    })
+    let (folder, key) = key_alone(words)?;
+    let reading = Reading::Key { key };
+    Ok(Task::Read { folder, reading })
 }
 
 // `set DIR KEY NAME TYPE VALUE`
@@ -55,11 +55,53 @@ fn set_task<'a>(words: &'a [String]) -> Result<Task<'a>, CommandError<'a>> {
     })
 }
 
+// `set-raw DIR KEY NAME TYPE FILE`
+fn set_raw_task<'a>(words: &'a [String]) -> Result<Task<'a>, CommandError<'a>> {
+    let [folder, key, name, kind, file] = words else {
+        return Err(CommandError::WrongWords);
+    };
+    let writing = Writing::SetData {
+        key: key.as_str(),
+        name: name.as_str(),
+        kind: kind.as_str(),
+        file: file.as_str(),
+    };
+    Ok(Task::Write {
+        folder: folder.as_str(),
+        writing,
+    })
+}
+
+// `create DIR KEY`
+fn create_task<'a>(words: &'a [String]) -> Result<Task<'a>, CommandError<'a>> {
+    let (folder, key) = key_alone(words)?;
+    let writing = Writing::CreateKey { key };
+    Ok(Task::Write { folder, writing })
+}
+
 // `del DIR KEY [NAME]`
 fn del_task<'a>(words: &'a [String]) -> Result<Task<'a>, CommandError<'a>> {
     let (folder, key, name) = key_and_name(words)?;
-    let writing = Writing::Delete { key, name };
+    let writing = match name {
+        Some(name) => Writing::DeleteValue { key, name },
+        None => Writing::DeleteKey { key },
+    };
     Ok(Task::Write { folder, writing })
+}
+
+// `del-tree DIR KEY`
+fn del_tree_task<'a>(words: &'a [String]) -> Result<Task<'a>, CommandError<'a>> {
+    let (folder, key) = key_alone(words)?;
+    let writing = Writing::DeleteTree { key };
+    Ok(Task::Write { folder, writing })
+}
+
+// a store and a key of it
+fn key_alone<'a>(words: &'a [String]) -> Result<(&'a str, &'a str), CommandError<'a>> {
+    match words {
+        [folder, key] => Ok((folder.as_str(), key.as_str())),
+        _ => Err(CommandError::WrongWords),
+    }
 }
 
 // a store, a key of it, and the name of a value, which may be left out

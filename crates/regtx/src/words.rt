@@ -53,6 +53,10 @@ fn parse_command<'a>(alloc: Global, words: &'a [String]) -> Result<Task<'a>, Com
             id: id(given)?,
             sources: sources_named(alloc, given)?,
         }),
+        Some(("kept", given)) => Ok(Task::Kept {
+            folder: text(given, "DIR")?,
+            unit: id(given)?,
+        }),
         Some(("upgrade", given)) => Ok(Task::Upgrade {
             source: text(given, "OLD")?,
             folder: text(given, "NEW")?,
@@ -74,7 +78,13 @@ fn parse_file_task<'a>(
             file: text(given, "FILE")?,
             words: words_after(alloc, given)?,
         }),
+        "apply-check" => Ok(Task::ApplyCheck {
+            folder: text(given, "DIR")?,
+            file: text(given, "FILE")?,
+            words: words_after(alloc, given)?,
+        }),
         "export" => export_task(alloc, ExportForm::Reg, given),
+        "export-utf8" => export_task(alloc, ExportForm::RegUtf8, given),
         "export-json" => export_task(alloc, ExportForm::Json, given),
         "export-tsv" => export_task(alloc, ExportForm::Tsv, given),
         "check" => Ok(Task::Check {
@@ -124,8 +134,11 @@ fn command<'a>(alloc: Global) -> Result<Command<'a>, AllocError> {
     let all = with_new(alloc, all)?;
     let all = with_import(alloc, all)?;
     let all = with_upgrade(alloc, all)?;
-    let all = with_apply(alloc, all)?;
+    let all = with_kept(alloc, all)?;
+    let all = with_apply(alloc, all, "apply")?;
+    let all = with_apply(alloc, all, "apply-check")?;
     let all = with_export(alloc, all, "export")?;
+    let all = with_export(alloc, all, "export-utf8")?;
     let all = with_export(alloc, all, "export-json")?;
     let all = with_export(alloc, all, "export-tsv")?;
     let all = with_one(alloc, all, "check", "SOURCE")?;
@@ -133,9 +146,13 @@ fn command<'a>(alloc: Global) -> Result<Command<'a>, AllocError> {
     all.subcommand(Command::new(alloc, "about"))
 }
 
-// the same, and `apply`
-fn with_apply<'a>(alloc: Global, all: Command<'a>) -> Result<Command<'a>, AllocError> {
-    let apply = Command::new(alloc, "apply").arg(one(alloc, "DIR"))?;
+// the same, and a command of this name for a store and a registration file
+fn with_apply<'a>(
+    alloc: Global,
+    all: Command<'a>,
+    name: &'a str,
+) -> Result<Command<'a>, AllocError> {
+    let apply = Command::new(alloc, name).arg(one(alloc, "DIR"))?;
     let apply = apply.arg(one(alloc, "FILE"))?;
     all.subcommand(apply.arg(others(alloc))?)
 }
@@ -200,6 +217,12 @@ fn with_upgrade<'a>(alloc: Global, all: Command<'a>) -> Result<Command<'a>, Allo
     all.subcommand(upgrade.arg(one(alloc, "NEW"))?)
 }
 
+// the same, and `kept`
+fn with_kept<'a>(alloc: Global, all: Command<'a>) -> Result<Command<'a>, AllocError> {
+    let kept = Command::new(alloc, "kept").arg(one(alloc, "DIR"))?;
+    all.subcommand(kept.arg(one(alloc, "ID"))?)
+}
+
 // one word that has to be there
 fn one<'a>(alloc: Global, name: &'a str) -> Arg<'a> {
     Arg::new(alloc, name).required(true).action(ArgAction::Set)
@@ -212,20 +235,21 @@ fn text<'a>(given: &ArgMatches<'a>, name: &str) -> Result<&'a str, CommandError<
 
 // the id, in any text form of a UUID
 fn id<'a>(given: &ArgMatches<'a>) -> Result<Uuid, CommandError<'a>> {
-    match Uuid::parse_str(text(given, "ID")?) {
+    let word = text(given, "ID")?;
+    match Uuid::parse_str(word) {
         Ok(id) => Ok(id),
-        Err(_) => Err(CommandError::WrongWords),
+        Err(_) => Err(CommandError::WrongWord(word)),
     }
 }
 
 // a number of hives, in decimal digits; a sign isn't allowed
 fn hive_count<'a>(word: &'a str) -> Result<HiveCount, CommandError<'a>> {
     if !word.as_bytes().iter().all(|byte| byte.is_ascii_digit()) {
-        return Err(CommandError::WrongWords);
+        return Err(CommandError::WrongWord(word));
     }
     match word.parse::<usize>() {
         Ok(number) if number >= 1 && number <= MOST_HIVES => Ok(HiveCount { number }),
-        _ => Err(CommandError::WrongWords),
+        _ => Err(CommandError::WrongWord(word)),
     }
 }
 

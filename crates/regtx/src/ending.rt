@@ -1,0 +1,24 @@
+//! How the program ends.
+use script_syntax::Status;
+
+/// The status that says that a unit of work isn't kept.
+const NOT_KEPT: u8 = 3;
+
+/// How the program ends.
+#[derive(Clone, Copy, Debug, PartialEq, Eq)]
+pub enum Ending {
+    /// As the replies say that were printed.
+    Replied(Status),
+    /// `kept` has found no commit of the unit of work.
+    NotKept,
+}
+
+impl Ending {
+    /// The number with which the program ends.
+    pub fn code(self) -> u8 {
+        match self {
+            Ending::Replied(status) => status.code(),
+            Ending::NotKept => NOT_KEPT,
+        }
+    }
+}
