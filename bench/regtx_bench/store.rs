@@ -7,12 +7,12 @@ use engine::Engine;
 use file_disk::{FileDisk, Unknown};
 use refusals::Refusal;
 use reg_tree::Trees;
-use script_runner::open_engine;
 use std::alloc::Global;
 use std::fs::{self, File};
 use std::io::ErrorKind;
 use std::rt::Files;
 use std::sync::atomic::AtomicU64;
+use store_driver::open_engine;
 use uuid::Uuid;
 
 /// The hives of a store.
