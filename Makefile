@@ -23,10 +23,10 @@ SHARED = libregtx.so.0
 LIBRARY_FILES = regtx.h libregtx.a $(SHARED)
 PAGES = README.md docs/USING.md docs/SCRIPTS.md docs/REGFILES.md docs/LAB.md docs/SWEEP.md
 # sources, pages and examples; no tests, and nothing that was built
-CLIENTS = $(wildcard clients/*/README.md clients/python/*.py clients/c/*.[ch] \
+CLIENTS = $(wildcard clients/README.md clients/*/README.md clients/python/*.py clients/c/*.[ch] \
     clients/rust/Cargo.toml clients/rust/Cargo.lock clients/rust/src/*.rs clients/rust/examples/*.rs)
 # all that is installed, below PREFIX
-INSTALLED = bin/regtx include/regtx.h lib/libregtx.a lib/$(SHARED) lib/libregtx.so lib/pkgconfig/regtx.pc share/man/man1/regtx.1 \
+INSTALLED = bin/regtx libexec/regtx include/regtx.h lib/libregtx.a lib/$(SHARED) lib/libregtx.so lib/pkgconfig/regtx.pc share/man/man1/regtx.1 \
     share/bash-completion/completions/regtx $(ZSH_FUNCTIONS)/_regtx \
     $(PAGES:%=share/doc/regtx/%) $(CLIENTS:%=share/regtx/%)
 FOLDERS = $(sort $(patsubst %/,%,$(dir $(INSTALLED))))
@@ -64,7 +64,8 @@ install: program library $(MANUAL)
 	for folder in $(FOLDERS); do
 	    test -d "$$root/$$folder" || install -d "$$root/$$folder"
 	done
-	install -m 755 "$$program" "$$root/bin/regtx"
+	install -m 755 "$$program" "$$root/libexec/regtx"
+	sed "s|@PROGRAM@|$$PREFIX/libexec/regtx|" tools/installed_name | install -m 755 /dev/stdin "$$root/bin/regtx"
 	install -m 644 "$$LIBRARY/regtx.h" "$$root/include/regtx.h"
 	install -m 644 "$$LIBRARY/libregtx.a" "$$LIBRARY/$(SHARED)" "$$root/lib"
 	ln -sf $(SHARED) "$$root/lib/libregtx.so"
