@@ -15,7 +15,7 @@ TYPES = ["sz", "expand", "dword", "qword", "multi", "hex"]
 KINDS = {
     "DIR": "folders", "OLD": "folders", "NEW": "folders", "FILE": "files", "SCRIPT": "files", "SOURCE": "files", "TYPE": "types",
     "COMMAND": "commands", "ID": "nothing", "COUNT": "nothing", "HIVE:PATH": "nothing", "NAME": "nothing", "VALUE": "nothing",
-    "PREFIX=HIVE": "nothing", "SECONDS": "nothing",
+    "PREFIX=HIVE": "nothing", "SECONDS": "nothing", "once": "nothing",
 }
 GIVEN = {"folders": "'store one'", "files": "script.txt", "types": "dword", "commands": "run", "nothing": "'0:A B'=c"}
 
@@ -75,7 +75,7 @@ def asked(shell, commands):
 
 def spelled(text):
     """The descriptions of commands as the function of zsh has them, with its signs taken away."""
-    return {re.sub(r"\\([:`])", r"\1", line.strip()[1:-1]) for line in text.splitlines() if re.match(r""" {4}['"][a-z-]+:""", line)}
+    return {re.sub(r"\\([:`])", r"\1", line.strip()[1:-1]) for line in text.splitlines() if re.match(r""" {4}['"][a-z0-9-]+:""", line)}
 
 
 def results(prefix, commands, home):

@@ -12,7 +12,7 @@ SECONDS = 120
 PAGES = ["README.md", *[f"docs/{name}.md" for name in ("LAB", "REGFILES", "SCRIPTS", "SWEEP", "USING")]]
 MANUAL, ZSH, VENDOR_ZSH = "share/man/man1/regtx.1", "share/zsh/site-functions/_regtx", "share/zsh/vendor-completions/_regtx"
 # what has no client among it, with the modes
-FILES = {"bin/regtx": 0o755, "lib/libregtx.so": None, **dict.fromkeys([
+FILES = {"bin/regtx": 0o755, "libexec/regtx": 0o755, "lib/libregtx.so": None, **dict.fromkeys([
     "include/regtx.h", "lib/libregtx.a", "lib/libregtx.so.0", "lib/pkgconfig/regtx.pc", MANUAL, ZSH,
     "share/bash-completion/completions/regtx", *[f"share/doc/regtx/{page}" for page in PAGES],
 ], 0o644)}
@@ -82,7 +82,7 @@ def expected_files():
 def source_of(name, make):
     """The file that an installed one is a copy of; None if it is made for its place."""
     named = {
-        "bin/regtx": make.program, MANUAL: os.path.join(TOP, "out", "regtx.1"), ZSH: os.path.join(TOP, "completions", "_regtx"),
+        "bin/regtx": None, "libexec/regtx": make.program, MANUAL: os.path.join(TOP, "out", "regtx.1"), ZSH: os.path.join(TOP, "completions", "_regtx"),
         "share/bash-completion/completions/regtx": os.path.join(TOP, "completions", "regtx.bash"), "lib/pkgconfig/regtx.pc": None,
     }
     if name in named:
