@@ -17,7 +17,7 @@ _regtx_words() {
 }
 
 _regtx() {
-    local commands="new import upgrade run apply get ls set del export export-json export-tsv dump check play lab sweep about usage"
+    local commands="new import upgrade run apply apply-check kept get get-raw ls set set-raw create del del-tree export export-utf8 export-json export-tsv dump check play lab sweep about usage"
     local types="sz expand dword qword multi hex" first=wait words
     _regtx_words
     COMPREPLY=()
@@ -28,10 +28,11 @@ _regtx() {
     case ${words[1]}:$((${#words[@]} - 1)) in
     *:1) mapfile -t COMPREPLY < <(compgen -W "$commands $first" -- "$2") ;;
     usage:2) mapfile -t COMPREPLY < <(compgen -W "$commands wait" -- "$2") ;;
-    set:5) mapfile -t COMPREPLY < <(compgen -W "$types" -- "$2") ;;
-    new:2 | import:2 | run:2 | apply:2 | get:2 | ls:2 | set:2 | del:2 | upgrade:[23]) compopt -o dirnames ;;
-    run:3 | apply:3 | play:2 | lab:2 | sweep:2 | dump:2) compopt -o default ;;
-    export:2 | export-json:2 | export-tsv:2 | check:2) compopt -o default ;;
+    set:5 | set-raw:5) mapfile -t COMPREPLY < <(compgen -W "$types" -- "$2") ;;
+    set-raw:6) compopt -o default ;;
+    new:2 | import:2 | run:2 | apply:2 | apply-check:2 | kept:2 | get:2 | get-raw:2 | ls:2 | set:2 | set-raw:2 | create:2 | del:2 | del-tree:2 | upgrade:[23]) compopt -o dirnames ;;
+    run:3 | apply:3 | apply-check:3 | play:2 | lab:2 | sweep:2 | dump:2) compopt -o default ;;
+    export:2 | export-utf8:2 | export-json:2 | export-tsv:2 | check:2) compopt -o default ;;
     import:[4-9] | import:1[0-9]) compopt -o default ;;
     esac
 }
