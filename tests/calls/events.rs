@@ -2,6 +2,7 @@
 
 mod calls;
 mod creations;
+mod layouts;
 mod openings;
 mod prepared;
 mod stores;
