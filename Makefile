@@ -5,8 +5,8 @@
 #   make uninstall PREFIX=/usr/local  removes it, with the same DESTDIR
 #   make check                        runs the tests, after it has built without proofs what they run; TESTS="runs words" runs some
 #
-# PROGRAM=FILE is a program, and LIBRARY=FOLDER has a library as tools/c_library makes it, that are built already. PROGRAMS=FOLDER has
-# programs for the tests, such as crates/regtx/out, which has the one that `rt ci` proved; tests/all says more.
+# PROGRAM=FILE is a program, and LIBRARY=FOLDER has a library as tools/c_library.py makes it, that are built already. PROGRAMS=FOLDER has
+# programs for the tests, such as crates/regtx/out, which has the one that `rt ci` proved; tests/all.py says more.
 PREFIX = /usr/local
 DESTDIR =
 PROGRAM =
@@ -41,24 +41,24 @@ all: program library $(MANUAL)
 	@echo "regtx is built; make install PREFIX=FOLDER installs it"
 
 program:
-	@test -n "$$PROGRAM" || tools/build_quick --which regtx >/dev/null
+	@test -n "$$PROGRAM" || tools/build_quick.py --which regtx >/dev/null
 
-# the folder that tools/c_library writes is made anew if it is older than its sources; another one has to have all files
+# the folder that tools/c_library.py writes is made anew if it is older than its sources; another one has to have all files
 library:
-	@test "$$LIBRARY" != out/c || tools/c_library --if-stale out/c
+	@test "$$LIBRARY" != out/c || tools/c_library.py --if-stale out/c
 	for file in $(LIBRARY_FILES); do
 	    test -e "$$LIBRARY/$$file" || { echo "regtx: $$LIBRARY has no $$file" >&2; exit 1; }
 	done
 
-$(MANUAL): tools/manual tools/markdown.py tools/product.py README.md docs/USING.md docs/SCRIPTS.md crates/regtx/src/usages.rt \
+$(MANUAL): tools/manual.py tools/markdown.py tools/product.py README.md docs/USING.md docs/SCRIPTS.md crates/regtx/src/usages.rt \
     crates/regtx/src/about.rt
 	@mkdir -p out
-	tools/manual >$@
+	tools/manual.py >$@
 
 # the pkg-config file comes first, since it refuses a PREFIX; the program's file isn't stripped: its last bytes say what it is
 install: program library $(MANUAL)
-	@config=$$(tools/pkgconfig "$$PREFIX")
-	program=$$(realpath -e "$${PROGRAM:-$$(tools/build_quick --which regtx)}")
+	@config=$$(tools/pkgconfig.py "$$PREFIX")
+	program=$$(realpath -e "$${PROGRAM:-$$(tools/build_quick.py --which regtx)}")
 	about=$$("$$program" about)
 	root=$$DESTDIR$$PREFIX
 	for folder in $(FOLDERS); do
@@ -83,7 +83,7 @@ install: program library $(MANUAL)
 	    echo "regtx: the program that is installed isn't proved: regtx about says what it is" >&2
 
 check:
-	@tests/all $${PROGRAMS:+--programs "$$PROGRAMS"} --library "$$LIBRARY" $$TESTS
+	@tests/all.py $${PROGRAMS:+--programs "$$PROGRAMS"} --library "$$LIBRARY" $$TESTS
 
 # the files that install writes, and then regtx's own folders if they are empty. A DESTDIR holds nobody else's tree, so there all
 # folders go that are empty then; elsewhere bin, lib and their like stay

@@ -29,7 +29,7 @@ def head(bench, commit=None):
     """The begin of the line above a table: the bench, the commit of the program, and where it ran."""
     here = subprocess.run(["git", "rev-parse", "--short", "HEAD"], cwd=TOP, stdout=subprocess.PIPE, text=True, check=True).stdout.strip()
     of = f"with the program of commit {commit}" if commit else f"at commit {here}"
-    return f"`bench/{bench}` {of} on {platform.machine()}, {os.cpu_count()} processors"
+    return f"`bench/{bench}.py` {of} on {platform.machine()}, {os.cpu_count()} processors"
 
 
 def compiled(source, path, *flags):

@@ -1,4 +1,4 @@
-/* What the walks of bench/library share: the sum of what they read, and the processor time.
+/* What the walks of bench/library.py share: the sum of what they read, and the processor time.
  *
  * Two programs list subkeys in different orders, so that the parts of a sum are added up. Each part is a number of all that
  * it stands for: the names of the path, how many subkeys and values a key has, and a value's name, type and data. */

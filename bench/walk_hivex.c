@@ -1,4 +1,4 @@
-/* Opens a hive by libhivex and reads all of it, for bench/library: walk_hivex FILE. Names are ASCII. */
+/* Opens a hive by libhivex and reads all of it, for bench/library.py: walk_hivex FILE. Names are ASCII. */
 #include "walk.h"
 
 #include <hivex.h>

@@ -1,4 +1,4 @@
-/* Opens a hive by libregtx.a and reads all of it, for bench/library: walk_regtx FILE. */
+/* Opens a hive by libregtx.a and reads all of it, for bench/library.py: walk_regtx FILE. */
 #include "regtx.h"
 #include "walk.h"
 

@@ -1,4 +1,4 @@
-# Completion of bash for regtx. `regtx usage` has each command with its words; tests/install compares them.
+# Completion of bash for regtx. `regtx usage` has each command with its words; tests/install.py compares them.
 
 # the words of the line; bash parts them at `:` and `=` too, which stand in keys and prefixes, so they are joined again
 _regtx_words() {

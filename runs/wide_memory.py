@@ -1,4 +1,4 @@
-"""Prints a run over a key whose subkeys lie in groups of groups of leaves, and its values in leaves, changed in each; tests/memory plays it
+"""Prints a run over a key whose subkeys lie in groups of groups of leaves, and its values in leaves, changed in each; tests/memory.py plays it
 too."""
 import os
 import sys

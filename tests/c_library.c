@@ -1,4 +1,4 @@
-/* A program over libregtx.a, for tests/c_library, which says what it is for:
+/* A program over libregtx.a, for tests/c_library.py, which says what it is for:
  *
  *     c_library checks                          tries each call; a line for each thing that is wrong
  *     c_library failing FILE                    the same edits and reads with each allocation refused in turn

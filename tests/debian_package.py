@@ -31,7 +31,7 @@ def expected():
 
 def build(make, folder, **given):
     """Makes the package; answers what is printed, and the status."""
-    words = [os.path.join(TOP, "tools", "package"), folder, f"PROGRAM={make.program}", f"LIBRARY={make.library}"]
+    words = [os.path.join(TOP, "tools", "package.py"), folder, f"PROGRAM={make.program}", f"LIBRARY={make.library}"]
     told, _, status = ran(*words, umask=0o077, env=environment(SOURCE_DATE_EPOCH=str(MOMENT), TMPDIR=folder), **given)
     return told, status
 
@@ -39,7 +39,7 @@ def build(make, folder, **given):
 def builder():
     """What makes a command one of a user who isn't root, if such a one can use the repository and what is made in it."""
     other = as_other()
-    words = [os.path.join(TOP, "tools", "pkgconfig"), "/usr"], ["test", "-r", os.path.join(TOP, "out", "regtx.1")]
+    words = [os.path.join(TOP, "tools", "pkgconfig.py"), "/usr"], ["test", "-r", os.path.join(TOP, "out", "regtx.1")]
     return other if all(ran(*each, **other)[2] == 0 for each in words) else {}
 
 
@@ -51,7 +51,7 @@ def builds(make, made, again):
     for package, given in [(made, {}), (again, other)]:
         os.mkdir(os.path.dirname(package))
         os.chmod(os.path.dirname(package), 0o777)
-        yield expect("tools/package", build(make, os.path.dirname(package), **given), (f"{package}\n", 0))
+        yield expect("tools/package.py", build(make, os.path.dirname(package), **given), (f"{package}\n", 0))
     yield expect("the same package again", content(made) == content(again), True)
 
 

@@ -1,4 +1,4 @@
-"""A hive's tree as random scripts change it, and the lines of these scripts: what tests/edits compares hives with."""
+"""A hive's tree as random scripts change it, and the lines of these scripts: what tests/edits.py compares hives with."""
 from functools import cache
 
 import reader

@@ -1,4 +1,4 @@
-"""Installs the repository into scratch folders, and lists what is there: what the parts of tests/install share."""
+"""Installs the repository into scratch folders, and lists what is there: what the parts of tests/install.py share."""
 import os
 import re
 import shutil

@@ -1,4 +1,4 @@
-//! The wrapper of examples/hive_edit_rust over libregtx.a, for tests/library_examples: `library_examples FILE`.
+//! The wrapper of examples/hive_edit_rust over libregtx.a, for tests/library_examples.py: `library_examples FILE`.
 //!
 //! A hive is opened on one thread, edited on a second one, and written and closed on a third; again and again, with a
 //! line for each round. With `is_copied` or `is_shared` this must not compile.

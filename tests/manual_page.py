@@ -143,7 +143,7 @@ def spoiled(home):
         text = content(os.path.join(copy, name)).decode()
         with open(os.path.join(copy, name), "w", encoding="utf-8") as file:
             file.write(text + added if added else text.replace("        does:", "        does :", 1))
-        printed, why, status = ran(os.path.join(copy, "tools", "manual"))
+        printed, why, status = ran(os.path.join(copy, "tools", "manual.py"))
         yield expect(f"{name} with {added}", (printed, told in why, "Traceback" in why, status), ("", True, False, 1))
 
 

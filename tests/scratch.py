@@ -52,8 +52,8 @@ def shown(thing):
 
 
 def refusal_shim():
-    """The path of the library that refuses allocations, for LD_PRELOAD; tools/failalloc says by which variables."""
-    built = subprocess.run([os.path.join(TOP, "tools", "failalloc"), "library"], stdout=subprocess.PIPE, check=True)
+    """The path of the library that refuses allocations, for LD_PRELOAD; tools/failalloc.py says by which variables."""
+    built = subprocess.run([os.path.join(TOP, "tools", "failalloc.py"), "library"], stdout=subprocess.PIPE, check=True)
     return built.stdout.decode().strip()
 
 
@@ -125,7 +125,7 @@ def program_at(path, prefix, where=None):
 
 
 def skip(part, why):
-    """Says that something can't be tried here; tests/all counts these lines."""
+    """Says that something can't be tried here; tests/all.py counts these lines."""
     print(f"{part}: skipped: {why}")
 
 

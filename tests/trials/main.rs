@@ -3,8 +3,8 @@
 //!
 //! | words | |
 //! |---|---|
-//! | `oom` | makes calls that may be refused memory, for `tools/failalloc each` |
-//! | `retries` | makes calls that try again until there is memory, for `tools/failalloc each` in its mode `at` alone |
+//! | `oom` | makes calls that may be refused memory, for `tools/failalloc.py each` |
+//! | `retries` | makes calls that try again until there is memory, for `tools/failalloc.py each` in its mode `at` alone |
 //! | `spoil` | opens a small store with each byte of its files spoiled in turn |
 //! | `journal` | plays lines about a journal, which come on standard input: `journal.rs` says which |
 //! | `reads` | opens stores, and makes changes of them, on a disk that tells the longest read |

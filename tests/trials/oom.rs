@@ -1,6 +1,6 @@
 //! Calls that may be refused memory.
 //!
-//! `tools/failalloc each` runs them once for each allocation, which is refused, and once for each with all later ones
+//! `tools/failalloc.py each` runs them once for each allocation, which is refused, and once for each with all later ones
 //! refused too. A call that is refused has to answer want of memory and nothing else, and has to leave all as it was:
 //! that is compared, and it is made again. What is compared is looked at without memory (`pictures`), but for claims
 //! (`claims`): they are tried only after a call was refused, so no trial of one hides a refusal.

@@ -1,4 +1,4 @@
-"""Stores, scripts and expectations that the tests of the client share: tests/python_client runs them."""
+"""Stores, scripts and expectations that the tests of the client share: tests/python_client.py runs them."""
 import os
 import uuid
 from contextlib import contextmanager

@@ -1,0 +1,345 @@
+#!/usr/bin/env python3
+"""Installs the repository, and tries what is installed:
+
+    tests/install.py PROGRAM FOLDER     FOLDER has libregtx.a, libregtx.so.0 and regtx.h, as tools/c_library.py writes them
+
+- version: each version that is told is the one of crates/regtx/src/about.rt.
+- files: `make install` and `make uninstall`: which files with which modes, what is refused, and what is left.
+- works: the program, the library with pkg-config, and the three clients, each from the place where it is installed.
+- manual: the manual page has no warning of groff or mandoc, and all that the pages and the usages have.
+- completion: what bash and zsh complete after each word of each command.
+- package: a Debian package, its fields and its files; it is installed by dpkg, tried and removed, if this is root.
+
+What can't be tried here is told, and counts neither as passed nor as failed. The last line is 'N passed, N failed', and the status is 0
+if none failed.
+"""
+import itertools
+import os
+import re
+import shutil
+import signal
+import subprocess
+import sys
+
+TOP = os.path.dirname(os.path.dirname(os.path.abspath(__file__)))
+sys.dont_write_bytecode = True
+sys.path[:0] = [os.path.join(TOP, "tests"), os.path.join(TOP, "runs", "hives")]
+import completion  # noqa: E402
+import debian_package  # noqa: E402
+import manual_page  # noqa: E402
+from installation import (SOURCES, Make, content, copied, differences, environment, expected_files, folders,  # noqa: E402
+                          modes, printed, ran, source_of)
+from scratch import are_there, expect, finish, program_at, tell  # noqa: E402
+
+ID = "00112233-4455-6677-8899-aabbccddeeff"
+UNPROVED = "regtx: the program that is installed isn't proved: regtx about says what it is\n"
+# what a store prints of examples/vendor.txt
+VENDOR = "opened 0\nok\ncreated 2\nok\ncreated 2\ncommitted 1\n"
+# folders that other programs use too
+SHARED = ["bin", "include", "lib", "lib/pkgconfig", "libexec", "share", "share/bash-completion", "share/bash-completion/completions",
+          "share/doc", "share/man", "share/man/man1", "share/zsh", "share/zsh/site-functions"]
+READER = r"""
+#include <regtx.h>
+#include <stdio.h>
+#define TEXT(t) (const uint16_t *)u"" t, sizeof u"" t / 2 - 1
+
+int main(int count, char **words)
+{
+    static uint8_t file[1 << 20];
+    uint8_t data[64] = {0};
+    uint32_t type = 0;
+    size_t len = 0;
+    regtx_hive hive = {0};
+    regtx_info info = {0, 0, 0};
+    FILE *from = count == 2 ? fopen(words[1], "rb") : NULL;
+    if (from == NULL)
+        return 2;
+    len = fread(file, 1, sizeof file, from);
+    fclose(from);
+    uint32_t code = regtx_hive_open(file, len, &hive);
+    if (code == REGTX_OK)
+        code = regtx_hive_info(&hive, TEXT("Software\\Vendor\\Product"), &info);
+    if (code == REGTX_OK)
+        code = regtx_hive_value(&hive, TEXT("Software\\Vendor\\Product"), TEXT("Version"), &type, data, sizeof data, &len);
+    printf("%u: %d subkeys, %d values, type %u, %d bytes, %c%c%c\n", (unsigned)code, (int)info.subkeys, (int)info.values,
+           (unsigned)type, (int)len, data[0], data[2], data[4]);
+    regtx_hive_close(&hive);
+    return code != REGTX_OK;
+}
+"""
+# what examples/software.txt writes
+READ = "0: 0 subkeys, 4 values, type 1, 8 bytes, 1.2\n"
+# what the examples of the clients for C and Rust print, by their pages
+SHOP = "0 of 3 parts were there before\npart 1: committed 1\npart 2: committed 2\npart 3: committed 3\n3 parts are installed\n"
+# a word after a command, such as `[PREFIX=HIVE` and `..]`
+WORD = re.compile(r"[][A-Z:=.]+|\[once\]")
+PYTHON = re.compile(r"^```python\n(.*?)^```$", re.MULTILINE | re.DOTALL)
+
+
+def version():
+    """The version in the source of the program."""
+    return re.search(r'^const VERSION: &str = "(.*)";$', content(os.path.join(TOP, "crates/regtx/src/about.rt")).decode(), re.M)[1]
+
+
+def versions(make, home):
+    """Each version that something tells."""
+    prefix, wanted = os.path.join(home, "versions"), version()
+    make.install(PREFIX=prefix)
+    yield expect("the form", bool(re.fullmatch(r"\d+\.\d+\.\d+", wanted)), True)
+    yield expect("about", printed(os.path.join(prefix, "bin/regtx"), "about").splitlines()[0], f"regtx {wanted}")
+    told = printed("pkg-config", "--modversion", "regtx", env=environment(PKG_CONFIG_PATH=os.path.join(prefix, "lib/pkgconfig")))
+    yield expect("pkg-config", told, f"{wanted}\n")
+    client = os.path.join(prefix, "share/regtx/clients")
+    told = printed(sys.executable, "-Bc", "import regtx; print(regtx.__version__)", cwd=os.path.join(client, "python"))
+    yield expect("the client for Python", told, f"{wanted}\n")
+    for name in ("Cargo.toml", "Cargo.lock"):
+        found = re.findall(r'^name = "regtx-client"\nversion = "(.*)"$', content(os.path.join(client, "rust", name)).decode(), re.M)
+        yield expect(name, found, [wanted])
+    # what pages and tests show of `regtx about` and of the package
+    found = printed("git", "grep", "-hoE", r"regtx[ _][0-9]+(\.[0-9]+)+", cwd=TOP).split()
+    yield expect("pages and tests", {name.removeprefix("regtx").removeprefix("_") for name in found} - {""}, {wanted})
+    title = content(os.path.join(prefix, "share/man/man1/regtx.1")).decode().splitlines()[1]
+    yield expect("the manual", re.findall(r'"regtx (.*?)"', title), [wanted])
+
+
+def wrong_contents(root, make):
+    """Files that aren't what they are copies of."""
+    sources = ((name, source_of(name, make)) for name in expected_files())
+    return [name for name, source in sources if source and content(os.path.join(root, name)) != content(source)]
+
+
+def built(folder):
+    """Each file of a folder, with when it was written."""
+    found = {}
+    for at, _, names in os.walk(folder):
+        found.update({os.path.join(at, name): os.stat(os.path.join(at, name)).st_mtime_ns for name in names})
+    return found
+
+
+def staged(make, home):
+    """What is installed below a DESTDIR, and what is left of it."""
+    for destination, prefix in [("root", "/usr"), ("a blank, it's $(here)", "/opt/regtx-0"), ("slash", "/")]:
+        base = os.path.join(home, destination)
+        # make itself takes one dollar of two
+        given = {"DESTDIR": base.replace("$", "$$"), "PREFIX": prefix}
+        root = base + prefix
+        yield expect(f"{destination}: make install", make("install", **given), ("", UNPROVED, 0))
+        yield expect(f"{destination}: the files", differences(modes(root), expected_files()), ([], [], []))
+        yield expect(f"{destination}: the folders", set(folders(base).values()), {0o755})
+        yield expect(f"{destination}: other contents", wrong_contents(root, make), [])
+        yield expect(f"{destination}: make uninstall", make("uninstall", **given), ("", "", 0))
+        yield expect(f"{destination}: what is left", [*modes(base), *folders(base)], [])
+    yield expect("nothing is there", make("uninstall", DESTDIR=os.path.join(home, "none"), PREFIX="/usr"), ("", "", 0))
+
+
+def shared(make, home):
+    """What others have in the same folders stays, and so do those folders if there is no DESTDIR."""
+    prefix = os.path.join(home, "shared")
+    others = ["bin/other", "share/regtx/store/journal", "share/doc/regtx/notes", "lib/pkgconfig/other.pc"]
+    for name in others:
+        os.makedirs(os.path.dirname(os.path.join(prefix, name)), exist_ok=True)
+        with open(os.path.join(prefix, name), "w", encoding="ascii") as file:
+            file.write("other")
+    os.chmod(os.path.join(prefix, "lib"), 0o700)
+    for _ in range(2):
+        make.install(PREFIX=prefix)
+    yield expect("a folder's mode", folders(prefix)["lib"], 0o700)
+    yield expect("make uninstall", make("uninstall", PREFIX=prefix), ("", "", 0))
+    yield expect("files of others", sorted(modes(prefix)), sorted(others))
+    for name in others[1:3]:
+        os.remove(os.path.join(prefix, name))
+    os.rmdir(os.path.join(prefix, "share/regtx/store"))
+    make.install(PREFIX=prefix)
+    make("uninstall", PREFIX=prefix)
+    yield expect("folders of others", sorted(folders(prefix)), SHARED)
+
+
+def refused(make, home):
+    """What can't be installed; nothing is written then."""
+    base, empty = os.path.join(home, "refused"), os.path.join(home, "empty")
+    os.mkdir(empty)
+    for title, told, given in [
+            ("a blank", "PREFIX must begin with /", {"PREFIX": "/usr/my programs"}),
+            ("a quote", "PREFIX must begin with /", {"PREFIX": "/usr/it's"}),
+            ("a relative path", "PREFIX must begin with /", {"PREFIX": "usr"}),
+            ("no program", "No such file", {"PREFIX": "/usr", "PROGRAM": os.path.join(home, "missing")}),
+            ("no library", "has no regtx.h", {"PREFIX": "/usr", "LIBRARY": empty})]:
+        _, why, status = make("install", DESTDIR=base, **given)
+        yield expect(title, (status, told in why, os.path.exists(base)), (2, True, False))
+    for name in ("regtx.h", "libregtx.a"):
+        shutil.copy(os.path.join(make.library, name), empty)
+    _, why, status = make("install", DESTDIR=base, PREFIX="/usr", LIBRARY=empty)
+    yield expect("half a library", (status, "has no libregtx.so.0" in why, os.path.exists(base)), (2, True, False))
+
+
+def defaults(make, home):
+    """Without PROGRAM and LIBRARY the program that tools/build_quick.py names is installed, and what tools/c_library.py makes if it
+    is asked for what is stale."""
+    copy, base = os.path.join(home, "copy"), os.path.join(home, "defaults")
+    copied([*SOURCES, "docs", "clients", "completions", "Makefile"], copy)
+    for name, text in [("build_quick.py", f"echo '{make.program}'"),
+                       ("c_library.py", f"mkdir -p $2 && cp {make.library}/regtx.h {make.library}/libregtx.* $2 && echo $* >>made")]:
+        with open(os.path.join(copy, "tools", name), "w", encoding="ascii") as file:
+            file.write(f"#!/bin/sh\n{text}\n")
+    told = ran("make", "--silent", "-C", copy, "install", f"DESTDIR={base}", "PREFIX=/usr")
+    yield expect("make install", told, ("", UNPROVED, 0))
+    yield expect("how the library is asked for", content(os.path.join(copy, "made")), b"--if-stale out/c\n")
+    yield expect("the files", differences(modes(os.path.join(base, "usr")), expected_files()), ([], [], []))
+    yield expect("the program", content(os.path.join(base, "usr/libexec/regtx")) == content(make.program), True)
+
+
+def stale(make, home):
+    """tools/c_library.py makes what is missing or older than a source, and nothing else: here by a toolchain that only tells it."""
+    library, tools, told = (os.path.join(home, name) for name in ("library", "tools", "told"))
+    os.mkdir(tools)
+    with open(os.path.join(tools, "rt"), "w", encoding="ascii") as file:
+        file.write(f"#!/bin/sh\necho asked >{told}\nexit 1\n")
+    os.chmod(os.path.join(tools, "rt"), 0o755)
+    words = [os.path.join(TOP, "tools", "c_library.py"), "--if-stale", library]
+    given = {"env": environment(PATH=f"{tools}:{os.environ['PATH']}")}
+    names = ("libregtx.a", "libregtx.so.0", "regtx.h")
+    gone = [(f"without {name}", lambda name=name: os.remove(os.path.join(library, name))) for name in names]
+    old = [(f"with an old {name}", lambda name=name: os.utime(os.path.join(library, name), (0, 0))) for name in names]
+    for title, change in [("as it is", None), *gone, *old]:
+        shutil.rmtree(library, ignore_errors=True)
+        # copies are newer than the sources
+        shutil.copytree(make.library, library, symlinks=True, copy_function=shutil.copyfile)
+        if change:
+            change()
+        status = ran(*words, **given)[2]
+        yield expect(f"a library {title}", (os.path.exists(told), status != 0), (bool(change), bool(change)))
+        if os.path.exists(told):
+            os.remove(told)
+
+
+def files(make, home):
+    """What is installed and removed; which programs are told to be unproved; and that nothing is built."""
+    yield from staged(make, home)
+    yield from shared(make, home)
+    yield from refused(make, home)
+    yield from defaults(make, home)
+    yield from stale(make, home)
+    proved = shutil.copy(make.program, os.path.join(home, "proved"))
+    subprocess.run([os.path.join(TOP, "tools", "mark.py"), proved, "proved"], check=True)
+    given = {"DESTDIR": os.path.join(home, "marked"), "PREFIX": "/usr"}
+    yield expect("a proved program", make("install", PROGRAM=proved, **given), ("", "", 0))
+    before = built(os.path.join(TOP, "out"))
+    yield expect("make", make("all"), ("regtx is built; make install PREFIX=FOLDER installs it\n", "", 0))
+    make.install(**given)
+    yield expect("what was built", differences(built(os.path.join(TOP, "out")), before), ([], [], []))
+
+
+def shell(command, **given):
+    """What a shell prints of a command, its complaints, and its status."""
+    return ran("sh", "-c", command, **given)
+
+
+def library(prefix, home):
+    """A C program that is linked by pkg-config, with either library, reads a hive."""
+    source, hive = os.path.join(home, "reader.c"), os.path.join(TOP, "examples", "software.dat")
+    with open(source, "w", encoding="ascii") as file:
+        file.write(READER)
+    config = environment(PKG_CONFIG_PATH=os.path.join(prefix, "lib/pkgconfig"))
+    cc = "cc -std=c11 -Wall -Wextra -Wpedantic -Werror"
+    command = f"{cc} -o by_library reader.c $(pkg-config --cflags --libs regtx)"
+    yield expect("cc with pkg-config", shell(command, cwd=home, env=config), ("", "", 0))
+    found = environment(LD_LIBRARY_PATH=os.path.join(prefix, "lib"))
+    yield expect("the shared library", ran(os.path.join(home, "by_library"), hive, env=found), (READ, "", 0))
+    linked = shell("readelf -d by_library | grep -c 'NEEDED.*libregtx\\.so\\.0'", cwd=home)[0]
+    yield expect("what it is linked with", linked, "1\n")
+    command = f"{cc} -o by_archive reader.c $(pkg-config --cflags regtx) {prefix}/lib/libregtx.a"
+    yield expect("cc with the archive", shell(command, cwd=home, env=config), ("", "", 0))
+    yield expect("the archive", ran(os.path.join(home, "by_archive"), hive), (READ, "", 0))
+
+
+def clients(prefix, home):
+    """The clients, from their places. Nothing is written there."""
+    place, program = os.path.join(prefix, "share/regtx/clients"), os.path.join(prefix, "bin/regtx")
+    before = modes(place)
+    with open(os.path.join(place, "python/README.md"), encoding="utf-8") as file:
+        example = PYTHON.search(file.read())[1]
+    found = environment(PYTHONPATH=os.path.join(place, "python"), PYTHONDONTWRITEBYTECODE="1",
+                        PATH=f"{os.path.dirname(program)}:{os.environ['PATH']}")
+    os.mkdir(os.path.join(home, "python"))
+    yield expect("Python", ran(sys.executable, "-c", example, cwd=os.path.join(home, "python"), env=found), ("1 1.0\n", "", 0))
+    sources = f"-I{place}/c {place}/c/example.c {place}/c/regtx_*.c"
+    yield expect("the client for C", shell(f"cc -std=c11 -Wall -Wextra -Werror -o c_client {sources}", cwd=home), ("", "", 0))
+    yield expect("C", ran(os.path.join(home, "c_client"), program, "c_shop", cwd=home), (SHOP, "", 0))
+    if are_there("works", "cargo"):
+        given = environment(CARGO_TARGET_DIR=os.path.join(home, "target"), RUSTFLAGS="-D warnings")
+        words = ["build", "--quiet", "--examples", "--offline", "--locked", "--jobs", "1"]
+        words += ["--manifest-path", os.path.join(place, "rust/Cargo.toml")]
+        yield expect("the client for Rust", ran("cargo", *words, env=given), ("", "", 0))
+        yield expect("Rust", ran(os.path.join(home, "target/debug/examples/install"), program, "rust_shop", cwd=home), (SHOP, "", 0))
+    yield expect("what the clients write", differences(modes(place), before), ([], [], []))
+
+
+def works(make, home):
+    """The installed program makes a store; the library and the clients are used from their places."""
+    prefix = os.path.join(home, "works")
+    make.install(PREFIX=prefix)
+    program = os.path.join(prefix, "bin/regtx")
+    yield expect("about", printed(program, "about"), printed(make.program, "about"))
+    for words, same in [("--version", "about"), ("-V", "about"), ("--help", "usage"), ("-h", "usage")]:
+        yield expect(words, ran(program, words), (printed(make.program, same), "", 0))
+    yield expect("the program's status", ran(program, "ls", os.path.join(home, "nothing"), "0:"), ("E16 JournalDamaged\n", "", 1))
+    for words, told in [
+            (["new", "store", ID, "2"], "ok\n"), (["run", "store", os.path.join(TOP, "examples/vendor.txt")], VENDOR),
+            (["get", "store", "0:Software\\Vendor", "Version"], "sz 1.0\n"), (["ls", "store", "1:Services"], "key Vendor\n")]:
+        yield expect(words[0], ran(program, *words, cwd=home), (told, "", 0))
+    yield from library(prefix, home)
+    yield from clients(prefix, home)
+
+
+def usages(program):
+    """Each command with its words and what it does, as the program prints them."""
+    found = []
+    for line in printed(program, "usage").splitlines():
+        name, *rest = line.removeprefix("usage: regtx ").split()
+        words = list(itertools.takewhile(WORD.fullmatch, rest))
+        found.append((name, words, " ".join(rest[len(words):])))
+    return found
+
+
+def collected(results):
+    """What is wrong with each step of a part; a step without which the others can't be tried ends it."""
+    found = []
+    try:
+        found.extend(results)
+    except (OSError, subprocess.SubprocessError, AttributeError, IndexError, KeyError, TypeError) as error:
+        found.append(f"{type(error).__name__}: {error}")
+    return found
+
+
+def ended(number, _):
+    """Ends this by a signal as by an error, so that nothing is left."""
+    sys.exit(f"ended by signal {number}")
+
+
+def main():
+    if len(sys.argv) != 3:
+        sys.exit(__doc__)
+    for number in (signal.SIGINT, signal.SIGTERM, signal.SIGHUP):
+        signal.signal(number, ended)
+    with program_at(sys.argv[1], "install-") as program:
+        make, home = Make(program.path, os.path.abspath(sys.argv[2])), program.home
+        # what a command leaves that is ended goes with this too
+        os.environ["TMPDIR"] = home
+        # it is told to be unproved, whichever it is
+        subprocess.run([os.path.join(TOP, "tools", "mark.py"), program.path, "unproved"], check=True)
+        commands, prefix = usages(program.path), os.path.join(home, "prefix")
+        # what is made in the repository, tests/debian_package.py reads as another user
+        told, why, status = make("install", umask=0o022, PREFIX=prefix)
+        if status:
+            finish([tell("install", [f"make install: status {status}: {told}{why}"])])
+        finish([tell(title, collected(results)) for title, results in [
+            ("version", versions(make, home)),
+            ("files", files(make, home)),
+            ("works", works(make, home)),
+            ("manual", manual_page.results(prefix, commands, version(), home)),
+            ("completion", completion.results(prefix, commands, home)),
+            ("package", debian_package.results(make, version(), READER, READ, home)),
+        ]])
+
+
+main()
