@@ -29,7 +29,7 @@ Windows Registry Editor Version 5.00\r
 "Version"="1.0"\r
 \r
 """,
-    "exactly_once": """\
+    "exactly_once.py": """\
 0 of 5 orders were taken before
 order 1: committed 1
 order 2: committed 2
@@ -71,7 +71,7 @@ whole
 """,
 }
 # what scripts print that are begun again over their folders
-AGAIN = {"exactly_once": ["5 of 5 orders were taken before\n5 orders are taken, 9995 left\n"]}
+AGAIN = {"exactly_once.py": ["5 of 5 orders were taken before\n5 orders are taken, 9995 left\n"]}
 
 
 def results(program, name):

@@ -9,7 +9,7 @@ hives; some use half of the journal's room and more, at which that is done betwe
 the trees after N changes, all of them whole: N at least the last that was acknowledged, and at most the last whose line was sent.
 Of replies, each must be the one that the rules say.
 
-Then examples/exactly_once takes orders into another store, and it, the program or both are ended so, 200 times; some of these within
+Then examples/exactly_once.py takes orders into another store, and it, the program or both are ended so, 200 times; some of these within
 the calls of a commit, such as after the write of its gate, so that no reply tells of it. Begun again, it
 decides by `kept` alone which orders are left. In the end each order must be there once: by the key that it made, by the stock that
 it took one of, and by the number of changes; and with the number that was acknowledged, if one was.
@@ -40,7 +40,7 @@ KILLS, MOST_SECONDS = 200, 240
 LARGE, SMALL = 1_048_576, 40
 # so many changes of large values use more than half of the journal's room
 LARGE_CHANGES = 60
-CLIENT = os.path.join(TOP, "examples", "exactly_once")
+CLIENT = os.path.join(TOP, "examples", "exactly_once.py")
 # what the client begins with, and how many orders there are in all: fewer than a store keeps outcomes
 SHOP, STOCK, ORDERS, MOST_NEW = uuid.UUID("6ba7b810-9dad-11d1-80b4-00c04fd430c8"), 10_000, 2_000, 8
 # what is ended, and the calls of a run: of its opening, four of each commit, and of its end

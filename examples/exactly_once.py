@@ -1,7 +1,7 @@
 #!/usr/bin/env python3
 """Takes orders into a store, each exactly once, though this or the program is killed: begun again, it goes on.
 
-    examples/exactly_once REGTX FOLDER [COUNT]
+    examples/exactly_once.py REGTX FOLDER [COUNT]
 
 REGTX is the program. The store is in FOLDER, and is made if that isn't there. COUNT is how many orders there are, else 5.
 
