@@ -14,7 +14,7 @@ TOP = os.path.dirname(os.path.dirname(os.path.abspath(__file__)))
 sys.dont_write_bytecode = True
 sys.path[:0] = [os.path.join(TOP, "tests"), os.path.join(TOP, "runs", "hives")]
 from cases import number, offsets, patched, values_of  # noqa: E402
-from maker import Key, Value, hive, u16, u32  # noqa: E402
+from maker import Key, Value, hive, u32  # noqa: E402
 from scratch import finish, program_at, shown, tell  # noqa: E402
 
 LOADED, SHARED, BAD_LIST = "loaded", "E15 HiveDamaged 0 Shared", "E15 HiveDamaged 0 BadList"

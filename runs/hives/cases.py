@@ -8,7 +8,7 @@ import os
 import struct
 from dataclasses import dataclass
 
-from maker import NEWEST, NONE, SEGMENT, Key, Value, head, hive, mended, of_minor, u16, u32, u64
+from maker import NEWEST, NONE, SEGMENT, Key, Value, head, hive, mended, of_minor, u16, u32
 
 
 @dataclass
