@@ -1,35 +1,17 @@
 """What is wrong with the completion of bash and zsh: after each word of each command the shells are asked what may follow."""
 import os
-import re
 import shlex
 
 import shells
-from installation import ZSH, content
+from installation import ZSH
+from product import TYPES, is_endless, kinds
 from scratch import expect, skip
 
 BASH = "share/bash-completion/completions/regtx"
 # what a folder has: files and folders, as names of them complete
 FOLDERS, FILES = ["store one", "stores"], ["script.txt", "vendor.reg"]
-TYPES = ["sz", "expand", "dword", "qword", "multi", "hex"]
-# which word of a usage is completed by what; and one that may stand there, to come to the next
-KINDS = {
-    "DIR": "folders", "OLD": "folders", "NEW": "folders", "FILE": "files", "SCRIPT": "files", "SOURCE": "files", "TYPE": "types",
-    "COMMAND": "commands", "ID": "nothing", "COUNT": "nothing", "HIVE:PATH": "nothing", "NAME": "nothing", "VALUE": "nothing",
-    "PREFIX=HIVE": "nothing", "SECONDS": "nothing", "once": "nothing",
-}
+# a word of each kind, to come to the next
 GIVEN = {"folders": "'store one'", "files": "script.txt", "types": "dword", "commands": "run", "nothing": "'0:A B'=c"}
-
-
-def kinds(words):
-    """What completes each word of a usage. A word that may be there again is there twice."""
-    found = []
-    for word in words:
-        if word in ("..", "..]"):
-            found.append(found[-1])
-        else:
-            kind = KINDS.get(word.strip("[]").removesuffix(".."), f"unknown: {word}")
-            found += [kind] * (2 if word.endswith("..") else 1)
-    return found
 
 
 def matches(shell, line):
@@ -47,7 +29,7 @@ def named(words, begun):
 
 def wanted(kind, names, begun=""):
     """What has to match a word of this kind that is begun so."""
-    return named({"folders": FOLDERS, "files": FOLDERS + FILES, "types": TYPES, "commands": names, "nothing": []}.get(kind, [kind]), begun)
+    return named({"folders": FOLDERS, "files": FOLDERS + FILES, "types": TYPES, "commands": names, "nothing": []}[kind], begun)
 
 
 def asked(shell, commands):
@@ -62,8 +44,8 @@ def asked(shell, commands):
         line = f"regtx {name} "
         for kind in kinds(words) if name != "wait" else ["nothing"]:
             yield line, wanted(kind, names)
-            line += f"{GIVEN.get(kind, 'x')} "
-        if not words or not words[-1].endswith(("..", "..]")):
+            line += f"{GIVEN[kind]} "
+        if not is_endless(words):
             yield line, []
     for line, kind, begun in [
             ("regtx run sto", "folders", "sto"), ("regtx run 'store one' v", "files", "v"), ("regtx wait 5 run sto", "folders", "sto"),
@@ -71,11 +53,6 @@ def asked(shell, commands):
             ("regtx import stores 00112233-4455-6677-8899-aabbccddeeff" + " x" * 15 + " s", "files", "s"),
             ("regtx nothing ", "nothing", ""), ("regtx run none/", "nothing", "")]:
         yield line, wanted(kind, names, begun)
-
-
-def spelled(text):
-    """The descriptions of commands as the function of zsh has them, with its signs taken away."""
-    return {re.sub(r"\\([:`])", r"\1", line.strip()[1:-1]) for line in text.splitlines() if re.match(r""" {4}['"][a-z0-9-]+:""", line)}
 
 
 def results(prefix, commands, home):
@@ -93,5 +70,3 @@ def results(prefix, commands, home):
         with make as shell:
             for line, words in asked(shell, commands):
                 yield expect(f"{shell.words[0]}: {line}", matches(shell, line), words)
-    told = spelled(content(os.path.join(prefix, ZSH)).decode())
-    yield expect("the descriptions of zsh", told, {f"{name}:{does}" for name, _, does in commands})

@@ -23,14 +23,13 @@ import sys
 
 TOP = os.path.dirname(os.path.dirname(os.path.abspath(__file__)))
 sys.dont_write_bytecode = True
-sys.path[:0] = [os.path.join(TOP, "tests"), os.path.join(TOP, "runs", "hives")]
+sys.path[:0] = [os.path.join(TOP, "tests"), os.path.join(TOP, "tools"), os.path.join(TOP, "runs", "hives")]
 from maker import Key, hive  # noqa: E402
+from product import usages  # noqa: E402
 from scratch import SECONDS, as_other, expect, finish, limited, program_at, tell  # noqa: E402
 
 ID = "00112233-4455-6677-8899-aabbccddeeff"
-COMMANDS = ["new", "import", "upgrade", "run", "apply", "apply-check", "kept", "get", "get-raw", "ls", "set", "set-raw", "create", "del",
-            "del-tree", "export", "export-utf8", "export-json", "export-tsv", "dump", "check", "play", "lab", "sweep", "wait", "about",
-            "usage"]
+COMMANDS = [name for name, _, _ in usages()]
 # the commands that ask for no word, and the one that stands before another
 BARE = ["wait", "about", "usage"]
 UNREAD, NO_SCRIPT, UNMADE = b"cannot read file\n", b"cannot read script\n", b"cannot make store\n"

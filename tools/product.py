@@ -11,6 +11,13 @@ VERSION = re.compile(r'^const VERSION: &str = "([0-9]+(?:\.[0-9]+)+)";$', re.M)
 COUNT = re.compile(r"^pub const USAGES: \[Usage; (\d+)\] = \[$", re.M)
 USAGE = re.compile(r'^    Usage \{\n        name: "(.+)",\n        call: "(.+)",\n        does: "(.+)",\n    \},$', re.M)
 TITLE = re.compile(r"\A# regtx: (?:an? )?(.+)\n\n(.+(?:\n.+)*)")
+# what completes a word of a usage
+KINDS = {
+    "DIR": "folders", "OLD": "folders", "NEW": "folders", "FILE": "files", "SCRIPT": "files", "SOURCE": "files", "TYPE": "types",
+    "COMMAND": "commands", "ID": "nothing", "COUNT": "nothing", "HIVE:PATH": "nothing", "NAME": "nothing", "VALUE": "nothing",
+    "PREFIX=HIVE": "nothing", "SECONDS": "nothing", "once": "nothing",
+}
+TYPES = ["sz", "expand", "dword", "qword", "multi", "hex"]
 
 
 def source(name):
@@ -38,6 +45,25 @@ def usages():
     if len(usages) != int(found(COUNT, USAGES)[1]):
         raise SystemExit(f"{USAGES} has {found(COUNT, USAGES)[1]} usages, of which {len(usages)} could be read")
     return usages
+
+
+def kinds(words):
+    """What completes each word of a usage. A word that may be there again is there twice."""
+    found = []
+    for word in words:
+        if word in ("..", "..]"):
+            found.append(found[-1])
+            continue
+        name = word.strip("[]").removesuffix("..")
+        if name not in KINDS:
+            raise SystemExit(f"KINDS of tools/product.py doesn't say what completes {name}")
+        found += [KINDS[name]] * (2 if word.endswith("..") else 1)
+    return found
+
+
+def is_endless(words):
+    """Whether the last word of a usage may be there again."""
+    return bool(words) and words[-1].endswith(("..", "..]"))
 
 
 def summary():
