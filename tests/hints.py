@@ -30,8 +30,8 @@ from scratch import SECONDS, as_other, expect, finish, limited, program_at, tell
 
 ID = "00112233-4455-6677-8899-aabbccddeeff"
 COMMANDS = [name for name, _, _ in usages()]
-# the commands that ask for no word, and the one that stands before another
-BARE = ["wait", "about", "usage"]
+# the commands that ask for no word
+BARE = [name for name, call, _ in usages() if all(word.startswith("[") for word in call.split()[1:])]
 UNREAD, NO_SCRIPT, UNMADE = b"cannot read file\n", b"cannot read script\n", b"cannot make store\n"
 UNOPENED, FAULT, NO_JOURNAL = b"cannot open store\n", b"E13 DiskFault\n", b"E16 JournalDamaged\n"
 MISSING, FOLDER, DENIED = "No such file or directory", "Is a directory", "Permission denied"
@@ -77,7 +77,8 @@ def made(program, folder, lines=("create 0:A",)):
 def words(program):
     """Wrong words, and what is wrong with what is told of them."""
     for name in COMMANDS:
-        for given in ([[name, "--help"]] if name in BARE[1:] else [] if name in BARE else [[name], [name, "--help"]]):
+        # after `wait` stands another command
+        for given in [] if name == "wait" else [[name, "--help"]] if name in BARE else [[name], [name, "--help"]]:
             printed, status, text = shown(program, *given)
             yield expect(f"{given}", (printed, status, text.count("\n")), (b"wrong words\n", 2, 1))
             yield None if text.startswith(f"usage: regtx {name} ") else f"{given}: {text!r}"
