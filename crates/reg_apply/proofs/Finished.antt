@@ -1,9 +1,9 @@
 -- How an application ends.
 use Rattle.std.proofs.Common.{◌≡◌, inl, inr, ℕ, List, Option, None, Result, Ok, Err, IfOk, refl}
 use Rattle.store_model.specs.Machine.{Machine}
-use Rattle.one_change.specs.Commits.{FailsToCommit, KeepsAccepted}
-use Rattle.one_change.proofs.Transacting.{keeps_on}
-use Rattle.one_change.proofs.Waiting.{accepts_on}
+use Rattle.store_change.specs.Commits.{FailsToCommit, KeepsAccepted}
+use Rattle.store_change.proofs.Transacting.{keeps_on}
+use Rattle.store_change.proofs.Waiting.{accepts_on}
 use Rattle.reg_prefixes.specs.declared.prefix.Prefix.{Prefix}
 use Rattle.reg_file.specs.declared.file.RegFile.{RegFile}
 use Rattle.reg_apply.specs.declared.outcome.Outcome.{Outcome}

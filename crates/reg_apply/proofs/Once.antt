@@ -1,8 +1,8 @@
 -- How an application ends, for the unit of work that it is for.
 use Rattle.std.proofs.Common.{inl, inr, ℕ, List, Some, None}
 use Rattle.store_model.specs.Machine.{Machine}
-use Rattle.one_change.specs.Commits.{KeepsAccepted}
-use Rattle.one_change.proofs.Transacting.{keeps_on, keeps_same}
+use Rattle.store_change.specs.Commits.{KeepsAccepted}
+use Rattle.store_change.proofs.Transacting.{keeps_on, keeps_same}
 use Rattle.reg_prefixes.specs.declared.prefix.Prefix.{Prefix}
 use Rattle.reg_file.specs.declared.file.RegFile.{RegFile}
 use Rattle.reg_apply.specs.declared.outcome.Outcome.{Outcome}

@@ -13,7 +13,7 @@ use Rattle.store_driver.specs.Openings.{IsOpenedOn, LeavesPrefix, MayNotOpen, se
 use Rattle.reg_prefixes.specs.declared.prefix.Prefix.{Prefix}
 use Rattle.change_plan.specs.Plans.{Planned}
 use Rattle.commit_journal.specs.Store.{Store}
-use Rattle.one_change.specs.Commits.{AcceptsOps, Commits, FailsToCommit, KeepsAccepted}
+use Rattle.store_change.specs.Commits.{AcceptsOps, Commits, FailsToCommit, KeepsAccepted}
 use Rattle.reg_file.specs.declared.fault.FaultKind.TheVariants as kind
 use Rattle.reg_file.specs.declared.file.RegFile.{RegFile}
 use Rattle.reg_apply.specs.declared.place.Place.{Place}

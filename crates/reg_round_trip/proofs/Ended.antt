@@ -9,7 +9,7 @@ use Rattle.reg_prefixes.specs.declared.prefix.Prefix.{Prefix}
 use Rattle.reg_file.specs.Files.{reg_file_of}
 use Rattle.reg_file.specs.declared.fault.Fault.{Fault}
 use Rattle.change_plan.specs.Plans.{Planned}
-use Rattle.one_change.proofs.NamedTrees.{named_after}
+use Rattle.store_change.proofs.NamedTrees.{named_after}
 use Rattle.reg_apply.specs.declared.outcome.Outcome.{Outcome}
 use Rattle.reg_apply.specs.declared.outcome.Outcome.TheVariants.{Applied, BadFile, NoHive, Denied, Refused}
 use Rattle.reg_apply.specs.Applied.{first_plan, StopsIn, Ends}

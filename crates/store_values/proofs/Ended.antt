@@ -8,9 +8,9 @@ use Rattle.store_model.specs.Invariant.{AreLegalChanges}
 use Rattle.change_plan.specs.declared.edit.Edit.{Edit}
 use Rattle.change_plan.specs.Plans.{Planned}
 use Rattle.change_plan.proofs.LegalPlans.{IsLegalPlan, edit_on, fresh_plan}
-use Rattle.one_change.specs.Commits.{Commits, FailsToCommit, KeepsAccepted}
-use Rattle.one_change.proofs.Transacting.{keeps_on}
-use Rattle.one_change.proofs.Waiting.{accepts_on}
+use Rattle.store_change.specs.Commits.{Commits, FailsToCommit, KeepsAccepted}
+use Rattle.store_change.proofs.Transacting.{keeps_on}
+use Rattle.store_change.proofs.Waiting.{accepts_on}
 use Rattle.store_values.specs.declared.change.Change.{Change}
 use Rattle.store_values.specs.Changes.{IsPlanned, TakesEdits, edits_of, first_plan}
 use Rattle.store_values.specs.Outcomes.{AllOrNothing, Ends}

@@ -11,7 +11,7 @@ use Rattle.script_syntax.specs.Replies.{reply_line}
 use Rattle.store_driver.specs.Work.{MakesSteps}
 use Rattle.store_driver.specs.Openings.{IsOpenedOn, LeavesPrefix, MayNotOpen, session_0}
 use Rattle.change_plan.specs.Plans.{Planned}
-use Rattle.one_change.specs.Commits.{AcceptsOps, Commits, FailsToCommit, KeepsAccepted}
+use Rattle.store_change.specs.Commits.{AcceptsOps, Commits, FailsToCommit, KeepsAccepted}
 use Rattle.store_values.specs.declared.change.Change.{Change}
 use Rattle.store_values.specs.declared.change_result.ChangeResult.{ChangeResult}
 use Rattle.store_values.specs.Changes.{IsDenied, IsPlanned}

@@ -9,7 +9,7 @@ ghost use Rattle.script_syntax.specs.declared.reply.ReplyLine.TheVariants as rep
 ghost use Rattle.script_syntax.specs.Replies.{reply_line};
 ghost use Rattle.store_driver.specs.Later.{IsLater};
 ghost use Rattle.store_driver.specs.Openings.{LeavesLife};
-ghost use Rattle.one_change.specs.Commits.{KeepsAccepted};
+ghost use Rattle.store_change.specs.Commits.{KeepsAccepted};
 ghost use Rattle.store_values.specs.Outcomes.{Ends, Finishes, IsPrinted, LeavesStore, ReportsChange};
 
 use crate::change::Change;
@@ -18,10 +18,10 @@ use crate::edits::planned;
 use crate::reply::{print_outcome, print_refusal};
 use disk_model::Disk;
 use engine::Engine;
-use one_change::{bytes_aside, commit};
 use refusals::Refusal;
 use std::alloc::Global;
 use std::io::{self, Write};
+use store_change::{bytes_aside, commit};
 use store_driver::{open_store, run_until_idle};
 use uuid::Uuid;
 

@@ -5,7 +5,7 @@ use Rattle.store_model.specs.Invariant.{AreLegalChanges}
 use Rattle.store_driver.proofs.Later.{later_same}
 use Rattle.change_plan.specs.Plans.{Planned}
 use Rattle.change_plan.proofs.LegalPlans.{IsLegalPlan, fresh_plan}
-use Rattle.one_change.specs.Commits.{FailsToCommit}
+use Rattle.store_change.specs.Commits.{FailsToCommit}
 use Rattle.store_model.specs.Machine.{named_trees}
 use Rattle.reg_apply.specs.Applied.{TakesAll}
 use Rattle.reg_apply.proofs.LegalPlans.{same_moment, statements_on}

@@ -1,7 +1,7 @@
 use Rattle.std.proofs.Common.{Some, None, refl}
 use Rattle.store_driver.proofs.Later.{later_same}
-use Rattle.one_change.proofs.Transacting.{keeps_same}
-use Rattle.one_change.proofs.Steps.{steps_keep}
+use Rattle.store_change.proofs.Transacting.{keeps_same}
+use Rattle.store_change.proofs.Steps.{steps_keep}
 use Rattle.reg_apply.proofs.Finished.{no_steps}
 use Rattle.reg_apply.proofs.run.report.Goals as goal
 

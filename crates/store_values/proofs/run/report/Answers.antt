@@ -1,6 +1,6 @@
 use Rattle.std.proofs.Common.{Some, None}
 use Rattle.store_driver.proofs.Later.{later_same}
-use Rattle.one_change.proofs.Steps.{steps_keep}
+use Rattle.store_change.proofs.Steps.{steps_keep}
 use Rattle.store_values.proofs.run.report.Goals as goal
 
 pub returns-in_err-told-clause-later : goal.returns-in_err-told-clause-later

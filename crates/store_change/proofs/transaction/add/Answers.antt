@@ -1,5 +1,5 @@
-use Rattle.one_change.proofs.Transacting.{in_added, not_opened}
-use Rattle.one_change.proofs.transaction.add.Goals as goal
+use Rattle.store_change.proofs.Transacting.{in_added, not_opened}
+use Rattle.store_change.proofs.transaction.add.Goals as goal
 
 pub returns-in-Added-clause-added : goal.returns-in-Added-clause-added
 returns-in-Added-clause-added g c = λ first id ops has is_legal.

@@ -4,12 +4,12 @@ use Rattle.reg_tree.specs.declared.op.Op.{Op}
 use Rattle.store_model.specs.Machine.{trees_now}
 use Rattle.store_model.specs.Invariant.{AreLegalChanges}
 use Rattle.store_driver.proofs.Later.{later_on}
-use Rattle.one_change.specs.Commits.{FailsToCommit, InTransaction, StopsInTransaction}
+use Rattle.store_change.specs.Commits.{FailsToCommit, InTransaction, StopsInTransaction}
 use Rattle.std.proofs.lemmas.List.{append-nil}
-use Rattle.one_change.proofs.NamedTrees.{named_legal}
-use Rattle.one_change.proofs.Transacting.{keeps_on, legal_at, none_left}
-use Rattle.one_change.proofs.Waiting.{accepts_on, wait_stops, waited_keeps, waited_durable}
-use Rattle.one_change.proofs.whole.commit.Goals as goal
+use Rattle.store_change.proofs.NamedTrees.{named_legal}
+use Rattle.store_change.proofs.Transacting.{keeps_on, legal_at, none_left}
+use Rattle.store_change.proofs.Waiting.{accepts_on, wait_stops, waited_keeps, waited_durable}
+use Rattle.store_change.proofs.whole.commit.Goals as goal
 
 pub loop-op-init : goal.loop-op-init
 loop-op-init g c =

@@ -3,7 +3,7 @@ ghost use Rattle.std.specs.Prelude.{◌≡◌, true, IfOk, IfErr};
 ghost use Rattle.store_model.specs.Invariant.{AreLegalChanges};
 ghost use Rattle.store_model.specs.Machine.{is_open, named_trees};
 ghost use Rattle.store_driver.specs.Later.{IsLater};
-ghost use Rattle.one_change.specs.Commits.{Commits, FailsToCommit};
+ghost use Rattle.store_change.specs.Commits.{Commits, FailsToCommit};
 
 use crate::transaction::{accept, add, begin};
 use disk_model::Disk;

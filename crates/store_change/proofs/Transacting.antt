@@ -18,7 +18,7 @@ use Rattle.store_model.specs.Machine.{Machine, commit_change, commit_ops, found_
 use Rattle.store_model.specs.Acts.{AddsOp, OpensKey}
 use Rattle.store_model.specs.Steps.{Begins, ChangesSlots, CommitsTx}
 use Rattle.store_model.specs.declared.handle.Tx.{Tx}
-use Rattle.one_change.specs.Commits.{AcceptsOps, InTransaction, KeepsAccepted, change_of, number_of}
+use Rattle.store_change.specs.Commits.{AcceptsOps, InTransaction, KeepsAccepted, change_of, number_of}
 
 -- a number equals itself
 same_number : (n : ℕ) → (n == n) ≡ true

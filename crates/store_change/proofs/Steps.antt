@@ -9,8 +9,8 @@ use Rattle.store_model.specs.declared.event.Event.TheVariants.{JournalStep, Flus
 use Rattle.store_model.specs.declared.event.Reply.{Reply}
 use Rattle.store_model.specs.declared.event.Reply.TheVariants as reply
 use Rattle.store_driver.specs.Work.{IsStep, MakesSteps}
-use Rattle.one_change.specs.Commits.{KeepsAccepted}
-use Rattle.one_change.proofs.Transacting.{keeps_on, keeps_same}
+use Rattle.store_change.specs.Commits.{KeepsAccepted}
+use Rattle.store_change.proofs.Transacting.{keeps_on, keeps_same}
 
 -- a step that is refused accepts nothing
 fails_keep : (old new : Machine) (wanted : Option Refusal) (why : Refusal) → StepFails old wanted why new → KeepsAccepted old new

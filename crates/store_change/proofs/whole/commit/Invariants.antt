@@ -1,8 +1,8 @@
 use Rattle.std.proofs.Common.{◌≡◌, ◌++◌, length}
 use Rattle.std.specs.Vec.Iter.{into_iter_items, into_iter_len}
 use Rattle.store_driver.specs.Later.{IsLater}
-use Rattle.one_change.specs.Commits.{InTransaction}
-use Rattle.one_change.proofs.whole.commit.Given as goal
+use Rattle.store_change.specs.Commits.{InTransaction}
+use Rattle.store_change.proofs.whole.commit.Given as goal
 
 -- the operations so far are the transaction's, and the others are left
 abbrev pub invariant-loop-op : goal.invariant-loop-op

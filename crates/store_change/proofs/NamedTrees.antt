@@ -21,7 +21,7 @@ use Rattle.store_model.specs.Machine.{Machine, commit_ops, has_outcomes, last_nu
 use Rattle.store_model.specs.Transactions.{fresh_transaction}
 use Rattle.commit_outcomes.specs.Units.{unit_name}
 use Rattle.store_model.proofs.Hives.{applied_on}
-use Rattle.one_change.specs.Commits.{AcceptsOps, change_of}
+use Rattle.store_change.specs.Commits.{AcceptsOps, change_of}
 
 -- What is among the first is there among all, and setting it commutes with taking the first. Setting another leaves them.
 

@@ -6,7 +6,7 @@ ghost use Rattle.reg_tree.specs.declared.op.Op.{Op as AnyOp};
 ghost use Rattle.store_model.specs.Machine.{Machine, is_open, last_number, trees_now};
 ghost use Rattle.store_model.specs.Steps.{Step};
 ghost use Rattle.store_driver.specs.Later.{IsLater};
-ghost use Rattle.one_change.specs.Commits.{AcceptsOps, InTransaction, KeepsAccepted, number_of};
+ghost use Rattle.store_change.specs.Commits.{AcceptsOps, InTransaction, KeepsAccepted, number_of};
 
 use disk_model::Disk;
 use engine::Engine;

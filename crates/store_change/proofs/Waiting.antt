@@ -8,8 +8,8 @@ use Rattle.store_model.specs.Steps.{Step, Run}
 use Rattle.store_model.specs.declared.event.Event.TheVariants.{Acked, JournalStep}
 use Rattle.store_model.specs.declared.event.Reply.TheVariants.{NotYet, Stepped, Refused}
 use Rattle.store_driver.specs.Waits.{IsWaited, Waits}
-use Rattle.one_change.specs.Commits.{AcceptsOps, FailsToCommit, KeepsAccepted, number_of}
-use Rattle.one_change.proofs.Transacting.{keeps_same, keeps_on}
+use Rattle.store_change.specs.Commits.{AcceptsOps, FailsToCommit, KeepsAccepted, number_of}
+use Rattle.store_change.proofs.Transacting.{keeps_same, keeps_on}
 
 -- a step of the journal accepts nothing, whether it is made or refused
 made_keeps : (old new : Machine) (progress : Progress) → Step old JournalStep (Stepped progress) new → KeepsAccepted old new
