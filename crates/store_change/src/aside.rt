@@ -1,5 +1,5 @@
 //! What a commit adds to the operations of its transaction.
-ghost use Rattle.std.specs.Prelude.{◌≡◌, ◌≤◌};
+ghost use Rattle.std.specs.Prelude.{◌≡◌, ◌≤◌, nat_lt, if◌then◌else◌};
 ghost use Rattle.store_model.specs.declared.room.TheConstants.{MOST_OUTCOME_BYTES};
 ghost use Rattle.store_model.specs.Machine.{outcome_bytes};
 
@@ -15,9 +15,13 @@ pub fn bytes_aside<D: Disk>(engine: &Engine<D>) -> u64
     ensures aside { result ≡ outcome_bytes engine.now.machine }
     ensures few { result ≤ MOST_OUTCOME_BYTES }
 {
-    if usize::from(engine.hives()) < engine.trees().len() {
-        MOST_OUTCOME_BYTES
-    } else {
-        0
-    }
+    bytes_aside_in(usize::from(engine.hives()), engine.trees().len())
+}
+
+/// The same of a store with so many trees, if calls name so many hives of them: it keeps outcomes if it has more trees.
+pub fn bytes_aside_in(hives: usize, trees: usize) -> u64
+    ensures aside { result ≡ (if nat_lt hives trees then MOST_OUTCOME_BYTES else 0) }
+    ensures few { result ≤ MOST_OUTCOME_BYTES }
+{
+    if hives < trees { MOST_OUTCOME_BYTES } else { 0 }
 }
