@@ -1,5 +1,5 @@
 -- How a change of a store ends.
-use Rattle.std.proofs.Common.{◌≡◌, inl, inr, ℕ, List, [], ◌∷◌, Result, Ok, Err, IfOk, IfErr, sym, ◌∙◌, ap, subst}
+use Rattle.std.proofs.Common.{◌≡◌, inl, inr, ℕ, List, [], ◌∷◌, Result, Ok, Err, IfOk, IfErr, refl, sym, ◌∙◌, ap, subst}
 use Rattle.refusals.specs.declared.refusal.Refusal.{Refusal}
 use Rattle.reg_tree.specs.Maps.{TreeMap}
 use Rattle.reg_tree.specs.declared.op.Op.{Op}
@@ -8,12 +8,11 @@ use Rattle.store_model.specs.Invariant.{AreLegalChanges}
 use Rattle.change_plan.specs.declared.edit.Edit.{Edit}
 use Rattle.change_plan.specs.Plans.{Planned}
 use Rattle.change_plan.proofs.LegalPlans.{IsLegalPlan, edit_on, fresh_plan}
-use Rattle.store_change.specs.Commits.{Commits, FailsToCommit, KeepsAccepted}
-use Rattle.store_change.proofs.Transacting.{keeps_on}
-use Rattle.store_change.proofs.Waiting.{accepts_on}
+use Rattle.store_change.specs.Commits.{Commits, FailsToCommit}
+use Rattle.store_change.specs.Reports.{AllOrNothing}
 use Rattle.store_values.specs.declared.change.Change.{Change}
 use Rattle.store_values.specs.Changes.{IsPlanned, TakesEdits, edits_of, first_plan}
-use Rattle.store_values.specs.Outcomes.{AllOrNothing, Ends}
+use Rattle.store_values.specs.Outcomes.{AsksPlanned, EndsChange}
 
 edits_on : (trees : List TreeMap) (old new : Planned) (edits : List Edit) → IsLegalPlan trees old → TakesEdits old edits new → IsLegalPlan trees new
 edits_on trees old new [] is takes = subst (IsLegalPlan trees) (sym takes) is
@@ -30,16 +29,16 @@ planned_legal trees aside moment change plan is =
     subst (AreLegalChanges trees plan.ops) (same_moment (first_plan trees aside moment) plan (edits_of change) is.taken) legal.legal
 
 -- however it ends, all was accepted or nothing
-pub all_or_nothing : (moment : ℕ) (change : Change) (old mid new : Machine) (outcome : Result ℕ Refusal) → Ends moment change old outcome mid → KeepsAccepted mid new → AllOrNothing moment change old new
-all_or_nothing moment change old mid new (Ok number) ends keeps = inr (ends.0, ends.1, ends.2, accepts_on old mid new ends.1 moment _ ends.3.accepts keeps)
-all_or_nothing moment change old mid new (Err why) (inl denied) keeps = inl (keeps_on old mid new denied.0 keeps)
-all_or_nothing moment change old mid new (Err why) (inr failed) keeps = by_case failed.3
+pub all_or_nothing : (moment : ℕ) (change : Change) (old new : Machine) (outcome : Result ℕ Refusal) → EndsChange moment change old outcome new → AllOrNothing (AsksPlanned moment change) moment old new
+all_or_nothing moment change old new (Ok number) ends = inr (ends.1, ends.0.ops, (ends.0, ends.2, refl), ends.3.accepts)
+all_or_nothing moment change old new (Err why) (inl denied) = inl denied.0
+all_or_nothing moment change old new (Err why) (inr failed) = by_case failed.3
   where
-    by_case : FailsToCommit old failed.1 moment failed.0.ops why mid → AllOrNothing moment change old new
-    by_case (inl none) = inl (keeps_on old mid new none.0 keeps)
-    by_case (inr accepts) = inr (failed.0, failed.1, failed.2, accepts_on old mid new failed.1 moment _ accepts.0 keeps)
+    by_case : FailsToCommit old failed.1 moment failed.0.ops why new → AllOrNothing (AsksPlanned moment change) moment old new
+    by_case (inl none) = inl none.0
+    by_case (inr accepts) = inr (failed.1, failed.0.ops, (failed.0, failed.2, refl), accepts.0)
 
 -- how the commit of a change that was planned ends
-pub commit_ends : (id : List ℕ) (moment : ℕ) (change : Change) (old new : Machine) (plan : Planned) (ops : List Op) (outcome : Result ℕ Refusal) → IsPlanned (named_trees old) (outcome_bytes old) moment change plan → ops ≡ plan.ops → IfOk outcome (λ number. Commits old id moment ops number new) → IfErr outcome (λ why. FailsToCommit old id moment ops why new) → Ends moment change old outcome new
+pub commit_ends : (id : List ℕ) (moment : ℕ) (change : Change) (old new : Machine) (plan : Planned) (ops : List Op) (outcome : Result ℕ Refusal) → IsPlanned (named_trees old) (outcome_bytes old) moment change plan → ops ≡ plan.ops → IfOk outcome (λ number. Commits old id moment ops number new) → IfErr outcome (λ why. FailsToCommit old id moment ops why new) → EndsChange moment change old outcome new
 commit_ends id moment change old new plan ops (Ok number) is same commits fails = (plan, id, is, subst (λ (os : List Op). Commits old id moment os number new) same commits)
 commit_ends id moment change old new plan ops (Err why) is same commits fails = inr (plan, id, is, subst (λ (os : List Op). FailsToCommit old id moment os why new) same fails)

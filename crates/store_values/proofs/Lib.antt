@@ -1,4 +1,3 @@
 pub mod Lists
-pub mod Results
 pub mod Ended
 pub mod Kept

@@ -9,7 +9,7 @@ use Rattle.hive_files.specs.Frames.{RefusalHasCause}
 use Rattle.commit_journal.specs.Store.{Store}
 use Rattle.recovery.specs.Recovered.{IsNoStore, IsRecovered}
 use Rattle.store_values.specs.declared.change_result.ChangeResult.{ChangeResult}
-use Rattle.store_values.specs.Outcomes.{IsPrinted}
+use Rattle.store_values.specs.Outcomes.{PrintsOutcome}
 
 -- a number that may not be there
 abbrev pub number_or : Option ℕ → Result ℕ Refusal
@@ -25,5 +25,5 @@ commit_answer store trees id =
 -- The files recover trees, if the disk is faithful, and their answer is printed; or they are refused, and that is.
 abbrev pub ReportsCommit : Type 0 → Type 0 → (ℕ → List ℕ) → List ℕ → Option (List ℕ) → Option (List ℕ) → ChangeResult → Type 0
 ReportsCommit failed faithful files id before after told =
-    ((store : Store) × (number : ℕ) × (trees : List TreeMap) × (faithful → IsRecovered files store number trees) × IsPrinted before after (commit_answer store trees id) None told)
-    ⊎ ((why : Refusal) × RefusalHasCause failed (IsNoStore faithful files) why × IsPrinted before after (Err why) None told)
+    ((store : Store) × (number : ℕ) × (trees : List TreeMap) × (faithful → IsRecovered files store number trees) × PrintsOutcome before after (commit_answer store trees id) None told)
+    ⊎ ((why : Refusal) × RefusalHasCause failed (IsNoStore faithful files) why × PrintsOutcome before after (Err why) None told)

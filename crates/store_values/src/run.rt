@@ -1,28 +1,21 @@
 //! A change from the opening of the store to its end.
-ghost use Rattle.std.specs.Prelude.{◌≡◌, ◌⊎◌, ◌<◌, Option, None, IfOk, true};
-ghost use Rattle.std.specs.Io.KnownBytes.{Appends};
-ghost use Rattle.refusals.specs.declared.refusal.Refusal.{Refusal as AnyRefusal};
+ghost use Rattle.std.specs.Prelude.{◌≡◌, ◌⊎◌, ◌<◌, IfOk, true};
 ghost use Rattle.recovery.specs.Recovered.{seen_in};
 ghost use Rattle.store_model.specs.Machine.{is_open};
-ghost use Rattle.script_syntax.specs.declared.status.Status.TheVariants as status;
-ghost use Rattle.script_syntax.specs.declared.reply.ReplyLine.TheVariants as reply;
-ghost use Rattle.script_syntax.specs.Replies.{reply_line};
 ghost use Rattle.store_driver.specs.Later.{IsLater};
 ghost use Rattle.store_driver.specs.Openings.{LeavesLife};
-ghost use Rattle.store_change.specs.Commits.{KeepsAccepted};
-ghost use Rattle.store_values.specs.Outcomes.{Ends, Finishes, IsPrinted, LeavesStore, ReportsChange};
+ghost use Rattle.store_values.specs.Outcomes.{EndsChange, LeavesChange, ReportsChange};
 
 use crate::change::Change;
 use crate::change_result::ChangeResult;
 use crate::edits::planned;
-use crate::reply::{print_outcome, print_refusal};
+use crate::reply::{report_told, write_outcome};
 use disk_model::Disk;
 use engine::Engine;
 use refusals::Refusal;
 use std::alloc::Global;
 use std::io::{self, Write};
-use store_change::{bytes_aside, commit};
-use store_driver::{open_store, run_until_idle};
+use store_change::{StoreChange, bytes_aside, commit, make_change};
 use uuid::Uuid;
 
 /// Opens the store on a disk, makes a change at a moment (100 nanoseconds since the year 1601), and writes one line: the
@@ -49,19 +42,69 @@ pub fn change_store<D: Disk, W: Write>(
         (W.contents writer.new)) }
     ensures left { LeavesLife (D.failures disk < D.failures result.0) (D.faithful result.0)
         (D.state_at disk (D.clock disk)) (D.state_at result.0 (D.clock result.0))
-        ⊎ LeavesStore D.faithful (seen_in (D.state_at disk (D.clock disk))) moment change
+        ⊎ LeavesChange D.faithful (seen_in (D.state_at disk (D.clock disk))) moment change
         (D.faithful result.0) (D.state_at result.0) (D.clock result.0) }
 {
-    match open_store(alloc, disk) {
-        Ok((engine, number)) => {
-            let mut engine = engine;
-            let outcome = make(alloc, &mut engine, number, moment, change);
-            let told = report(&mut engine, outcome, writer);
-            engine.keeps_a_prefix(); // for the prover
-            engine.reads_a_prefix(); // for the prover
-            (engine.into_disk(), told)
-        }
-        Err((refusal, disk)) => (disk, print_outcome(Err(refusal), writer)),
+    let (disk, report) = make_change(alloc, disk, TimedChange { moment, change }, writer);
+    match report {
+        Ok(report) => (disk, Ok(report_told(report.outcome, report.refused_step))),
+        Err(error) => (disk, Err(error)),
+    }
+}
+
+// a change at a moment
+#[derive(Drop)]
+struct TimedChange {
+    moment: u64,
+    change: Change,
+}
+
+impl StoreChange for TimedChange {
+    ghost use Rattle.std.specs.Prelude.{◌≡◌, Err, OnOk};
+    ghost use Rattle.std.specs.Io.KnownBytes.{Appends};
+    ghost use Rattle.store_values.specs.Outcomes.{AsksPlanned, EndsChange, is_committed, outcome_line};
+
+    type Outcome = Result<u64, Refusal>;
+
+    ghost moment = { λ it. it.moment };
+
+    ghost may_ask = { λ it. AsksPlanned it.moment it.change };
+
+    ghost can_end = { λ it. EndsChange it.moment it.change };
+
+    ghost is_made = { is_committed };
+
+    ghost refusal_of = { λ why. Err why };
+
+    ghost line = { outcome_line };
+
+    fn make<D: Disk>(
+        self,
+        alloc: Global,
+        engine: &mut Engine<D>,
+        number: u64,
+    ) -> Result<u64, Refusal> {
+        let TimedChange { moment, change } = self;
+        make(alloc, engine, number, moment, change)
+    }
+
+    fn is_made(outcome: &Result<u64, Refusal>) -> bool
+        ensures { result ≡ is_committed outcome.now }
+    {
+        outcome.is_ok()
+    }
+
+    fn refusal_of(refusal: Refusal) -> Result<u64, Refusal>
+        ensures { result ≡ Err refusal }
+    {
+        Err(refusal)
+    }
+
+    fn write_line<W: Write>(outcome: &Result<u64, Refusal>, writer: &mut W) -> io::Result<()>
+        ensures { OnOk result (Appends (W.contents writer.old) (W.contents writer.new)
+            (outcome_line outcome.now)) }
+    {
+        write_outcome(*outcome, writer)
     }
 }
 
@@ -74,7 +117,7 @@ fn make<D: Disk>(
     change: Change,
 ) -> Result<u64, Refusal>
     requires open { is_open engine.old.machine 0 ≡ true }
-    ensures ends { Ends moment change engine.old.machine result engine.new.machine }
+    ensures ends { EndsChange moment change engine.old.machine result engine.new.machine }
     ensures later { IsLater D.faithful D.failures engine.old engine.new }
 {
     let Ok(trees) = engine.named_trees(alloc) else {
@@ -87,37 +130,4 @@ fn make<D: Disk>(
         }
         Err(refusal) => Err(refusal),
     }
-}
-
-// writes how it ended; if the change was made, also makes all steps that are left, and writes what is refused of that
-fn report<D: Disk, W: Write>(
-    engine: &mut Engine<D>,
-    outcome: Result<u64, Refusal>,
-    writer: &mut W,
-) -> io::Result<ChangeResult>
-    ensures reported { IfOk result (λ told. (ended : Option AnyRefusal)
-        × Finishes outcome ended engine.old.machine engine.new.machine
-        × IsPrinted (W.contents writer.old) (W.contents writer.new) outcome ended told) }
-    ensures kept { KeepsAccepted engine.old.machine engine.new.machine }
-    ensures later { IsLater D.faithful D.failures engine.old engine.new }
-{
-    let told = print_outcome(outcome, writer)?;
-    match outcome {
-        Ok(_) => match run_until_idle(engine) {
-            Some(refusal) => print_late(writer, refusal),
-            None => Ok(told),
-        },
-        Err(_) => Ok(told),
-    }
-}
-
-// writes what is refused after a change was made
-fn print_late<W: Write>(writer: &mut W, refusal: Refusal) -> io::Result<ChangeResult>
-    ensures { IfOk result (λ told. (told ≡ record { status = status.Refused; refusal = None })
-        × Appends (W.contents writer.old) (W.contents writer.new) (reply_line (reply.Refused refusal))) }
-{
-    Ok(ChangeResult {
-        status: print_refusal(writer, refusal)?,
-        refusal: None,
-    })
 }

@@ -1,12 +1,12 @@
 use Rattle.std.proofs.Common.{inl, inr, List, subst}
 use Rattle.reg_tree.specs.Maps.{TreeMap}
 use Rattle.store_values.specs.Answers.{PrintsAnswer, key_answer}
-use Rattle.store_values.proofs.Results.{if_ok}
+use Rattle.std.proofs.lemmas.Result.{IfOk-weaker}
 use Rattle.store_values.proofs.read.print_named_key.Goals as goal
 
 pub returns-in-Ok : goal.returns-in-Ok
 returns-in-Ok g c =
-    if_ok c.print_key.result (λ status told. inl (subst (λ (trees : List TreeMap). PrintsAnswer (key_answer c.args.hive c.args.path.now trees) (g.W.Write.contents c.args.writer.now) (g.W.Write.contents c.print_key.new.writer) status) c.in-Ok.ensures told)) c.print_key.ensures
+    IfOk-weaker c.print_key.result _ _ (λ status told. inl (subst (λ (trees : List TreeMap). PrintsAnswer (key_answer c.args.hive c.args.path.now trees) (g.W.Write.contents c.args.writer.now) (g.W.Write.contents c.print_key.new.writer) status) c.in-Ok.ensures told)) c.print_key.ensures
 
 pub returns-in-Err : goal.returns-in-Err
-returns-in-Err g c = if_ok c.print_refusal.result (λ status told. inr told) c.print_refusal.ensures
+returns-in-Err g c = IfOk-weaker c.print_refusal.result _ _ (λ status told. inr told) c.print_refusal.ensures
