@@ -8,7 +8,8 @@ use Rattle.reg_file.specs.declared.statement.NumberedStatement.{NumberedStatemen
 use Rattle.reg_apply.specs.declared.place.Place.{Place}
 use Rattle.reg_apply.specs.declared.place.Denial.{Denial}
 use Rattle.reg_apply.specs.declared.outcome.Outcome.{Outcome}
-use Rattle.reg_apply.specs.Checks.{TellsDenial, TriesStatement, TriesStatements, check_status, check_text, is_refusal, outcome_line}
+use Rattle.reg_apply.specs.Checks.{TellsDenial, TriesStatement, TriesStatements, check_status, check_text, is_refusal}
+use Rattle.reg_apply.specs.Outcomes.{outcome_line}
 
 pub one_tried : (prefixes : List Prefix) (hives : ℕ) (first : Option Place) (old : Planned) (front : List NumberedStatement) (current : Option Place) (told : List Outcome) (mid : Planned) (stop : NumberedStatement) (next : Option Place) (denial : Option Denial) (one : List Outcome) (new : Planned)
     → TriesStatements prefixes hives first old front current told mid → TriesStatement prefixes hives current mid stop.statement next denial new → TellsDenial stop.line denial one → TriesStatements prefixes hives first old (front ++ stop ∷ []) next (told ++ one) new

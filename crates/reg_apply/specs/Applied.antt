@@ -1,19 +1,17 @@
 -- How a registration file is applied to a store.
-use Rattle.std.specs.Prelude.{◌≡◌, ◌⊎◌, ℕ, true, false, List, [], ◌∷◌, ◌++◌, length, Option, Some, None, ⊤}
+use Rattle.std.specs.Prelude.{◌≡◌, ◌⊎◌, ℕ, true, false, List, [], length, Option, Some, None, ⊤}
 use Rattle.std.specs.Io.KnownBytes.{Appends}
 use Rattle.refusals.specs.declared.refusal.Refusal.{Refusal}
 use Rattle.refusals.specs.declared.refusal.Refusal.TheVariants.{NoMemory, Unsupported}
-use Rattle.refusals.specs.Refusals.{refusal_text}
 use Rattle.disk_model.specs.FileState.{FileState}
 use Rattle.store_model.specs.Machine.{Machine, has_outcomes, named_trees, outcome_bytes, outcome_of}
 use Rattle.script_syntax.specs.declared.status.Status.{Status}
 use Rattle.script_syntax.specs.declared.status.Status.TheVariants as status
-use Rattle.store_driver.specs.Work.{MakesSteps}
-use Rattle.store_driver.specs.Openings.{IsOpenedOn, LeavesPrefix, MayNotOpen, session_0}
 use Rattle.reg_prefixes.specs.declared.prefix.Prefix.{Prefix}
 use Rattle.change_plan.specs.Plans.{Planned}
-use Rattle.commit_journal.specs.Store.{Store}
-use Rattle.store_change.specs.Commits.{AcceptsOps, Commits, FailsToCommit, KeepsAccepted}
+use Rattle.reg_tree.specs.declared.op.Op.{Op}
+use Rattle.store_change.specs.Commits.{Commits, FailsToCommit, KeepsAccepted}
+use Rattle.store_change.specs.Reports.{AllOrNothing, ChangesStore, OpensAndLeaves, report_text}
 use Rattle.reg_file.specs.declared.fault.FaultKind.TheVariants as kind
 use Rattle.reg_file.specs.declared.file.RegFile.{RegFile}
 use Rattle.reg_apply.specs.declared.place.Place.{Place}
@@ -23,7 +21,7 @@ use Rattle.reg_apply.specs.declared.outcome.Outcome.{Outcome}
 use Rattle.reg_apply.specs.declared.outcome.Outcome.TheVariants.{Applied, BadFile, NoHive, Denied, Refused}
 use Rattle.reg_apply.specs.declared.request.UnitOfWork.{UnitOfWork}
 use Rattle.reg_apply.specs.declared.request.UnitOfWork.TheVariants.{Own, Again, Once}
-use Rattle.reg_apply.specs.Outcomes.{outcome_status, outcome_text}
+use Rattle.reg_apply.specs.Outcomes.{is_applied, outcome_line, outcome_status}
 use Rattle.reg_apply.specs.Statements.{StopsAt, TakesStatements}
 
 -- the plan before a file's first statement: on the trees of the hives that calls name, without operations, with the bytes
@@ -49,16 +47,16 @@ IsUnit (Some unit) id = id ≡ unit
 -- fault. If a statement is denied, or the file has a fault after statements that are taken, nothing is accepted. The
 -- first of these is told. An application is refused if memory for its plan is lacking, or for the same reason as its
 -- commit.
-abbrev pub Ends : List Prefix → ℕ → Option (List ℕ) → RegFile → Machine → Outcome → Machine → Type 0
-Ends prefixes moment unit file old (Applied number) new =
+abbrev pub EndsApplication : List Prefix → ℕ → Option (List ℕ) → RegFile → Machine → Outcome → Machine → Type 0
+EndsApplication prefixes moment unit file old (Applied number) new =
     (plan : Planned) × (file.fault ≡ None) × TakesAll prefixes moment file old plan × (id : List ℕ) × IsUnit unit id × Commits old id moment plan.ops number new
-Ends prefixes moment unit file old (BadFile fault) new =
+EndsApplication prefixes moment unit file old (BadFile fault) new =
     KeepsAccepted old new
     × (((plan : Planned) × (file.fault ≡ Some fault) × TakesAll prefixes moment file old plan)
     ⊎ ((fault.kind ≡ kind.NoKey) × StopsIn prefixes moment file old fault.line denial.NoKey))
-Ends prefixes moment unit file old (NoHive line) new = KeepsAccepted old new × StopsIn prefixes moment file old line denial.NoHive
-Ends prefixes moment unit file old (Denied line why) new = KeepsAccepted old new × StopsIn prefixes moment file old line (denial.Refused why)
-Ends prefixes moment unit file old (Refused why) new =
+EndsApplication prefixes moment unit file old (NoHive line) new = KeepsAccepted old new × StopsIn prefixes moment file old line denial.NoHive
+EndsApplication prefixes moment unit file old (Denied line why) new = KeepsAccepted old new × StopsIn prefixes moment file old line (denial.Refused why)
+EndsApplication prefixes moment unit file old (Refused why) new =
     ((why ≡ NoMemory) × KeepsAccepted old new)
     ⊎ ((plan : Planned) × (file.fault ≡ None) × TakesAll prefixes moment file old plan × (id : List ℕ) × IsUnit unit id × FailsToCommit old id moment plan.ops why new)
 
@@ -84,69 +82,36 @@ IsNotTold old outcome new = (why : Refusal) × ((why ≡ NoMemory) ⊎ ((why ≡
 -- of it.
 abbrev pub EndsOnce : List ℕ → List Prefix → ℕ → RegFile → Machine → Outcome → Machine → Type 0
 EndsOnce unit prefixes moment file old outcome new =
-    IsKept unit old outcome new ⊎ ((IsNotKept unit old × Ends prefixes moment (Some unit) file old outcome new) ⊎ IsNotTold old outcome new)
+    IsKept unit old outcome new ⊎ ((IsNotKept unit old × EndsApplication prefixes moment (Some unit) file old outcome new) ⊎ IsNotTold old outcome new)
 
 -- how it ends, for the unit of work that it is for
 abbrev pub EndsFor : UnitOfWork → List Prefix → ℕ → RegFile → Machine → Outcome → Machine → Type 0
-EndsFor Own prefixes moment file old outcome new = Ends prefixes moment None file old outcome new
-EndsFor (Again unit) prefixes moment file old outcome new = Ends prefixes moment (Some unit) file old outcome new
+EndsFor Own prefixes moment file old outcome new = EndsApplication prefixes moment None file old outcome new
+EndsFor (Again unit) prefixes moment file old outcome new = EndsApplication prefixes moment (Some unit) file old outcome new
 EndsFor (Once unit) prefixes moment file old outcome new = EndsOnce unit prefixes moment file old outcome new
 
--- what is printed: how it ended, and what is refused of the steps that are left, if anything is
-abbrev pub report_text : Outcome → Option Refusal → List ℕ
-report_text outcome None = outcome_text outcome ++ 10 ∷ []
-report_text outcome (Some why) = (outcome_text outcome ++ 10 ∷ []) ++ (refusal_text why ++ 10 ∷ [])
-
+-- the status of an end, with what is refused of the steps that are left: that of a refusal if a step was refused
 abbrev pub report_status : Outcome → Option Refusal → Status
 report_status outcome None = outcome_status outcome
 report_status outcome (Some why) = status.Refused
 
--- After a file was applied the steps that are left are made, up to one that is refused; else none is made.
-abbrev pub Finishes : Outcome → Option Refusal → Machine → Machine → Type 0
-Finishes (Applied number) ended old new = MakesSteps ended old new
-Finishes _ ended old new = (ended ≡ None) × (new ≡ old)
-
 -- it ended so, which is printed, with this status
-abbrev pub IsPrinted : Option (List ℕ) → Option (List ℕ) → Outcome → Option Refusal → Status → Type 0
-IsPrinted before after outcome ended its_status = Appends before after (report_text outcome ended) × (its_status ≡ report_status outcome ended)
+abbrev pub PrintsApplication : Option (List ℕ) → Option (List ℕ) → Outcome → Option Refusal → Status → Type 0
+PrintsApplication before after outcome refused its_status = Appends before after (report_text (outcome_line outcome) refused) × (its_status ≡ report_status outcome refused)
 
--- A store was opened on these files, and the file was applied to it. The disk as it was after the opening is `first`.
-pub record OpensAndApplies {D : Type 0} (is_faithful : D → Type 0) (files : ℕ → List ℕ) (prefixes : List Prefix) (moment : ℕ) (work : UnitOfWork) (file : RegFile) (before after : Option (List ℕ)) (its_status : Status) : Type 0 where
-  pub first : D
-  pub store : Store
-  pub number : ℕ
-  pub begun : Machine
-  pub opened : IsOpenedOn (is_faithful first) files store number session_0 begun
-  pub outcome : Outcome
-  pub mid : Machine
-  pub ends : EndsFor work prefixes moment file begun outcome mid
-  pub ended : Option Refusal
-  pub last : Machine
-  pub finishes : Finishes outcome ended mid last
-  pub printed : IsPrinted before after outcome ended its_status
+-- No store was opened, and the reason is printed; or one was, and the file was applied. How that ended is printed, and so is
+-- what is refused of the steps after it.
+abbrev pub ReportsApplication : {D : Type 0} → (D → Type 0) → Type 0 → Type 0 → (ℕ → List ℕ) → List Prefix → ℕ → UnitOfWork → RegFile → Option (List ℕ) → Option (List ℕ) → Status → Type 0
+ReportsApplication is_faithful failed faithful files prefixes moment work file before after its_status =
+    (outcome : Outcome) × (refused : Option Refusal) × ChangesStore is_faithful failed faithful files (EndsFor work prefixes moment file) is_applied Refused outcome refused × PrintsApplication before after outcome refused its_status
 
--- No store was opened, and the reason is printed; or one was, and the file was applied.
-abbrev pub Reports : {D : Type 0} → (D → Type 0) → Type 0 → Type 0 → (ℕ → List ℕ) → List Prefix → ℕ → UnitOfWork → RegFile → Option (List ℕ) → Option (List ℕ) → Status → Type 0
-Reports is_faithful failed faithful files prefixes moment work file before after its_status =
-    ((why : Refusal) × MayNotOpen failed faithful files why × IsPrinted before after (Refused why) None its_status)
-    ⊎ OpensAndApplies is_faithful files prefixes moment work file before after its_status
+-- a file asks for the operations of a plan that takes all its statements, for the unit of work of its application
+abbrev pub AsksTaken : List Prefix → ℕ → Option (List ℕ) → RegFile → Machine → List ℕ → List Op → Type 0
+AsksTaken prefixes moment unit file old id ops = (plan : Planned) × TakesAll prefixes moment file old plan × IsUnit unit id × (ops ≡ plan.ops)
 
--- all that a file asks for was accepted as one change, or nothing was
-abbrev pub AllOrNothing : List Prefix → ℕ → Option (List ℕ) → RegFile → Machine → Machine → Type 0
-AllOrNothing prefixes moment unit file old new =
-    KeepsAccepted old new ⊎ ((plan : Planned) × TakesAll prefixes moment file old plan × (id : List ℕ) × IsUnit unit id × AcceptsOps old id moment plan.ops new)
-
--- A store was opened on these files, and all or nothing of the file was accepted. If the disk that is left is faithful,
--- whatever a crash leaves of it recovers a prefix of that, and so does what a read gives unless the store is faulted.
-pub record LeavesStore {D : Type 0} (is_faithful : D → Type 0) (files : ℕ → List ℕ) (prefixes : List Prefix) (moment : ℕ) (work : UnitOfWork) (file : RegFile) (faithful : Type 0) (states : ℕ → ℕ → FileState) (clock : ℕ) : Type 0 where
-  pub first : D
-  pub store : Store
-  pub number : ℕ
-  pub begun : Machine
-  pub opened : IsOpenedOn (is_faithful first) files store number session_0 begun
-  pub last : Machine
-  pub all : AllOrNothing prefixes moment (unit_of work) file begun last
-  pub left : LeavesPrefix faithful states clock store last
+-- A store was opened on these files, and all or nothing of the file was accepted. A prefix of that is left.
+abbrev pub LeavesApplication : {D : Type 0} → (D → Type 0) → (ℕ → List ℕ) → List Prefix → ℕ → UnitOfWork → RegFile → Type 0 → (ℕ → ℕ → FileState) → ℕ → Type 0
+LeavesApplication is_faithful files prefixes moment work file faithful states clock = OpensAndLeaves is_faithful files (AllOrNothing (AsksTaken prefixes moment (unit_of work) file) moment) faithful states clock
 
 -- a denial at a line, as it is told
 abbrev pub StopsSo : ℕ → Denial → Outcome → Type 0

@@ -22,9 +22,9 @@ use Rattle.reg_apply.specs.declared.place.Place.{Place}
 use Rattle.reg_apply.specs.declared.place.Denial.{Denial}
 use Rattle.reg_apply.specs.declared.outcome.Outcome.{Outcome}
 use Rattle.reg_apply.specs.declared.outcome.Outcome.TheVariants.{BadFile, Refused}
-use Rattle.reg_apply.specs.Outcomes.{outcome_status, outcome_text}
+use Rattle.reg_apply.specs.Outcomes.{outcome_line, outcome_status}
 use Rattle.reg_apply.specs.Statements.{Denies, TakesStatement}
-use Rattle.reg_apply.specs.Applied.{IsPrinted, StopsSo}
+use Rattle.reg_apply.specs.Applied.{PrintsApplication, StopsSo}
 
 -- the key that is current after a statement that isn't taken: none if it names a key
 abbrev pub key_after : Option Place → Statement → Option Place
@@ -68,9 +68,6 @@ ChecksFile prefixes named all file told =
     (last : Option Place) × (lines : List Outcome) × (plan : Planned) × TriesStatements prefixes (length named) None (trial_plan named all) file.statements last lines plan × (told ≡ lines ++ fault_told file.fault)
 
 -- a line for each that is told, or `ok`
-abbrev pub outcome_line : Outcome → List ℕ
-outcome_line outcome = outcome_text outcome ++ 10 ∷ []
-
 abbrev pub check_text : List Outcome → List ℕ
 check_text [] = codes "ok\n"
 check_text (outcome ∷ told) = flat_map outcome_line (outcome ∷ told)
@@ -96,11 +93,11 @@ PrintsCheck before after told its_status = Appends before after (check_text told
 abbrev pub ChecksOrNot : List Prefix → List TreeMap → List TreeMap → RegFile → Option (List ℕ) → Option (List ℕ) → Status → Type 0
 ChecksOrNot prefixes named all file before after its_status =
     ((told : List Outcome) × ChecksFile prefixes named all file told × PrintsCheck before after told its_status)
-    ⊎ IsPrinted before after (Refused NoMemory) None its_status
+    ⊎ PrintsApplication before after (Refused NoMemory) None its_status
 
 -- The files of a store recover trees, if the disk is faithful, and what is told of a file on these is printed; or they are
 -- refused, and that is.
 abbrev pub ReportsCheck : Type 0 → Type 0 → (ℕ → List ℕ) → List Prefix → RegFile → Option (List ℕ) → Option (List ℕ) → Status → Type 0
 ReportsCheck failed faithful files prefixes file before after its_status =
     ((store : Store) × (number : ℕ) × (trees : List TreeMap) × (faithful → IsRecovered files store number trees) × ChecksOrNot prefixes (take store.hives trees) trees file before after its_status)
-    ⊎ ((why : Refusal) × RefusalHasCause failed (IsNoStore faithful files) why × IsPrinted before after (Refused why) None its_status)
+    ⊎ ((why : Refusal) × RefusalHasCause failed (IsNoStore faithful files) why × PrintsApplication before after (Refused why) None its_status)

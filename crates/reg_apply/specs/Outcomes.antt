@@ -1,5 +1,5 @@
 -- What is printed of how an application ended, and with which status.
-use Rattle.std.specs.Prelude.{ℕ, List, ◌++◌, codes}
+use Rattle.std.specs.Prelude.{ℕ, Bool, true, false, List, [], ◌∷◌, ◌++◌, codes}
 use Rattle.std.specs.Fmt.{decimal}
 use Rattle.refusals.specs.Refusals.{refusal_text}
 use Rattle.reg_file.specs.Faults.{fault_text}
@@ -17,6 +17,15 @@ outcome_text (BadFile fault) = fault_text fault
 outcome_text (NoHive line) = codes "line " ++ decimal line ++ codes ": no hive"
 outcome_text (Denied line refusal) = codes "line " ++ decimal line ++ codes ": " ++ refusal_text refusal
 outcome_text (Refused refusal) = refusal_text refusal
+
+-- the line with its end
+abbrev pub outcome_line : Outcome → List ℕ
+outcome_line outcome = outcome_text outcome ++ 10 ∷ []
+
+-- whether the file was applied
+abbrev pub is_applied : Outcome → Bool
+is_applied (Applied number) = true
+is_applied _ = false
 
 -- a statement that is too large is refused, and any other fault is the file's own
 abbrev pub fault_status : FaultKind → Status

@@ -1,12 +1,15 @@
 //! How the application of a file ended.
-ghost use Rattle.std.specs.Prelude.{◌≡◌, Some};
-ghost use Rattle.reg_apply.specs.Outcomes.{outcome_status, outcome_text};
+ghost use Rattle.std.specs.Prelude.{◌≡◌, None, OnOk, IfOk, Some};
+ghost use Rattle.std.specs.Io.KnownBytes.{Appends};
+ghost use Rattle.reg_apply.specs.Applied.{PrintsApplication};
+ghost use Rattle.reg_apply.specs.Outcomes.{outcome_line, outcome_status, outcome_text};
 ghost use Rattle.reg_apply.specs.Checks.{is_refusal};
 
 use refusals::Refusal;
 use reg_file::{Fault, FaultKind};
 use script_syntax::Status;
 use std::fmt;
+use std::io::{self, Write};
 
 /// How it ended. Its text is the line that is printed.
 #[derive(Clone, Copy, Debug, PartialEq, Eq)]
@@ -62,6 +65,24 @@ impl Outcome {
         ensures { result ≡ is_refusal self.now }
     {
         matches!(self.status(), Status::Refused)
+    }
+
+    /// Writes it in a line.
+    pub(crate) fn write_line<W: Write>(&self, writer: &mut W) -> io::Result<()>
+        ensures { OnOk result (Appends (W.contents writer.old) (W.contents writer.new)
+            (outcome_line self.now)) }
+    {
+        writeln!(writer, "{self}")
+    }
+
+    /// Writes it in a line, with which all is written; answers the status.
+    pub(crate) fn print<W: Write>(&self, writer: &mut W) -> io::Result<Status>
+        ensures { IfOk result (PrintsApplication (W.contents writer.old) (W.contents writer.new)
+            self.now None) }
+    {
+        self.write_line(writer)?;
+        writer.flush()?;
+        Ok(self.status())
     }
 }
 

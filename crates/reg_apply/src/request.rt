@@ -33,10 +33,7 @@ impl Request<'_> {
     {
         match self.unit {
             UnitOfWork::Again(id) | UnitOfWork::Once(id) => id,
-            UnitOfWork::Own => {
-                let high = u128::from(self.moment) << 64;
-                Uuid::from_u128(high | u128::from(number))
-            }
+            UnitOfWork::Own => Uuid::from_u64_pair(self.moment, number),
         }
     }
 }

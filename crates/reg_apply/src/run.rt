@@ -1,15 +1,11 @@
 //! The application from the opening of the store to its end.
-ghost use Rattle.std.specs.Prelude.{◌≡◌, ◌⊎◌, ◌++◌, ◌∷◌, [], ◌<◌, Option, IfOk, true};
-ghost use Rattle.std.specs.Io.KnownBytes.{Appends};
-ghost use Rattle.refusals.specs.declared.refusal.Refusal.{Refusal as AnyRefusal};
+ghost use Rattle.std.specs.Prelude.{◌≡◌, ◌⊎◌, ◌<◌, IfOk, true};
 ghost use Rattle.recovery.specs.Recovered.{seen_in};
 ghost use Rattle.store_model.specs.Machine.{is_open};
 ghost use Rattle.store_driver.specs.Later.{IsLater};
 ghost use Rattle.store_driver.specs.Openings.{LeavesLife};
-ghost use Rattle.store_change.specs.Commits.{KeepsAccepted};
-ghost use Rattle.reg_apply.specs.Outcomes.{outcome_status, outcome_text};
 ghost use Rattle.reg_apply.specs.declared.request.UnitOfWork.TheVariants.{Once};
-ghost use Rattle.reg_apply.specs.Applied.{Ends, EndsFor, EndsOnce, Finishes, IsPrinted, LeavesStore, Reports, unit_of};
+ghost use Rattle.reg_apply.specs.Applied.{EndsApplication, EndsFor, EndsOnce, LeavesApplication, ReportsApplication, report_status, unit_of};
 
 use crate::outcome::Outcome;
 use crate::request::{Request, UnitOfWork};
@@ -22,8 +18,8 @@ use reg_file::RegFile;
 use script_syntax::Status;
 use std::alloc::Global;
 use std::io::{self, Write};
-use store_change::{bytes_aside, commit};
-use store_driver::{ask, open_store, run_until_idle};
+use store_change::{ChangeReport, StoreChange, bytes_aside, commit, make_change};
+use store_driver::ask;
 use store_model::{Event, Reply};
 use uuid::Uuid;
 
@@ -42,24 +38,84 @@ pub fn apply<D: Disk, W: Write>(
     file: RegFile,
     writer: &mut W,
 ) -> (D, io::Result<Status>)
-    ensures reports { IfOk result.1 (λ status. Reports D.faithful (D.failures disk < D.failures result.0)
-        (D.faithful result.0) (seen_in (D.state_at disk (D.clock disk))) request.now.prefixes.now
+    ensures reports { IfOk result.1 (λ status. ReportsApplication D.faithful
+        (D.failures disk < D.failures result.0) (D.faithful result.0)
+        (seen_in (D.state_at disk (D.clock disk))) request.now.prefixes.now
         request.now.moment request.now.unit file (W.contents writer.old) (W.contents writer.new) status) }
     ensures left { LeavesLife (D.failures disk < D.failures result.0) (D.faithful result.0)
         (D.state_at disk (D.clock disk)) (D.state_at result.0 (D.clock result.0))
-        ⊎ LeavesStore D.faithful (seen_in (D.state_at disk (D.clock disk))) request.now.prefixes.now
+        ⊎ LeavesApplication D.faithful (seen_in (D.state_at disk (D.clock disk))) request.now.prefixes.now
         request.now.moment request.now.unit file (D.faithful result.0) (D.state_at result.0) (D.clock result.0) }
 {
-    match open_store(alloc, disk) {
-        Ok((engine, number)) => {
-            let mut engine = engine;
-            let outcome = change(alloc, &mut engine, number, request, file);
-            let status = report(&mut engine, &outcome, writer);
-            engine.keeps_a_prefix(); // for the prover
-            engine.reads_a_prefix(); // for the prover
-            (engine.into_disk(), status)
-        }
-        Err((refusal, disk)) => (disk, print(&Outcome::Refused { refusal }, writer)),
+    let (disk, report) = make_change(alloc, disk, Application { request, file }, writer);
+    match report {
+        Ok(report) => (disk, Ok(report_status(&report))),
+        Err(error) => (disk, Err(error)),
+    }
+}
+
+// the status of an application, with what is refused of the steps after it, if anything is
+fn report_status(report: &ChangeReport<Outcome>) -> Status
+    ensures { result ≡ report_status report.now.outcome report.now.refused_step }
+{
+    match report.refused_step {
+        Some(_) => Status::Refused,
+        None => report.outcome.status(),
+    }
+}
+
+// the application of a file, as a change of a store
+#[derive(Drop)]
+struct Application<'a> {
+    request: &'a Request<'a>,
+    file: RegFile,
+}
+
+impl StoreChange for Application<'_> {
+    ghost use Rattle.std.specs.Prelude.{◌≡◌, OnOk};
+    ghost use Rattle.std.specs.Io.KnownBytes.{Appends};
+    ghost use Rattle.reg_apply.specs.declared.outcome.Outcome.TheVariants.{Refused};
+    ghost use Rattle.reg_apply.specs.Outcomes.{is_applied, outcome_line};
+    ghost use Rattle.reg_apply.specs.Applied.{AsksTaken, EndsFor, unit_of};
+
+    type Outcome = Outcome;
+
+    ghost moment = { λ it. it.request.now.moment };
+
+    ghost may_ask = { λ it. AsksTaken it.request.now.prefixes.now it.request.now.moment
+        (unit_of it.request.now.unit) it.file };
+
+    ghost can_end = { λ it. EndsFor it.request.now.unit it.request.now.prefixes.now
+        it.request.now.moment it.file };
+
+    ghost is_made = { is_applied };
+
+    ghost refusal_of = { λ why. Refused why };
+
+    ghost line = { outcome_line };
+
+    fn make<D: Disk>(self, alloc: Global, engine: &mut Engine<D>, number: u64) -> Outcome {
+        let Application { request, file } = self;
+        change(alloc, engine, number, request, file)
+    }
+
+    fn is_made(outcome: &Outcome) -> bool
+        ensures { result ≡ is_applied outcome.now }
+    {
+        matches!(outcome, Outcome::Applied { .. })
+    }
+
+    fn refusal_of(refusal: Refusal) -> Outcome
+        ensures { result ≡ Refused refusal }
+    {
+        Outcome::Refused { refusal }
+    }
+
+    fn write_line<W: Write>(outcome: &Outcome, writer: &mut W) -> io::Result<()>
+        ensures { OnOk result (Appends (W.contents writer.old) (W.contents writer.new)
+            (outcome_line outcome.now)) }
+    {
+        outcome.write_line(writer)
     }
 }
 
@@ -118,7 +174,7 @@ fn change_anyway<D: Disk>(
     file: RegFile,
 ) -> Outcome
     requires open { is_open engine.old.machine 0 ≡ true }
-    ensures ends { Ends request.now.prefixes.now request.now.moment (unit_of request.now.unit) file
+    ensures ends { EndsApplication request.now.prefixes.now request.now.moment (unit_of request.now.unit) file
         engine.old.machine result engine.new.machine }
     ensures later { IsLater D.faithful D.failures engine.old engine.new }
 {
@@ -147,36 +203,4 @@ fn change_anyway<D: Disk>(
         Ok(number) => Outcome::Applied { number },
         Err(refusal) => Outcome::Refused { refusal },
     }
-}
-
-// writes how it ended; if the file was applied, also makes all steps that are left, and writes what is refused of that
-fn report<D: Disk, W: Write>(
-    engine: &mut Engine<D>,
-    outcome: &Outcome,
-    writer: &mut W,
-) -> io::Result<Status>
-    ensures reported { IfOk result (λ status. (ended : Option AnyRefusal)
-        × Finishes outcome.now ended engine.old.machine engine.new.machine
-        × IsPrinted (W.contents writer.old) (W.contents writer.new) outcome.now ended status) }
-    ensures kept { KeepsAccepted engine.old.machine engine.new.machine }
-    ensures later { IsLater D.faithful D.failures engine.old engine.new }
-{
-    let status = print(outcome, writer)?;
-    match outcome {
-        Outcome::Applied { .. } => match run_until_idle(engine) {
-            Some(refusal) => print(&Outcome::Refused { refusal }, writer),
-            None => Ok(status),
-        },
-        _ => Ok(status),
-    }
-}
-
-/// Writes how it ended, in a line.
-pub(crate) fn print<W: Write>(outcome: &Outcome, writer: &mut W) -> io::Result<Status>
-    ensures { IfOk result (λ status. (status ≡ outcome_status outcome.now)
-        × Appends (W.contents writer.old) (W.contents writer.new) (outcome_text outcome.now ++ 10 ∷ [])) }
-{
-    writeln!(writer, "{outcome}")?;
-    writer.flush()?;
-    Ok(outcome.status())
 }

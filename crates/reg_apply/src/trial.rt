@@ -1,18 +1,17 @@
 //! The trial of a file: which of its lines a store would refuse.
-ghost use Rattle.std.specs.Prelude.{◌≡◌, ◌<◌, ◌≤◌, ◌++◌, nat_lt, if◌then◌else◌, List, Option, None, IfOk, OnOk, take};
+ghost use Rattle.std.specs.Prelude.{◌≡◌, ◌<◌, ◌++◌, List, Option, None, IfOk, OnOk, take};
 ghost use Rattle.std.specs.List.{flat_map, list_any};
 ghost use Rattle.std.specs.Io.KnownBytes.{Appends};
 ghost use Rattle.disk_model.specs.ReadOnly.{OnlySyncs};
-ghost use Rattle.store_model.specs.declared.room.TheConstants.{MOST_OUTCOME_BYTES};
 ghost use Rattle.recovery.specs.Recovered.{seen_in};
 ghost use Rattle.recovery.specs.Shown.{store_of};
 ghost use Rattle.reg_apply.specs.declared.place.Place.{Place as AnyPlace};
 ghost use Rattle.reg_apply.specs.declared.outcome.Outcome.{Outcome as AnyOutcome};
-ghost use Rattle.reg_apply.specs.Checks.{ChecksFile, ChecksOrNot, PrintsCheck, ReportsCheck, TellsDenial, TriesStatement, TriesStatements, check_status, is_refusal, outcome_line};
+ghost use Rattle.reg_apply.specs.Checks.{ChecksFile, ChecksOrNot, PrintsCheck, ReportsCheck, TellsDenial, TriesStatement, TriesStatements, check_status, is_refusal};
+ghost use Rattle.reg_apply.specs.Outcomes.{outcome_line};
 
 use crate::outcome::Outcome;
 use crate::place::{Denial, Place};
-use crate::run::print;
 use crate::statements::{Stop, take};
 use change_plan::Plan;
 use disk_model::Disk;
@@ -23,7 +22,7 @@ use reg_prefixes::Prefixes;
 use script_syntax::Status;
 use std::alloc::{AllocError, Global};
 use std::io::{self, Write};
-use store_model::room::MOST_OUTCOME_BYTES;
+use store_change::bytes_aside_in;
 
 /// Tries all statements of a file on the trees that an opening of the store finds, each on those before it that were
 /// taken, and writes a line for each that is refused, as [`apply`](crate::apply) tells it; then one for the file's fault,
@@ -48,7 +47,7 @@ pub fn check<D: Disk, W: Write>(
             let status = check_opened(alloc, &opened, prefixes, file, writer);
             (opened.into_disk(), status)
         }
-        Err((refusal, disk)) => (disk, print(&Outcome::Refused { refusal }, writer)),
+        Err((refusal, disk)) => (disk, Outcome::Refused { refusal }.print(writer)),
     }
 }
 
@@ -68,7 +67,7 @@ fn check_opened<D: Disk, W: Write>(
         Ok(told) => print_told(&told, writer),
         Err(_) => {
             let refusal = Refusal::NoMemory;
-            print(&Outcome::Refused { refusal }, writer)
+            Outcome::Refused { refusal }.print(writer)
         }
     }
 }
@@ -86,7 +85,7 @@ fn told_of<D: Disk>(
 {
     let named = opened.named_trees(alloc)?;
     let hives = named.len();
-    let aside = aside_in(hives, opened.trees().len());
+    let aside = bytes_aside_in(hives, opened.trees().len());
     let mut plan = Plan::new(alloc, named, 0, aside);
     let RegFile { statements, fault } = file;
     let mut told = try_all(alloc, prefixes, hives, &mut plan, statements.into_vec())?;
@@ -171,16 +170,9 @@ fn write_lines<W: Write>(told: &[Outcome], writer: &mut W) -> io::Result<()>
         (flat_map outcome_line told.now)) }
 {
     for outcome in told {
-        write_line(outcome, writer)?;
+        outcome.write_line(writer)?;
     }
     Ok(())
-}
-
-fn write_line<W: Write>(outcome: &Outcome, writer: &mut W) -> io::Result<()>
-    ensures { OnOk result (Appends (W.contents writer.old) (W.contents writer.new)
-        (outcome_line outcome.now)) }
-{
-    writeln!(writer, "{outcome}")
 }
 
 // the status of what is told
@@ -201,12 +193,4 @@ fn has_refusal(told: &[Outcome]) -> bool
     ensures { result ≡ list_any is_refusal told.now }
 {
     told.iter().any(|outcome| outcome.is_refusal())
-}
-
-// how many bytes a plan sets aside, if calls name so many of all hives
-fn aside_in(hives: usize, all: usize) -> u64
-    ensures aside { result ≡ (if nat_lt hives all then MOST_OUTCOME_BYTES else 0) }
-    ensures few { result ≤ MOST_OUTCOME_BYTES }
-{
-    if hives < all { MOST_OUTCOME_BYTES } else { 0 }
 }

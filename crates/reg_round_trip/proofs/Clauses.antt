@@ -14,7 +14,7 @@ use Rattle.reg_export.specs.RegFiles.{reg_text}
 use Rattle.reg_file.specs.Files.{reg_file_of}
 use Rattle.store_export.specs.Exports.{text_or_none}
 use Rattle.reg_apply.specs.declared.outcome.Outcome.{Outcome}
-use Rattle.reg_apply.specs.Applied.{Ends}
+use Rattle.reg_apply.specs.Applied.{EndsApplication}
 use Rattle.reg_round_trip.specs.Statements.{export_statements}
 use Rattle.reg_round_trip.specs.Contents.{SameContent}
 use Rattle.reg_round_trip.specs.Operations.{trees_ops}
@@ -36,7 +36,7 @@ module _ (r : ReadsText) (encoding : Encoding) (prefixes : List Prefix) (trees :
       let are = can.prefixes_are in
       export_restores r encoding prefixes trees (exported prefixes trees) moment old are.showable are.apart (are_shown prefixes trees can.have) can.calls can.short can.is_new
 
-  pub whole_ended : (unit : Option (List ℕ)) (new : Machine) (outcome : Outcome) → Ends prefixes moment unit (reg_file_of (reg_text encoding (exported prefixes trees))) old outcome new → EndsGood (AllZip SameContent trees) outcome new
+  pub whole_ended : (unit : Option (List ℕ)) (new : Machine) (outcome : Outcome) → EndsApplication prefixes moment unit (reg_file_of (reg_text encoding (exported prefixes trees))) old outcome new → EndsGood (AllZip SameContent trees) outcome new
   whole_ended unit new outcome ends =
       let are = can.prefixes_are in
       let shown = exported prefixes trees in
@@ -60,7 +60,7 @@ module _ (r : ReadsText) (encoding : Encoding) (prefixes : List Prefix) (hive : 
       let are = can.prefixes_are in
       part_restores r encoding prefixes hive tree top prefix moment old are.showable are.apart shown_is can.call can.there can.near can.short can.are_trees can.is_new (slice_get_within (named_trees old) hive fresh_tree can.is_new)
 
-  pub part_ended : (unit : Option (List ℕ)) (new : Machine) (outcome : Outcome) → Ends prefixes moment unit (reg_file_of (reg_text encoding (exported_part prefixes hive tree top))) old outcome new → EndsGood (HasPartIn tree top hive (named_trees old)) outcome new
+  pub part_ended : (unit : Option (List ℕ)) (new : Machine) (outcome : Outcome) → EndsApplication prefixes moment unit (reg_file_of (reg_text encoding (exported_part prefixes hive tree top))) old outcome new → EndsGood (HasPartIn tree top hive (named_trees old)) outcome new
   part_ended unit new outcome ends =
       let are = can.prefixes_are in
       let shown : List (List ℕ × List NamedRow) = (prefix, rows_below tree top) ∷ [] in

@@ -12,7 +12,7 @@ use Rattle.change_plan.specs.Plans.{Planned}
 use Rattle.store_change.proofs.NamedTrees.{named_after}
 use Rattle.reg_apply.specs.declared.outcome.Outcome.{Outcome}
 use Rattle.reg_apply.specs.declared.outcome.Outcome.TheVariants.{Applied, BadFile, NoHive, Denied, Refused}
-use Rattle.reg_apply.specs.Applied.{first_plan, StopsIn, Ends}
+use Rattle.reg_apply.specs.Applied.{first_plan, StopsIn, EndsApplication}
 use Rattle.reg_round_trip.specs.Restores.{Restores, EndsGood}
 use Rattle.reg_round_trip.proofs.Places.{Denial, refused, no_key, no_hive, key_apart, hive_apart, same_refusal}
 use Rattle.reg_round_trip.proofs.OnePlan.{AllAdd, stops_for_memory}
@@ -25,7 +25,7 @@ module _ (prefixes : List Prefix) (moment : ℕ) (bytes : List ℕ) (ops : List 
   memory_alone : (line : ℕ) (denial : Denial) → StopsIn prefixes moment (reg_file_of bytes) old line denial → denial ≡ refused NoMemory
   memory_alone line denial stops = stops_for_memory prefixes (length (named_trees old)) (first_plan old moment) (statements_of bytes) restores.takes.0 restores.plan line denial adds restores.takes.1 stops
 
-  pub ended_so : (unit : Option (List ℕ)) (outcome : Outcome) → Ends prefixes moment unit (reg_file_of bytes) old outcome new → EndsGood AreGood outcome new
+  pub ended_so : (unit : Option (List ℕ)) (outcome : Outcome) → EndsApplication prefixes moment unit (reg_file_of bytes) old outcome new → EndsGood AreGood outcome new
   ended_so unit (Applied number) ends =
       let plan = ends.0 in
       let commits = ends.5 in

@@ -17,7 +17,7 @@ ghost use Rattle.store_model.specs.Machine.{Machine, named_trees};
 ghost use Rattle.key_walk.specs.KeyRows.{NamedRow};
 ghost use Rattle.reg_file.specs.Files.{reg_file_of};
 ghost use Rattle.reg_apply.specs.declared.outcome.Outcome.{Outcome};
-ghost use Rattle.reg_apply.specs.Applied.{Ends};
+ghost use Rattle.reg_apply.specs.Applied.{EndsApplication};
 ghost use Rattle.reg_round_trip.specs.Statements.{export_statements};
 ghost use Rattle.reg_round_trip.specs.Exports.{IsPrefixText, IsHiveOfLimits, AreReadAs};
 ghost use Rattle.reg_round_trip.specs.Contents.{SameContent};
@@ -85,7 +85,7 @@ pub fn exports_restore_trees()
         (AllZip SameContent trees) }
     ensures ended { (encoding : Encoding) (prefixes : List Prefix) (trees : List TreeMap) (moment : ℕ)
         (unit : Option (List ℕ)) (old new : Machine) (outcome : Outcome) → CanRestore prefixes trees old →
-        Ends prefixes moment unit (reg_file_of (reg_text encoding (exported prefixes trees))) old outcome new →
+        EndsApplication prefixes moment unit (reg_file_of (reg_text encoding (exported prefixes trees))) old outcome new →
         EndsGood (AllZip SameContent trees) outcome new }
 {
     reg_file::laws::files_are_parsed();
@@ -102,7 +102,7 @@ pub fn part_exports_restore_parts()
         (HasPartIn tree top hive (named_trees old)) }
     ensures ended { (encoding : Encoding) (prefixes : List Prefix) (hive : ℕ) (tree : TreeMap) (top : List (List ℕ))
         (moment : ℕ) (unit : Option (List ℕ)) (old new : Machine) (outcome : Outcome) → CanRestorePart prefixes hive tree top old →
-        Ends prefixes moment unit (reg_file_of (reg_text encoding (exported_part prefixes hive tree top))) old outcome new →
+        EndsApplication prefixes moment unit (reg_file_of (reg_text encoding (exported_part prefixes hive tree top))) old outcome new →
         EndsGood (HasPartIn tree top hive (named_trees old)) outcome new }
 {
     reg_file::laws::files_are_parsed();

@@ -1,7 +1,7 @@
 use Rattle.std.proofs.Common.{take}
 use Rattle.std.specs.List.{flat_map}
 use Rattle.std.specs.Io.KnownBytes.{Appends}
-use Rattle.reg_apply.specs.Checks.{outcome_line}
+use Rattle.reg_apply.specs.Outcomes.{outcome_line}
 use Rattle.reg_apply.proofs.trial.write_lines.Given as goal
 
 -- the lines of those so far were written
