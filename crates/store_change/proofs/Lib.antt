@@ -3,3 +3,4 @@ pub mod Waiting
 pub mod Steps
 pub mod NamedTrees
 pub mod Accepted
+mod Told

@@ -1,12 +1,12 @@
 //! A change from the opening of the store to its end.
-ghost use Rattle.std.specs.Prelude.{◌≡◌, ◌⊎◌, ◌<◌, ◌++◌, ◌∷◌, [], None, IfOk, OnOk};
+ghost use Rattle.std.specs.Prelude.{◌≡◌, ◌<◌, ◌++◌, ◌∷◌, [], None, Option, IfOk, OnOk};
 ghost use Rattle.std.specs.Io.KnownBytes.{Appends};
 ghost use Rattle.refusals.specs.Refusals.{refusal_text};
+ghost use Rattle.refusals.specs.declared.refusal.Refusal.{Refusal as AnyRefusal};
 ghost use Rattle.recovery.specs.Recovered.{seen_in};
 ghost use Rattle.store_driver.specs.Later.{IsLater};
-ghost use Rattle.store_driver.specs.Openings.{LeavesLife};
 ghost use Rattle.store_change.specs.Commits.{KeepsAccepted};
-ghost use Rattle.store_change.specs.Reports.{AllOrNothing, ChangesStore, Finishes, OpensAndLeaves, report_text};
+ghost use Rattle.store_change.specs.Reports.{AllOrNothing, ChangesStore, Finishes, report_text};
 
 use crate::change::StoreChange;
 use disk_model::Disk;
@@ -29,24 +29,20 @@ pub struct ChangeReport<O> {
 /// into the hives; what is refused of that is written in a line more.
 ///
 /// The disk is handed back. After a power cut at any moment an opening finds all that the change asks for, or nothing of
-/// it.
+/// it; and all of it once its end was told, if that says that it was made.
 pub fn make_change<D: Disk, C: StoreChange, W: Write>(
     alloc: Global,
     disk: D,
     change: C,
     writer: &mut W,
 ) -> (D, io::Result<ChangeReport<C::Outcome>>)
-    ensures reports { IfOk result.1 (λ report. ChangesStore D.faithful
-        (D.failures disk < D.failures result.0) (D.faithful result.0)
-        (seen_in (D.state_at disk (D.clock disk))) (C.can_end change) C.is_made C.refusal_of
-        report.outcome report.refused_step) }
-    ensures printed { IfOk result.1 (λ report. Appends (W.contents writer.old)
-        (W.contents writer.new) (report_text (C.line report.outcome) report.refused_step)) }
-    ensures left { LeavesLife (D.failures disk < D.failures result.0) (D.faithful result.0)
-        (D.state_at disk (D.clock disk)) (D.state_at result.0 (D.clock result.0))
-        ⊎ OpensAndLeaves D.faithful (seen_in (D.state_at disk (D.clock disk)))
-        (AllOrNothing (C.may_ask change) (C.moment change)) (D.faithful result.0)
-        (D.state_at result.0) (D.clock result.0) }
+    ensures changes { (outcome : C.Outcome) × (refused : Option AnyRefusal) × ChangesStore D.faithful
+        (seen_in (D.state_at disk (D.clock disk))) (D.state_at disk (D.clock disk)) (C.can_end change)
+        (AllOrNothing (C.may_ask change) (C.moment change)) C.is_made C.refusal_of outcome refused
+        result.1 (D.failures disk < D.failures result.0) (D.faithful result.0)
+        (D.state_at result.0) (D.clock result.0) × IfOk result.1 (λ report.
+        (report.outcome ≡ outcome) × (report.refused_step ≡ refused)
+        × Appends (W.contents writer.old) (W.contents writer.new) (report_text (C.line outcome) refused)) }
 {
     match open_store(alloc, disk) {
         Ok((engine, number)) => {
