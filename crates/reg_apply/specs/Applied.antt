@@ -1,5 +1,5 @@
 -- How a registration file is applied to a store.
-use Rattle.std.specs.Prelude.{◌≡◌, ◌⊎◌, ℕ, true, false, List, [], length, Option, Some, None, ⊤}
+use Rattle.std.specs.Prelude.{◌≡◌, ◌⊎◌, ℕ, true, false, List, [], length, Option, Some, None, Result, IfOk, ⊤}
 use Rattle.std.specs.Io.KnownBytes.{Appends}
 use Rattle.refusals.specs.declared.refusal.Refusal.{Refusal}
 use Rattle.refusals.specs.declared.refusal.Refusal.TheVariants.{NoMemory, Unsupported}
@@ -11,7 +11,7 @@ use Rattle.reg_prefixes.specs.declared.prefix.Prefix.{Prefix}
 use Rattle.change_plan.specs.Plans.{Planned}
 use Rattle.reg_tree.specs.declared.op.Op.{Op}
 use Rattle.store_change.specs.Commits.{Commits, FailsToCommit, KeepsAccepted}
-use Rattle.store_change.specs.Reports.{AllOrNothing, ChangesStore, OpensAndLeaves, report_text}
+use Rattle.store_change.specs.Reports.{AllOrNothing, ChangesStore, report_text}
 use Rattle.reg_file.specs.declared.fault.FaultKind.TheVariants as kind
 use Rattle.reg_file.specs.declared.file.RegFile.{RegFile}
 use Rattle.reg_apply.specs.declared.place.Place.{Place}
@@ -99,19 +99,17 @@ report_status outcome (Some why) = status.Refused
 abbrev pub PrintsApplication : Option (List ℕ) → Option (List ℕ) → Outcome → Option Refusal → Status → Type 0
 PrintsApplication before after outcome refused its_status = Appends before after (report_text (outcome_line outcome) refused) × (its_status ≡ report_status outcome refused)
 
--- No store was opened, and the reason is printed; or one was, and the file was applied. How that ended is printed, and so is
--- what is refused of the steps after it.
-abbrev pub ReportsApplication : {D : Type 0} → (D → Type 0) → Type 0 → Type 0 → (ℕ → List ℕ) → List Prefix → ℕ → UnitOfWork → RegFile → Option (List ℕ) → Option (List ℕ) → Status → Type 0
-ReportsApplication is_faithful failed faithful files prefixes moment work file before after its_status =
-    (outcome : Outcome) × (refused : Option Refusal) × ChangesStore is_faithful failed faithful files (EndsFor work prefixes moment file) is_applied Refused outcome refused × PrintsApplication before after outcome refused its_status
-
 -- a file asks for the operations of a plan that takes all its statements, for the unit of work of its application
 abbrev pub AsksTaken : List Prefix → ℕ → Option (List ℕ) → RegFile → Machine → List ℕ → List Op → Type 0
 AsksTaken prefixes moment unit file old id ops = (plan : Planned) × TakesAll prefixes moment file old plan × IsUnit unit id × (ops ≡ plan.ops)
 
--- A store was opened on these files, and all or nothing of the file was accepted. A prefix of that is left.
-abbrev pub LeavesApplication : {D : Type 0} → (D → Type 0) → (ℕ → List ℕ) → List Prefix → ℕ → UnitOfWork → RegFile → Type 0 → (ℕ → ℕ → FileState) → ℕ → Type 0
-LeavesApplication is_faithful files prefixes moment work file faithful states clock = OpensAndLeaves is_faithful files (AllOrNothing (AsksTaken prefixes moment (unit_of work) file) moment) faithful states clock
+-- No store was opened, or one was, and the file was applied to it. If it could be written, how that ended is printed, and
+-- what is refused of the steps after it. What is left is what the application has left.
+abbrev pub ReportsApplication : {D E : Type 0} → (D → Type 0) → (ℕ → List ℕ) → (ℕ → FileState) → List Prefix → ℕ → UnitOfWork → RegFile → Option (List ℕ) → Option (List ℕ) → Result Status E → Type 0 → Type 0 → (ℕ → ℕ → FileState) → ℕ → Type 0
+ReportsApplication is_faithful files state prefixes moment work file before after told failed faithful states clock =
+    (outcome : Outcome) × (refused : Option Refusal)
+    × ChangesStore is_faithful files state (EndsFor work prefixes moment file) (AllOrNothing (AsksTaken prefixes moment (unit_of work) file) moment) is_applied Refused outcome refused told failed faithful states clock
+    × IfOk told (PrintsApplication before after outcome refused)
 
 -- a denial at a line, as it is told
 abbrev pub StopsSo : ℕ → Denial → Outcome → Type 0

@@ -1,11 +1,10 @@
 //! The application from the opening of the store to its end.
-ghost use Rattle.std.specs.Prelude.{◌≡◌, ◌⊎◌, ◌<◌, IfOk, true};
+ghost use Rattle.std.specs.Prelude.{◌≡◌, ◌<◌, true};
 ghost use Rattle.recovery.specs.Recovered.{seen_in};
 ghost use Rattle.store_model.specs.Machine.{is_open};
 ghost use Rattle.store_driver.specs.Later.{IsLater};
-ghost use Rattle.store_driver.specs.Openings.{LeavesLife};
 ghost use Rattle.reg_apply.specs.declared.request.UnitOfWork.TheVariants.{Once};
-ghost use Rattle.reg_apply.specs.Applied.{EndsApplication, EndsFor, EndsOnce, LeavesApplication, ReportsApplication, report_status, unit_of};
+ghost use Rattle.reg_apply.specs.Applied.{EndsApplication, EndsFor, EndsOnce, ReportsApplication, report_status, unit_of};
 
 use crate::outcome::Outcome;
 use crate::request::{Request, UnitOfWork};
@@ -38,14 +37,10 @@ pub fn apply<D: Disk, W: Write>(
     file: RegFile,
     writer: &mut W,
 ) -> (D, io::Result<Status>)
-    ensures reports { IfOk result.1 (λ status. ReportsApplication D.faithful
-        (D.failures disk < D.failures result.0) (D.faithful result.0)
-        (seen_in (D.state_at disk (D.clock disk))) request.now.prefixes.now
-        request.now.moment request.now.unit file (W.contents writer.old) (W.contents writer.new) status) }
-    ensures left { LeavesLife (D.failures disk < D.failures result.0) (D.faithful result.0)
-        (D.state_at disk (D.clock disk)) (D.state_at result.0 (D.clock result.0))
-        ⊎ LeavesApplication D.faithful (seen_in (D.state_at disk (D.clock disk))) request.now.prefixes.now
-        request.now.moment request.now.unit file (D.faithful result.0) (D.state_at result.0) (D.clock result.0) }
+    ensures { ReportsApplication D.faithful (seen_in (D.state_at disk (D.clock disk)))
+        (D.state_at disk (D.clock disk)) request.now.prefixes.now request.now.moment request.now.unit file
+        (W.contents writer.old) (W.contents writer.new) result.1 (D.failures disk < D.failures result.0)
+        (D.faithful result.0) (D.state_at result.0) (D.clock result.0) }
 {
     let (disk, report) = make_change(alloc, disk, Application { request, file }, writer);
     match report {

@@ -1,5 +1,5 @@
 -- What is told of a change, if it could be written.
-use Rattle.std.proofs.Common.{◌≡◌, ℕ, Bool, true, false, List, Option, None, Result, Ok, Err, IfOk, refl, subst}
+use Rattle.std.proofs.Common.{◌≡◌, ℕ, true, false, List, Option, None, Result, Ok, Err, IfOk, refl, subst}
 use Rattle.std.specs.Prelude.{OnOk}
 use Rattle.refusals.specs.declared.refusal.Refusal.{Refusal}
 use Rattle.reg_tree.specs.Maps.{TreeMap}

@@ -1,5 +1,5 @@
 -- How a change of a store ends, and what is printed of it.
-use Rattle.std.specs.Prelude.{◌≡◌, ◌⊎◌, ℕ, Bool, true, false, List, Option, Some, None, Result, Ok, Err}
+use Rattle.std.specs.Prelude.{◌≡◌, ◌⊎◌, ℕ, Bool, true, false, List, Option, Some, None, Result, Ok, Err, IfOk}
 use Rattle.std.specs.Io.KnownBytes.{Appends}
 use Rattle.refusals.specs.declared.refusal.Refusal.{Refusal}
 use Rattle.reg_tree.specs.declared.op.Op.{Op}
@@ -10,7 +10,7 @@ use Rattle.script_syntax.specs.declared.reply.ReplyLine.TheVariants as reply
 use Rattle.script_syntax.specs.Replies.{reply_line}
 use Rattle.change_plan.specs.Plans.{Planned}
 use Rattle.store_change.specs.Commits.{Commits, FailsToCommit, KeepsAccepted}
-use Rattle.store_change.specs.Reports.{AllOrNothing, ChangesStore, OpensAndLeaves, report_text}
+use Rattle.store_change.specs.Reports.{AllOrNothing, ChangesStore, report_text}
 use Rattle.store_values.specs.declared.change.Change.{Change}
 use Rattle.store_values.specs.declared.change_result.ChangeResult.{ChangeResult}
 use Rattle.store_values.specs.Changes.{IsDenied, IsPlanned}
@@ -52,12 +52,10 @@ report_told outcome (Some why) = record { status = status.Refused; refusal = (to
 abbrev pub PrintsOutcome : Option (List ℕ) → Option (List ℕ) → Result ℕ Refusal → Option Refusal → ChangeResult → Type 0
 PrintsOutcome before after outcome refused told = Appends before after (report_text (outcome_line outcome) refused) × (told ≡ report_told outcome refused)
 
--- No store was opened, and the reason is printed; or one was, and the change was made. Its end is printed, and so is what is
--- refused of the steps after it.
-abbrev pub ReportsChange : {D : Type 0} → (D → Type 0) → Type 0 → Type 0 → (ℕ → List ℕ) → ℕ → Change → Option (List ℕ) → Option (List ℕ) → ChangeResult → Type 0
-ReportsChange is_faithful failed faithful files moment change before after told =
-    (outcome : Result ℕ Refusal) × (refused : Option Refusal) × ChangesStore is_faithful failed faithful files (EndsChange moment change) is_committed Err outcome refused × PrintsOutcome before after outcome refused told
-
--- A store was opened on these files, and all or nothing of the change was accepted. A prefix of that is left.
-abbrev pub LeavesChange : {D : Type 0} → (D → Type 0) → (ℕ → List ℕ) → ℕ → Change → Type 0 → (ℕ → ℕ → FileState) → ℕ → Type 0
-LeavesChange is_faithful files moment change faithful states clock = OpensAndLeaves is_faithful files (AllOrNothing (AsksPlanned moment change) moment) faithful states clock
+-- No store was opened, or one was, and the change was made of it. If it could be written, how that ended is printed and told,
+-- and what is refused of the steps after it. What is left is what the change has left.
+abbrev pub ReportsChange : {D E : Type 0} → (D → Type 0) → (ℕ → List ℕ) → (ℕ → FileState) → ℕ → Change → Option (List ℕ) → Option (List ℕ) → Result ChangeResult E → Type 0 → Type 0 → (ℕ → ℕ → FileState) → ℕ → Type 0
+ReportsChange is_faithful files state moment change before after told failed faithful states clock =
+    (outcome : Result ℕ Refusal) × (refused : Option Refusal)
+    × ChangesStore is_faithful files state (EndsChange moment change) (AllOrNothing (AsksPlanned moment change) moment) is_committed Err outcome refused told failed faithful states clock
+    × IfOk told (PrintsOutcome before after outcome refused)

@@ -1,10 +1,9 @@
 //! A change from the opening of the store to its end.
-ghost use Rattle.std.specs.Prelude.{◌≡◌, ◌⊎◌, ◌<◌, IfOk, true};
+ghost use Rattle.std.specs.Prelude.{◌≡◌, ◌<◌, true};
 ghost use Rattle.recovery.specs.Recovered.{seen_in};
 ghost use Rattle.store_model.specs.Machine.{is_open};
 ghost use Rattle.store_driver.specs.Later.{IsLater};
-ghost use Rattle.store_driver.specs.Openings.{LeavesLife};
-ghost use Rattle.store_values.specs.Outcomes.{EndsChange, LeavesChange, ReportsChange};
+ghost use Rattle.store_values.specs.Outcomes.{EndsChange, ReportsChange};
 
 use crate::change::Change;
 use crate::change_result::ChangeResult;
@@ -36,14 +35,10 @@ pub fn change_store<D: Disk, W: Write>(
     change: Change,
     writer: &mut W,
 ) -> (D, io::Result<ChangeResult>)
-    ensures reports { IfOk result.1 (ReportsChange D.faithful
-        (D.failures disk < D.failures result.0) (D.faithful result.0)
-        (seen_in (D.state_at disk (D.clock disk))) moment change (W.contents writer.old)
-        (W.contents writer.new)) }
-    ensures left { LeavesLife (D.failures disk < D.failures result.0) (D.faithful result.0)
-        (D.state_at disk (D.clock disk)) (D.state_at result.0 (D.clock result.0))
-        ⊎ LeavesChange D.faithful (seen_in (D.state_at disk (D.clock disk))) moment change
-        (D.faithful result.0) (D.state_at result.0) (D.clock result.0) }
+    ensures { ReportsChange D.faithful (seen_in (D.state_at disk (D.clock disk)))
+        (D.state_at disk (D.clock disk)) moment change (W.contents writer.old) (W.contents writer.new)
+        result.1 (D.failures disk < D.failures result.0) (D.faithful result.0)
+        (D.state_at result.0) (D.clock result.0) }
 {
     let (disk, report) = make_change(alloc, disk, TimedChange { moment, change }, writer);
     match report {
