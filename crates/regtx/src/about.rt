@@ -12,7 +12,7 @@ use std::rt::Files;
 const VERSION: &str = "0.9.0";
 
 /// What is printed of a program whose file has no mark.
-const UNMARKED: &[u8] = b"commit and proof unknown: tools/build marks what it makes\n";
+const UNMARKED: &[u8] = b"commit and proof unknown: tools/build.py marks what it makes\n";
 
 /// Prints which program this is: its version, and its mark, if it has one.
 pub fn print_about<'a, R: Files<File = File> + Print + Eprint + AllocGlobal>(

@@ -1,6 +1,6 @@
 //! The mark at the end of the program's own file: which commit it was built of, and whether it was proved.
 //!
-//! `tools/mark` writes it: 256 bytes, which are the line `regtx build`, the lines that `about` prints, and zeros.
+//! `tools/mark.py` writes it: 256 bytes, which are the line `regtx build`, the lines that `about` prints, and zeros.
 
 use std::fs::File;
 use std::io::{Read, Seek, SeekFrom};
