@@ -2,4 +2,3 @@ mod Flushing
 mod Lines
 mod Shutting
 mod TreeTexts
-mod LineOutcomes

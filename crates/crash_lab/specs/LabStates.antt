@@ -1,10 +1,9 @@
 -- A laboratory between two lines.
-use Rattle.std.specs.Prelude.{◌≡◌, ℕ, List, length, None}
+use Rattle.std.specs.Prelude.{◌≡◌, ℕ, length, None}
 use Rattle.disk_model.specs.FileState.{FileState}
 use Rattle.disk_model.specs.MemDisk.{states, earlier}
 use Rattle.disk_model.specs.declared.mem_disk.MemDisk.{MemDisk}
 use Rattle.refusals.specs.declared.limits.TheConstants.{MOST_HISTORY}
-use Rattle.store_model.specs.Machine.{Machine}
 use Rattle.commit_journal.specs.Store.{Store}
 use Rattle.engine.specs.Lives.{IsSafe}
 use Rattle.script_runner.specs.Interpreters.{engine_of, script_of}

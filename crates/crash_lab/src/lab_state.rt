@@ -1,10 +1,9 @@
 //! A script in a laboratory, between two lines.
-ghost use Rattle.std.specs.Prelude.{◌≡◌, ◌↔◌, [], ℕ, true, Some, None, MatchOption, IfOk, IfSome, IfNone, OnErr};
+ghost use Rattle.std.specs.Prelude.{◌≡◌, ◌↔◌, true, Some, None, MatchOption, IfOk, IfSome, IfNone, OnErr};
 ghost use Rattle.script_syntax.specs.declared.line.Line.{Line as AnyLine};
-ghost use Rattle.script_runner.specs.Scripts.{hives_asked};
 ghost use Rattle.script_runner.specs.Interpreters.{script_of};
 ghost use Rattle.store_model.specs.Machine.{trees_now};
-ghost use Rattle.crash_lab.specs.LabStates.{lab_state_of, CrashesAreSafe, IsLimited, IsNew};
+ghost use Rattle.crash_lab.specs.LabStates.{lab_state_of};
 ghost use Rattle.crash_lab.specs.Experiments.{Answered, AnswersLine, Crashes, Experiments, IsFlushedWhole, following_line, line_asked, tear_of};
 
 use crate::device::Device;
@@ -12,9 +11,13 @@ use crate::power_loss::{Reopened, open_after_crash};
 use crate::reply::LabReply;
 use disk_model::{MemDisk, Tear};
 use reg_tree::Trees;
-use script_runner::{HistoryLimit, Interpreter, begin_on};
+use script_loop::{Answerer, HistoryLimit, LineTurn, ScriptedStore};
+use script_runner::{Interpreter, begin_on};
 use script_syntax::{CrashTear, LabLine, Line, ParseError, ReplyLine, read_line};
 use std::alloc::{AllocError, Global};
+use std::convert::Infallible;
+use std::io;
+use std::io::Write;
 use store_model::Event;
 
 /// A script over a disk in memory, and what was asked of that disk's device.
@@ -38,16 +41,16 @@ impl Drop for Laboratory {
     }
 }
 
-impl Laboratory {
-    /// The laboratory of the script whose first line these bytes are; or `None` if they are no such line. Refused only
-    /// for lack of memory.
-    pub(crate) fn begin(alloc: Global, bytes: &[u8]) -> Result<Option<Laboratory>, AllocError>
-        ensures none { IfOk result (λ made. IfNone made (hives_asked bytes.now ≡ None)) }
-        ensures some { IfOk result (λ made. IfSome made (λ laboratory. (hives : ℕ)
-            × (hives_asked bytes.now ≡ Some hives) × IsNew hives (lab_state_of laboratory))) }
-    {
+impl ScriptedStore for Laboratory {
+    ghost use Rattle.crash_lab.specs.LabStates.{lab_state_of, IsLimited, IsNew};
+
+    ghost is_made = { λ hives laboratory. IsNew hives (lab_state_of laboratory) };
+
+    ghost is_limited = { λ limit old new. IsLimited limit (lab_state_of old) (lab_state_of new) };
+
+    fn begin(alloc: Global, line: &[u8]) -> Result<Option<Laboratory>, AllocError> {
         let device = Device::new(alloc)?;
-        match begin_on(alloc, bytes, device.plan()?)? {
+        match begin_on(alloc, line, device.plan()?)? {
             Some(engine) => {
                 engine.keeps_a_prefix(); // for the prover
                 let interpreter = Interpreter::new(alloc, engine);
@@ -62,33 +65,66 @@ impl Laboratory {
         }
     }
 
-    /// Sets how many changes the store accepts until its history is folded, also after a loss of power.
-    pub(crate) fn limit_history(&mut self, limit: HistoryLimit)
-        requires { (lab_state_of self.old).script.machine.accepted ≡ [] }
-        ensures { IsLimited limit (lab_state_of self.old) (lab_state_of self.new) }
-    {
+    // also after a loss of power
+    fn limit_history(&mut self, limit: HistoryLimit) {
         self.interpreter.limit_history(limit);
         self.limit = limit;
         self.interpreter.engine().keeps_a_prefix(); // for the prover
     }
+}
 
-    /// The trees after all accepted changes, also those of hives that calls don't name.
-    pub(crate) fn trees(&self) -> &Trees
+impl Answerer<Global> for Laboratory {
+    type Stop = Infallible;
+
+    ghost use Rattle.std.specs.Prelude.{◌≡◌, ⊤, None};
+    ghost use Rattle.crash_lab.specs.Experiments.{line_asked};
+    ghost use Rattle.crash_lab.specs.LabStates.{lab_state_of};
+    ghost use Rattle.crash_lab.specs.Runs.{TriesLine};
+
+    ghost answers = { λ old line text refused new. TriesLine (lab_state_of old) line text refused (lab_state_of new) };
+
+    ghost stops = { λ old line text refused why new. ⊥ };
+
+    ghost is_none = { λ line. line_asked line ≡ None };
+
+    ghost unanswered = { λ old new. ⊤ };
+
+    fn answer<W: Write>(
+        &mut self,
+        _alloc: &Global,
+        line: &[u8],
+        writer: &mut W,
+    ) -> io::Result<LineTurn<Infallible>> {
+        match self.reply_to(line) {
+            Ok(Some(reported)) => {
+                reported.write(self.hives(), self.trees(), writer)?;
+                let is_refusal = reported.is_refusal();
+                Ok(LineTurn::Replied { is_refusal })
+            }
+            Ok(None) => Ok(LineTurn::NotUnderstood),
+            Err(AllocError) => Ok(LineTurn::NoMemory),
+        }
+    }
+}
+
+impl Laboratory {
+    // the trees after all accepted changes, also those of hives that calls don't name
+    fn trees(&self) -> &Trees
         ensures { result.now ≡ trees_now (lab_state_of self.now).script.machine }
     {
         self.interpreter.engine().trees()
     }
 
-    /// How many hives calls name.
-    pub(crate) fn hives(&self) -> usize
+    // how many hives calls name
+    fn hives(&self) -> usize
         ensures { result ≡ (lab_state_of self.now).script.machine.bounds.hives }
     {
         usize::from(self.interpreter.engine().hives())
     }
 
-    /// Answers a further line of the script, or `None` if the bytes are no such line. Memory is refused only for
-    /// reading the line, before anything is asked.
-    pub(crate) fn reply_to(&mut self, bytes: &[u8]) -> Result<Option<LabReply>, AllocError>
+    // answers a further line of the script, or `None` if the bytes are no such line. Memory is refused only for reading
+    // the line, before anything is asked
+    fn reply_to(&mut self, bytes: &[u8]) -> Result<Option<LabReply>, AllocError>
         ensures none { IfOk result (λ made. IfNone made (line_asked bytes.now ≡ None)) }
         ensures some { IfOk result (λ made. IfSome made (λ reported. (asked : AnyLine)
             × (line_asked bytes.now ≡ Some asked)

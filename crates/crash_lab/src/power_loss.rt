@@ -8,7 +8,8 @@ use crate::device::Device;
 use disk_model::{MemDisk, Tear};
 use engine::Engine;
 use refusals::Refusal;
-use script_runner::{HistoryLimit, make_journal_room};
+use script_loop::HistoryLimit;
+use script_runner::make_journal_room;
 use std::alloc::{AllocError, Global};
 use store_driver::open_store;
 

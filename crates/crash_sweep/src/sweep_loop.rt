@@ -2,7 +2,7 @@
 use crate::sweep_error::SweepError;
 use crate::sweep_steps::begun;
 use crate::table::write_heading;
-use script_runner::{EndOfScript, end, next_line, wrong};
+use script_loop::{EndOfScript, end, next_line, wrong};
 use script_syntax::Status;
 use std::alloc::Global;
 use std::io;

@@ -11,18 +11,17 @@ use Rattle.std.specs.Map.{lookup}
 use Rattle.refusals.specs.Refusals.{refusal_text}
 use Rattle.refusals.specs.declared.refusal.Refusal.{Refusal}
 use Rattle.refusals.specs.declared.refusal.Refusal.TheVariants.{Faulted}
-use Rattle.script_syntax.proofs.Written.{appends_more}
+use Rattle.script_syntax.proofs.Written.{appends_more, appends_nothing}
 use Rattle.script_syntax.specs.Statuses.{with_refusal}
 use Rattle.script_syntax.specs.declared.reply.ReplyLine.{ReplyLine}
 use Rattle.script_syntax.specs.declared.status.Status.{Status}
 use Rattle.script_syntax.specs.declared.status.Status.TheVariants.{Refused}
-use Rattle.script_runner.proofs.Runs.{appends_kept, if_ok, keeps_same, kept_appends}
+use Rattle.script_loop.proofs.Texts.{appends_kept, if_ok, keeps_same, kept_appends}
 use Rattle.script_runner.specs.Labels.{NamesNothing, named_by}
-use Rattle.script_runner.specs.Plays.{Ends, is_refusal}
+use Rattle.script_runner.specs.Plays.{is_refusal}
 use Rattle.store_driver.specs.Openings.{BeginsAt}
 use Rattle.script_runner.specs.Plays.{opened_text}
-use Rattle.script_runner.specs.declared.end_of_script.EndOfScript.{EndOfScript}
-use Rattle.script_runner.specs.declared.end_of_script.EndOfScript.TheVariants.{Broken}
+use Rattle.script_loop.specs.declared.end_of_script.EndOfScript.TheVariants.{Broken}
 use Rattle.script_syntax.specs.declared.line.Line.TheVariants.{Flush}
 use Rattle.reg_tree.specs.Maps.{TreeMap}
 use Rattle.reg_tree.specs.Sequences.{after_elements}
@@ -38,7 +37,7 @@ use Rattle.registry_runner.specs.declared.parts.NextPart.{NextPart}
 use Rattle.registry_runner.specs.declared.parts.PartEnd.TheVariants.{ToFold}
 use Rattle.registry_runner.specs.declared.parts.PartKind.TheVariants.{Opened}
 use Rattle.registry_runner.specs.declared.parts.PartStart.{PartStart}
-use Rattle.registry_runner.proofs.Playing.{appends_nothing, kept_by_nothing, part, stopped}
+use Rattle.registry_runner.proofs.Playing.{kept_by_nothing, part, stopped}
 use Rattle.script_runner.specs.declared.labels.Labels.{Labels}
 use Rattle.store_model.specs.declared.event.Reply.{Reply}
 use Rattle.store_model.specs.declared.event.Reply.TheVariants as answer

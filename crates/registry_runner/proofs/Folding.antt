@@ -1,15 +1,15 @@
 -- What the steps between two registries leave of a machine.
-use Rattle.std.proofs.Common.{◌≡◌, ◌+◌, ◌⊎◌, ℕ, List, [], ◌∷◌, ◌++◌, length, Bool, true, false, Option, Some, None, refl, sym, ap, subst, ◌∙◌, inl, inr, arith}
+use Rattle.std.proofs.Common.{◌≡◌, ◌+◌, ℕ, List, [], ◌∷◌, ◌++◌, length, Bool, true, false, Option, Some, refl, sym, ap, subst, ◌∙◌, inl, inr, arith}
 use Rattle.std.specs.Prelude.{IfSome}
 use Rattle.std.proofs.lemmas.List.{length-append}
 use Rattle.refusals.specs.declared.refusal.Refusal.{Refusal}
-use Rattle.refusals.specs.declared.refusal.Refusal.TheVariants.{NoMemory, Faulted, DiskFault}
+use Rattle.refusals.specs.declared.refusal.Refusal.TheVariants.{Faulted}
 use Rattle.reg_tree.specs.Maps.{TreeMap}
 use Rattle.reg_tree.specs.Judgement.{applied}
 use Rattle.reg_tree.specs.Sequences.{after_elements}
 use Rattle.reg_tree.specs.declared.element.Element.{Element}
-use Rattle.store_model.specs.Machine.{Machine, fault, is_of_device, last_number, refused_if, trees_now}
-use Rattle.store_model.specs.Steps.{Step, Refuses, StepFails}
+use Rattle.store_model.specs.Machine.{Machine, fault, is_of_device, refused_if}
+use Rattle.store_model.specs.Steps.{Step, Refuses}
 use Rattle.store_model.specs.declared.bounds.StoreBounds.{StoreBounds}
 use Rattle.store_model.specs.declared.event.Event.TheVariants as event
 use Rattle.store_model.specs.declared.event.Reply.{Reply}

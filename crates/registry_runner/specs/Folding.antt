@@ -1,7 +1,6 @@
 -- What a fold between two registries leaves of an engine's machine.
-use Rattle.std.specs.Prelude.{◌≡◌, ℕ, List, [], length}
+use Rattle.std.specs.Prelude.{◌≡◌, ℕ, []}
 use Rattle.store_model.specs.Machine.{Machine, last_number, trees_now}
-use Rattle.ktm_calls.specs.Moments.{IsOf}
 
 -- no change was accepted since the store was opened or its history was folded, and no session is open
 abbrev pub IsIdle : Machine → Type 0

@@ -3,5 +3,6 @@ pub mod Scripts
 pub mod Parts
 pub mod Interpreters
 pub mod Plays
+pub mod PartLines
 pub mod Running
 pub mod Folding

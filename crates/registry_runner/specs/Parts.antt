@@ -1,5 +1,5 @@
 -- The parts of a script's run. Each calls a registry of its own, and the history is folded between two of them.
-use Rattle.std.specs.Prelude.{◌≡◌, ℕ, ◌+◌, ◌-◌, ◌*◌, ◌≤◌, ◌⊎◌, true, false, List, [], length, Option, None, Result, Ok, Err}
+use Rattle.std.specs.Prelude.{◌≡◌, ℕ, ◌+◌, ◌-◌, ◌*◌, ◌≤◌, ◌⊎◌, true, List, [], length, None, Result, Ok, Err}
 use Rattle.refusals.specs.declared.refusal.Refusal.{Refusal}
 use Rattle.refusals.specs.declared.refusal.Refusal.TheVariants.{NoMemory, NoSeat}
 use Rattle.reg_tree.specs.Maps.{TreeMap}
@@ -8,7 +8,6 @@ use Rattle.reg_tree.specs.declared.element.Element.{Element}
 use Rattle.script_syntax.specs.Replies.{reply_line}
 use Rattle.script_syntax.specs.declared.reply.ReplyLine.{ReplyLine}
 use Rattle.script_syntax.specs.declared.reply.ReplyLine.TheVariants as reply
-use Rattle.script_runner.specs.Plays.{is_refusal}
 use Rattle.script_runner.specs.Plays.{opened_text}
 use Rattle.store_model.specs.Machine.{is_of_device}
 use Rattle.ktm_calls.specs.Denials.{IsOpened}

@@ -1,6 +1,6 @@
 -- What a script prints over registries, and how its lines end.
 use Rattle.std.specs.Prelude.{◌≡◌, ℕ, ◌+◌, ◌⊎◌, Bool, true, false, List, [], ◌∷◌, ◌++◌, Option, Some, None, Result, Ok, Err, IfOk}
-use Rattle.std.specs.Io.KnownBytes.{Appends, Keeps}
+use Rattle.std.specs.Io.KnownBytes.{Appends}
 use Rattle.refusals.specs.Refusals.{refusal_text}
 use Rattle.refusals.specs.declared.refusal.Refusal.{Refusal}
 use Rattle.script_syntax.specs.Replies.{reply_line}
@@ -10,19 +10,16 @@ use Rattle.script_syntax.specs.declared.line.Line.TheVariants.{Flush, Fold}
 use Rattle.script_syntax.specs.declared.reply.ReplyLine.{ReplyLine}
 use Rattle.script_syntax.specs.declared.status.Status.{Status}
 use Rattle.script_syntax.specs.declared.status.Status.TheVariants.{Refused}
-use Rattle.script_runner.specs.OutcomeOfLine.{TakesLine}
-use Rattle.script_runner.specs.Plays.{Ends, EndsAs, IsWrong, WereRead, is_refusal}
+use Rattle.script_loop.specs.Lines.{WereRead}
+use Rattle.script_loop.specs.Ends.{EndsAs, EndsScript, IsWrongLine}
+use Rattle.script_runner.specs.Plays.{is_refusal}
 use Rattle.script_runner.specs.Scripts.{line_asked}
-use Rattle.script_runner.specs.declared.end_of_script.EndOfScript.{EndOfScript}
-use Rattle.script_runner.specs.declared.end_of_script.EndOfScript.TheVariants.{Broken}
-use Rattle.registry_runner.specs.Scripts.{Script, Answers, Flushes, IsFlushed}
-use Rattle.registry_runner.specs.Parts.{Part, Folds, IsDue, IsUnlabelled, KeepsOrFolds, number_told, start_text, with_script}
+use Rattle.script_loop.specs.declared.end_of_script.EndOfScript.{EndOfScript}
+use Rattle.script_loop.specs.declared.end_of_script.EndOfScript.TheVariants.{Broken}
+use Rattle.registry_runner.specs.Scripts.{Script, Answers, IsFlushed}
+use Rattle.registry_runner.specs.Parts.{Part, Folds, KeepsOrFolds, start_text, with_script}
 use Rattle.registry_runner.specs.declared.parts.NextPart.{NextPart}
 use Rattle.registry_runner.specs.declared.parts.PartKind.TheVariants.{Folded}
-use Rattle.registry_runner.specs.declared.lines.BetweenLines.{BetweenLines}
-use Rattle.registry_runner.specs.declared.lines.BetweenLines.TheVariants as between
-use Rattle.registry_runner.specs.declared.lines.LineOutcome.{LineOutcome}
-use Rattle.registry_runner.specs.declared.lines.LineOutcome.TheVariants as outcome
 use Rattle.registry_runner.specs.declared.lines.LinesEnd.{LinesEnd}
 use Rattle.registry_runner.specs.declared.lines.LinesEnd.TheVariants as come
 use Rattle.registry_runner.specs.declared.part_run.LinesEnded.{LinesEnded}
@@ -43,7 +40,7 @@ abbrev pub PlaysOn : ℕ → Result Part Refusal → ℕ → List (List ℕ) →
 PlaysOn limit (Err why) number lines end_of_script text status end = IsStopped why lines end_of_script text status × (end ≡ Err why)
 PlaysOn limit (Ok old) number [] end_of_script text status end = EndsAs end_of_script text status × (end ≡ Ok old)
 PlaysOn limit (Ok old) number (line ∷ lines) end_of_script text status end =
-    ((line_asked line ≡ None) × IsWrong number lines end_of_script text status × (end ≡ Ok old))
+    ((line_asked line ≡ None) × IsWrongLine number lines end_of_script text status × (end ≡ Ok old))
     ⊎ ((asked : Line) × (reported : ReplyLine) × (new : Script) × (kept : Result Part Refusal) × (rest : List ℕ) × (later : Status) × (line_asked line ≡ Some asked) × Answers old.trees old.number old.hives old.script asked reported new
     × KeepsOrFolds limit (with_script old new) reported kept × PlaysOn limit kept (number + 1) lines end_of_script rest later end × (text ≡ reply_line reported ++ rest) × (status ≡ with_refusal (is_refusal reported) later))
     ⊎ ((mid : Script) × (next : Result Part Refusal) × (rest : List ℕ) × (line_asked line ≡ Some Fold) × IsFlushed old.trees old.number old.hives old.script mid × Folds (with_script old mid) next
@@ -58,21 +55,6 @@ WereReadIf false known lines end_of_script = (lines ≡ []) × (end_of_script �
 abbrev pub IsPlayedOn : ℕ → Bool → Result Part Refusal → ℕ → Option (List ℕ) → Option (List ℕ) → Option (List ℕ) → Status → Result Part Refusal → Type 0
 IsPlayedOn limit can_read old number known was is status end =
     (lines : List (List ℕ)) × (end_of_script : Option EndOfScript) × (text : List ℕ) × WereReadIf can_read known lines end_of_script × PlaysOn limit old number lines end_of_script text status end × Appends was is text
-
--- a line was answered; it asks for a fold, for which all was flushed; or no line is read any more
-abbrev pub OutcomeOfLine : ℕ → Part → ℕ → Option (List ℕ) → Option (List ℕ) → LineOutcome → Script → Option (List ℕ) → Option (List ℕ) → Type 0
-OutcomeOfLine limit old number known was (outcome.Over status) new rest is = IsPlayedOn limit true (Ok old) number known was is status (Ok (with_script old new))
-OutcomeOfLine limit old number known was outcome.ToFold new rest is =
-    (line : List ℕ) × TakesLine known rest line × (line_asked line ≡ Some Fold) × IsFlushed old.trees old.number old.hives old.script new × Keeps was is
-OutcomeOfLine limit old number known was (outcome.Replied refused told) new rest is =
-    (line : List ℕ) × (asked : Line) × (reported : ReplyLine) × TakesLine known rest line × (line_asked line ≡ Some asked) × Answers old.trees old.number old.hives old.script asked reported new
-    × Appends was is (reply_line reported) × (refused ≡ is_refusal reported) × (told ≡ number_told reported)
-
--- after a line whose reply told a number, the script goes on in the same registry; or the history is to be folded
-abbrev pub Between : ℕ → Part → ℕ → BetweenLines → Script → Type 0
-Between limit old told (between.GoOn failed) new =
-    (new ≡ old.script) ⊎ (IsDue limit old told × IsUnlabelled old.script × (flushed : ReplyLine) × Flushes old.trees old.number old.hives old.script flushed new)
-Between limit old told between.ToFold new = IsDue limit old told × IsUnlabelled old.script × IsFlushed old.trees old.number old.hives old.script new
 
 -- However a run goes on once the history of a part is folded, that is how it goes on from a line of the part.
 abbrev pub GoesOnFolded : ℕ → Bool → Part → ℕ → Option (List ℕ) → Option (List ℕ) → NextPart → Part → Option (List ℕ) → Option (List ℕ) → Type 0
@@ -99,5 +81,5 @@ PartComes limit can_read old number known was (ended.ToFold next) new rest is = 
 
 -- no line is read of a script that can't be read
 abbrev pub IsUnread : Option (List ℕ) → Option (List ℕ) → LinesEnd → Type 0
-IsUnread was is (come.Ended status) = (text : List ℕ) × Ends Broken text status × Appends was is text
+IsUnread was is (come.Ended status) = (text : List ℕ) × EndsScript Broken text status × Appends was is text
 IsUnread was is (come.ToFold next) = ⊥

@@ -16,7 +16,7 @@ use Rattle.script_syntax.specs.declared.status.Status.TheVariants.{Refused}
 use Rattle.script_runner.specs.Plays.{is_refusal}
 use Rattle.store_driver.specs.Openings.{IsOpenedOn, LeavesPrefix, MayNotOpen}
 use Rattle.script_runner.specs.Plays.{opened_text}
-use Rattle.script_runner.specs.declared.end_of_script.EndOfScript.{EndOfScript}
+use Rattle.script_loop.specs.declared.end_of_script.EndOfScript.{EndOfScript}
 use Rattle.ktm_calls.specs.Denials.{denial_of}
 use Rattle.ktm_calls.specs.Moments.{IsOf}
 use Rattle.ktm_calls.specs.declared.registry.Denied.{Denied}

@@ -1,10 +1,10 @@
 //! The lines of a part, one after another.
-ghost use Rattle.std.specs.Prelude.{◌≡◌, true, IfOk, OnOk};
+ghost use Rattle.std.specs.Prelude.{◌≡◌, IfOk, OnOk};
 ghost use Rattle.std.specs.Io.KnownBytes.{Appends, Keeps};
 ghost use Rattle.script_syntax.specs.Replies.{reply_line};
 ghost use Rattle.script_runner.specs.Plays.{is_refusal};
 ghost use Rattle.registry_runner.specs.Interpreters.{part_of, script_of};
-ghost use Rattle.registry_runner.specs.Plays.{Between, LinesCome, OutcomeOfLine};
+ghost use Rattle.registry_runner.specs.PartLines.{Between};
 
 use crate::caller::Caller;
 use crate::history_use::{HistoryUse, number_told};
@@ -13,21 +13,14 @@ use crate::script::{LineAnswer, Script};
 use ktm_calls::StoreEngine;
 use published_trees::Origin;
 use refusals::Refusal;
-use script_runner::{EndOfScript, Status, end, is_refusal, next_line, wrong};
+use script_loop::{Answerer, LineTurn, LoopEnd, run_lines};
+use script_runner::{Status, is_refusal};
 use script_syntax::ReplyLine;
 use std::alloc::AllocError;
 use std::io;
 use std::io::{BufRead, Write};
 use std::sync::Wait;
 use store_driver::BUSY_ROOM;
-
-/// What came of a part's lines.
-pub struct LinesRead {
-    /// How they ended. `Err` says that a write failed.
-    pub played: io::Result<LinesEnd>,
-    /// Whether the device failed in a step between two lines, which no line asked for.
-    pub has_failed: bool,
-}
 
 /// How a part's lines end.
 pub enum LinesEnd {
@@ -43,16 +36,6 @@ pub enum LinesEnd {
     },
 }
 
-// the outcome of one line
-enum LineOutcome {
-    // it was answered, and its reply told the number of a change, or 0
-    Replied { is_refusal: bool, told: u64 },
-    // it asks for a fold
-    ToFold,
-    // no line is read any more
-    Over { status: Status },
-}
-
 // what came of the work between two lines
 enum BetweenLines {
     // the script goes on; whether the device failed
@@ -61,112 +44,127 @@ enum BetweenLines {
     ToFold,
 }
 
-/// Reads the lines of a part, and writes the reply to each as soon as it is read.
-pub fn read_lines<E: StoreEngine, O: Origin, R: Wait, B: BufRead, W: Write>(
-    caller: &Caller<'_, E, O, R>,
-    script: &mut Script<O>,
-    start: PartStart,
-    reader: &mut B,
-    writer: &mut W,
-) -> LinesRead
-    requires number { start.number ≡ O.number }
-    ensures { IfOk result.played (λ end. LinesCome start.limit true
-        (part_of O.trees O.number O.hives script.old) start.line (B.remaining reader.old)
-        (W.contents writer.old) end (script_of script.new) (B.remaining reader.new)
-        (W.contents writer.new)) }
-{
-    let mut has_failed = false;
-    let played = go_on(caller, script, start, reader, writer, &mut has_failed);
-    LinesRead { played, has_failed }
+/// The lines of a part: its script, and what is kept beside it.
+pub struct PartLines<O: Origin> {
+    /// The script.
+    pub script: Script<O>,
+    /// How much of its history the part has used.
+    pub history: HistoryUse,
+    /// Whether the device failed in a step between two lines, which no line asked for.
+    pub has_failed: bool,
 }
 
-fn go_on<E: StoreEngine, O: Origin, R: Wait, B: BufRead, W: Write>(
-    caller: &Caller<'_, E, O, R>,
-    script: &mut Script<O>,
-    start: PartStart,
-    reader: &mut B,
-    writer: &mut W,
-    has_failed: &mut bool,
-) -> io::Result<LinesEnd>
-    requires number { start.number ≡ O.number }
-    ensures { IfOk result (λ end. LinesCome start.limit true (part_of O.trees O.number O.hives script.old)
-        start.line (B.remaining reader.old) (W.contents writer.old) end (script_of script.new)
-        (B.remaining reader.new) (W.contents writer.new)) }
-{
-    let mut line = Vec::new(caller.alloc);
-    let mut has_refusal = false;
-    let mut history = HistoryUse::new(start);
-    for number in start.line..u64::MAX {
-        match take_line(
-            caller,
+impl<O: Origin> Drop for PartLines<O> {
+    // one drop for all that own them, whose proofs see no more of it than that
+    fn drop(self) {
+        let PartLines {
+            script: _,
+            history: _,
+            has_failed: _,
+        } = self;
+    }
+}
+
+impl<O: Origin> PartLines<O> {
+    ghost use Rattle.std.specs.Prelude.{◌≡◌, true, IfOk};
+    ghost use Rattle.registry_runner.specs.Interpreters.{part_of, script_of};
+    ghost use Rattle.registry_runner.specs.Plays.{LinesCome};
+
+    /// The lines of a part that begins so, before its first one.
+    pub fn new(script: Script<O>, start: PartStart) -> PartLines<O>
+        ensures script { result.script ≡ script }
+        ensures first { result.history.first ≡ start.number }
+        ensures limit { result.history.limit ≡ start.limit }
+    {
+        PartLines {
             script,
-            start.limit,
-            reader,
-            &mut line,
-            writer,
-            number,
-        )? {
-            LineOutcome::Replied { is_refusal, told } => {
-                has_refusal |= is_refusal;
-                match work_between_lines(caller, script, &mut history, told, writer)? {
-                    BetweenLines::GoOn { has_failed: failed } => *has_failed |= failed,
-                    BetweenLines::ToFold => {
-                        let kind = PartKind::Continued;
-                        let next = script.next_part(kind, number, has_refusal);
-                        return Ok(LinesEnd::ToFold { next });
+            history: HistoryUse::new(start),
+            has_failed: false,
+        }
+    }
+
+    /// Reads the lines, and writes the reply to each as soon as it is read.
+    pub fn read<E: StoreEngine, R: Wait, B: BufRead, W: Write>(
+        &mut self,
+        caller: &Caller<'_, E, O, R>,
+        start: PartStart,
+        reader: &mut B,
+        writer: &mut W,
+    ) -> io::Result<LinesEnd>
+        requires first { self.old.history.first ≡ O.number }
+        requires limit { self.old.history.limit ≡ start.limit }
+        ensures { IfOk result (λ end. LinesCome start.limit true
+            (part_of O.trees O.number O.hives self.old.script) start.line (B.remaining reader.old)
+            (W.contents writer.old) end (script_of self.new.script) (B.remaining reader.new)
+            (W.contents writer.new)) }
+    {
+        let mut line = Vec::new(caller.alloc);
+        match run_lines(self, caller, start.line, reader, &mut line, writer)? {
+            LoopEnd::Over { status } => Ok(LinesEnd::Ended { status }),
+            LoopEnd::Stopped {
+                why,
+                next,
+                has_refusal,
+            } => {
+                let next = self.script.next_part(why, next, has_refusal);
+                Ok(LinesEnd::ToFold { next })
+            }
+        }
+    }
+}
+
+impl<'a, E: StoreEngine, O: Origin, R: Wait> Answerer<Caller<'a, E, O, R>> for PartLines<O> {
+    type Stop = PartKind;
+
+    ghost use Rattle.std.specs.Prelude.{◌≡◌, None};
+    ghost use Rattle.script_runner.specs.Scripts.{line_asked};
+    ghost use Rattle.registry_runner.specs.Interpreters.{part_of, script_of};
+    ghost use Rattle.registry_runner.specs.PartLines.{AnswersInPart, StopsInPart, OverHistory};
+
+    ghost answers = { λ old line text refused new. OverHistory O.number old.history new.history (AnswersInPart old.history.limit (part_of O.trees O.number O.hives old.script) line text refused (script_of new.script)) };
+
+    ghost stops = { λ old line text refused why new. OverHistory O.number old.history new.history (StopsInPart old.history.limit (part_of O.trees O.number O.hives old.script) line text refused why (script_of new.script)) };
+
+    ghost is_none = { λ line. line_asked line ≡ None };
+
+    ghost unanswered = { λ old new. script_of new.script ≡ script_of old.script };
+
+    // Before the store waits for the disk, and after it, the replies so far are written out
+    fn answer<W: Write>(
+        &mut self,
+        caller: &Caller<'a, E, O, R>,
+        line: &[u8],
+        writer: &mut W,
+    ) -> io::Result<LineTurn<PartKind>> {
+        let waits = waits(line);
+        write_out(writer, waits)?;
+        match self.script.reply_to(caller, line) {
+            Ok(Some(LineAnswer::Reply { reply })) => {
+                let is_refusal = write_reply(writer, &reply, waits)?;
+                let told = number_told(&reply);
+                match work_between_lines(
+                    caller,
+                    &mut self.script,
+                    &mut self.history,
+                    told,
+                    writer,
+                )? {
+                    BetweenLines::GoOn { has_failed } => {
+                        self.has_failed |= has_failed;
+                        Ok(LineTurn::Replied { is_refusal })
                     }
+                    BetweenLines::ToFold => Ok(LineTurn::Stopped {
+                        is_refusal,
+                        why: PartKind::Continued,
+                    }),
                 }
             }
-            LineOutcome::ToFold => {
-                let next = script.next_part(PartKind::Folded, number, has_refusal);
-                return Ok(LinesEnd::ToFold { next });
-            }
-            LineOutcome::Over { status } => {
-                let status = status.after(has_refusal);
-                return Ok(LinesEnd::Ended { status });
-            }
-        }
-    }
-    // a script of so many lines isn't read further
-    let status = end(writer, EndOfScript::Broken)?.after(has_refusal);
-    Ok(LinesEnd::Ended { status })
-}
-
-// reads the line of this number, answers it, and writes the reply. Before the store waits for the disk, and after it,
-// the replies so far are written out
-fn take_line<E: StoreEngine, O: Origin, R: Wait, B: BufRead, W: Write>(
-    caller: &Caller<'_, E, O, R>,
-    script: &mut Script<O>,
-    limit: u64,
-    reader: &mut B,
-    line: &mut Vec<u8>,
-    writer: &mut W,
-    number: u64,
-) -> io::Result<LineOutcome>
-    ensures { IfOk result (λ outcome. OutcomeOfLine limit (part_of O.trees O.number O.hives script.old) number
-        (B.remaining reader.old) (W.contents writer.old) outcome (script_of script.new)
-        (B.remaining reader.new) (W.contents writer.new)) }
-{
-    if let Err(end_of_script) = next_line(reader, line) {
-        let status = end(writer, end_of_script)?;
-        return Ok(LineOutcome::Over { status });
-    }
-    let waits = waits(line);
-    write_out(writer, waits)?;
-    match script.reply_to(caller, line) {
-        Ok(Some(LineAnswer::Reply { reply })) => {
-            let is_refusal = write_reply(writer, &reply, waits)?;
-            let told = number_told(&reply);
-            Ok(LineOutcome::Replied { is_refusal, told })
-        }
-        Ok(Some(LineAnswer::ToFold)) => Ok(LineOutcome::ToFold),
-        Ok(None) => {
-            let status = wrong(writer, number)?;
-            Ok(LineOutcome::Over { status })
-        }
-        Err(AllocError) => {
-            let status = end(writer, EndOfScript::OutOfMemory)?;
-            Ok(LineOutcome::Over { status })
+            Ok(Some(LineAnswer::ToFold)) => Ok(LineTurn::Stopped {
+                is_refusal: false,
+                why: PartKind::Folded,
+            }),
+            Ok(None) => Ok(LineTurn::NotUnderstood),
+            Err(AllocError) => Ok(LineTurn::NoMemory),
         }
     }
 }
@@ -180,8 +178,7 @@ fn work_between_lines<E: StoreEngine, O: Origin, R: Wait, W: Write>(
     told: u64,
     writer: &mut W,
 ) -> io::Result<BetweenLines>
-    requires first { history.old.first ≡ O.number }
-    ensures between { IfOk result (λ next. Between history.old.limit
+    ensures between { IfOk result (λ next. history.old.first ≡ O.number → Between history.old.limit
         (part_of O.trees O.number O.hives script.old) told next (script_of script.new)) }
     ensures kept { OnOk result (Keeps (W.contents writer.old) (W.contents writer.new)) }
     ensures same { (history.new.first ≡ history.old.first) × (history.new.limit ≡ history.old.limit) }

@@ -10,14 +10,15 @@ ghost use Rattle.registry_runner.specs.Running.{EndsPart};
 
 use crate::caller::Caller;
 use crate::gate::EndOfLines;
-use crate::lines::{LinesEnd, LinesRead, read_lines};
+use crate::lines::{LinesEnd, PartLines};
 use crate::parts::{NextPart, PartEnd, PartKind, PartStart};
 use crate::run_end::{finish, write_refusal, written_out};
 use crate::script::Script;
 use flusher::try_run_beside;
 use ktm_calls::{Denied, Ended, Registry, Stopped, StoreEngine};
 use published_trees::{ChangeCount, Origin, SeenChanges};
-use script_runner::{EndOfScript, Status, end};
+use script_loop::{EndOfScript, end};
+use script_runner::Status;
 use script_syntax::ReplyLine;
 use std::alloc::Global;
 use std::io;
@@ -112,9 +113,9 @@ fn run_begun<
     ensures { EndsPart start O.trees O.number O.hives (B.remaining reader.old) (W.contents writer.old) result
         (B.remaining reader.new) (W.contents writer.new) }
 {
-    let mut script = script;
+    let mut lines = PartLines::new(script, start);
     let gate = EndOfLines::new(caller.rt);
-    run_told(caller, &gate, &mut script, start, reader, writer)
+    run_told(caller, &gate, &mut lines, start, reader, writer)
 }
 
 // prints what the part prints first, and runs the script beside a flusher
@@ -127,12 +128,14 @@ fn run_told<
 >(
     caller: &Caller<'_, E, O, R>,
     gate: &EndOfLines<'_, R>,
-    script: &mut Script<O>,
+    lines: &mut PartLines<O>,
     start: PartStart,
     reader: &mut B,
     writer: &mut W,
 ) -> PartEnd
-    requires begun { IsBegun O.trees O.number O.hives start.moment (script_of script.old) }
+    requires begun { IsBegun O.trees O.number O.hives start.moment (script_of lines.old.script) }
+    requires first { lines.old.history.first ≡ O.number }
+    requires limit { lines.old.history.limit ≡ start.limit }
     requires number { start.number ≡ O.number }
     ensures { EndsPart start O.trees O.number O.hives (B.remaining reader.old) (W.contents writer.old) result
         (B.remaining reader.new) (W.contents writer.new) }
@@ -140,7 +143,7 @@ fn run_told<
     if let Err(error) = write_start(writer, start.kind, start.number) {
         return PartEnd::RunEnded { ran: Err(error) };
     }
-    let (ended, flushed) = read_beside_flusher(caller, gate, script, start, reader, writer);
+    let (ended, flushed) = read_beside_flusher(caller, gate, lines, start, reader, writer);
     match ended {
         LinesEnded::ToFold { next } => PartEnd::ToFold { next },
         LinesEnded::AtEnd {
@@ -181,14 +184,15 @@ fn read_beside_flusher<
 >(
     caller: &Caller<'_, E, O, R>,
     gate: &EndOfLines<'_, R>,
-    script: &mut Script<O>,
+    lines: &mut PartLines<O>,
     start: PartStart,
     reader: &mut B,
     writer: &mut W,
 ) -> (LinesEnded, Result<Stopped, Denied>)
-    requires number { start.number ≡ O.number }
-    ensures ended { PartComes start.limit start.can_read (part_of O.trees O.number O.hives script.old) start.line
-        (B.remaining reader.old) (W.contents writer.old) result.0 (script_of script.new)
+    requires first { lines.old.history.first ≡ O.number }
+    requires limit { lines.old.history.limit ≡ start.limit }
+    ensures ended { PartComes start.limit start.can_read (part_of O.trees O.number O.hives lines.old.script) start.line
+        (B.remaining reader.old) (W.contents writer.old) result.0 (script_of lines.new.script)
         (B.remaining reader.new) (W.contents writer.new) }
     ensures flushed { IfErr result.1 IsTurnDenied }
 {
@@ -197,12 +201,12 @@ fn read_beside_flusher<
         caller.registry,
         gate,
         &mut || -> LinesEnded
-            requires { start.number ≡ O.number }
+            requires { (lines.now.history.first ≡ O.number) × (lines.now.history.limit ≡ start.limit) }
             ensures { PartComes start.limit start.can_read
-                (part_of O.trees O.number O.hives script.entry.now) start.line (B.remaining reader.entry.now)
-                (W.contents writer.entry.now) result (script_of script.exit.now)
+                (part_of O.trees O.number O.hives lines.entry.now.script) start.line (B.remaining reader.entry.now)
+                (W.contents writer.entry.now) result (script_of lines.exit.now.script)
                 (B.remaining reader.exit.now) (W.contents writer.exit.now) }
-        { read_to_end(caller, gate, script, start, reader, writer) },
+        { read_to_end(caller, gate, lines, start, reader, writer) },
     )
 }
 
@@ -225,17 +229,18 @@ enum LinesEnded {
 fn read_to_end<O: Origin, E: StoreEngine, R: Wait, B: BufRead, W: Write>(
     caller: &Caller<'_, E, O, R>,
     gate: &EndOfLines<'_, R>,
-    script: &mut Script<O>,
+    lines: &mut PartLines<O>,
     start: PartStart,
     reader: &mut B,
     writer: &mut W,
 ) -> LinesEnded
-    requires number { start.number ≡ O.number }
-    ensures { PartComes start.limit start.can_read (part_of O.trees O.number O.hives script.old) start.line
-        (B.remaining reader.old) (W.contents writer.old) result (script_of script.new)
+    requires first { lines.old.history.first ≡ O.number }
+    requires limit { lines.old.history.limit ≡ start.limit }
+    ensures { PartComes start.limit start.can_read (part_of O.trees O.number O.hives lines.old.script) start.line
+        (B.remaining reader.old) (W.contents writer.old) result (script_of lines.new.script)
         (B.remaining reader.new) (W.contents writer.new) }
 {
-    let LinesRead { played, has_failed } = read_if(caller, script, start, reader, writer);
+    let played = read_if(caller, lines, start, reader, writer);
     let status = match played {
         Ok(LinesEnd::ToFold { next }) => {
             gate.open();
@@ -245,11 +250,11 @@ fn read_to_end<O: Origin, E: StoreEngine, R: Wait, B: BufRead, W: Write>(
         Err(error) => Err(error),
     };
     let played = written_out(writer, status);
-    let flush = script.flush(caller);
+    let flush = lines.script.flush(caller);
     gate.open();
     LinesEnded::AtEnd {
         played,
-        has_failed,
+        has_failed: lines.has_failed,
         flush,
     }
 }
@@ -257,24 +262,22 @@ fn read_to_end<O: Origin, E: StoreEngine, R: Wait, B: BufRead, W: Write>(
 // reads the lines, or reports that they can't be read
 fn read_if<O: Origin, E: StoreEngine, R: Wait, B: BufRead, W: Write>(
     caller: &Caller<'_, E, O, R>,
-    script: &mut Script<O>,
+    lines: &mut PartLines<O>,
     start: PartStart,
     reader: &mut B,
     writer: &mut W,
-) -> LinesRead
-    requires number { start.number ≡ O.number }
-    ensures { IfOk result.played (λ end. LinesCome start.limit start.can_read
-        (part_of O.trees O.number O.hives script.old) start.line (B.remaining reader.old)
-        (W.contents writer.old) end (script_of script.new) (B.remaining reader.new)
+) -> io::Result<LinesEnd>
+    requires first { lines.old.history.first ≡ O.number }
+    requires limit { lines.old.history.limit ≡ start.limit }
+    ensures { IfOk result (λ end. LinesCome start.limit start.can_read
+        (part_of O.trees O.number O.hives lines.old.script) start.line (B.remaining reader.old)
+        (W.contents writer.old) end (script_of lines.new.script) (B.remaining reader.new)
         (W.contents writer.new)) }
 {
     if start.can_read {
-        return read_lines(caller, script, start, reader, writer);
+        return lines.read(caller, start, reader, writer);
     }
-    LinesRead {
-        played: unread(writer),
-        has_failed: false,
-    }
+    unread(writer)
 }
 
 // reports that the lines can't be read

@@ -1,5 +1,5 @@
 //! A script between two lines, and its lines.
-ghost use Rattle.std.specs.Prelude.{◌≡◌, ◌<◌, ◌+◌, true, Some, None, IfErr, IfNone, IfOk, IfSome, MatchOption, OnErr};
+ghost use Rattle.std.specs.Prelude.{◌≡◌, true, Some, None, IfErr, IfNone, IfOk, IfSome, MatchOption, OnErr};
 ghost use Rattle.refusals.specs.declared.refusal.Refusal.TheVariants.{NoSuchHandle};
 ghost use Rattle.script_syntax.specs.declared.line.Line.{Line as AnyLine};
 ghost use Rattle.script_syntax.specs.declared.line.Line.TheVariants.{Inside, Plain};
@@ -222,19 +222,18 @@ impl<O: Origin> Script<O> {
         self.is_open && self.number == 0 && self.others.is_empty() && self.labels.is_none()
     }
 
-    /// With what the next part goes on, if the history is folded at the line of this number.
+    /// With what the next part goes on, if the history is folded before the line of this number.
     pub fn next_part(&self, kind: PartKind, line: u64, has_refusal: bool) -> NextPart
-        requires line { line < u64.MAX }
         ensures { result ≡ record {
           kind = kind;
-          line = line + 1;
+          line = line;
           moment = (script_of self.now).moment;
           has_refusal = has_refusal;
         } }
     {
         NextPart {
             kind,
-            line: line + 1,
+            line,
             moment: self.moment,
             has_refusal,
         }

@@ -5,4 +5,3 @@ pub mod Parting
 pub mod Labels
 pub mod Interpreters
 pub mod Plays
-pub mod OutcomeOfLine

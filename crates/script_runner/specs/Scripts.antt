@@ -194,31 +194,6 @@ Answers old Flush reported new = AsksAndWaits old event.FlushAsk reply.Flushed r
 Answers old Fold reported new = Asks old event.Fold reported new
 Answers old (Lab line) reported new = ⊥
 
--- `hives` is the first line and no other
-abbrev pub first_line : Option Line → Option ℕ
-first_line None = None
-first_line (Some (Hives count)) = Some count
-first_line (Some (History limit)) = None
-first_line (Some (At moment)) = None
-first_line (Some (Session number)) = None
-first_line (Some (End number)) = None
-first_line (Some (Plain request)) = None
-first_line (Some (Inside label request)) = None
-first_line (Some (Begin label id)) = None
-first_line (Some (Commit label)) = None
-first_line (Some (Rollback label)) = None
-first_line (Some (Close label)) = None
-first_line (Some (Outcome label)) = None
-first_line (Some (Kept id)) = None
-first_line (Some Flush) = None
-first_line (Some Fold) = None
-first_line (Some (Lab line)) = None
-
--- `history` is the line after that and no other
-abbrev pub second_line : Option Line → Option ℕ
-second_line (Some (History limit)) = Some limit
-second_line _ = None
-
 -- a line that only a laboratory takes is none here
 abbrev pub later_line : Option Line → Option Line
 later_line None = None
@@ -238,14 +213,6 @@ later_line (Some (Kept id)) = Some (Kept id)
 later_line (Some Flush) = Some Flush
 later_line (Some Fold) = Some Fold
 later_line (Some (Lab line)) = None
-
--- how many hives the bytes of a script's first line ask for
-abbrev pub hives_asked : List ℕ → Option ℕ
-hives_asked bytes = first_line (line_of bytes)
-
--- how many changes the bytes of a script's second line let its history have, if they are `history`
-abbrev pub history_asked : List ℕ → Option ℕ
-history_asked bytes = second_line (line_of bytes)
 
 -- the line of the bytes of any further line
 abbrev pub line_asked : List ℕ → Option Line

@@ -10,13 +10,13 @@ ghost use Rattle.script_runner.specs.Interpreters.{engine_of, script_of, reply_b
 
 mod single_steps;
 
-use crate::history_limit::HistoryLimit;
 use crate::labels::Labels;
 use crate::operation::{Operation, operation_of};
 use crate::replies::reply_of;
 use disk_model::Disk;
 use engine::Engine;
 use refusals::Refusal;
+use script_loop::HistoryLimit;
 use script_syntax::{Label, Line, ParseError, ReplyLine, Request, read_line};
 use std::alloc::{AllocError, Global};
 use store_driver::{ask, wait};

@@ -8,7 +8,7 @@ ghost use Rattle.store_model.specs.Steps.{with_session};
 ghost use Rattle.commit_journal.specs.Store.{Store};
 ghost use Rattle.recovery.specs.Recovered.{IsRecovered, seen_in};
 ghost use Rattle.recovery.specs.Shown.{StoreIsRepaired, store_of};
-ghost use Rattle.script_runner.specs.Scripts.{hives_asked};
+ghost use Rattle.script_loop.specs.FirstLines.{hives_asked};
 
 use disk_model::{Disk, MemDisk, Plan};
 use engine::Engine;

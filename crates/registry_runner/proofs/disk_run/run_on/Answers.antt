@@ -1,9 +1,9 @@
 use denote.Exit.{no}
 use denote.Param.{param}
 use denote.Param.Send.{param_send, arg_send}
-use Rattle.std.proofs.Common.{ℕ, inl, inr, subst, sym, ap, ◌∙◌}
+use Rattle.std.proofs.Common.{ℕ, inl, inr, subst, sym}
 use Rattle.engine_send.proofs.EngineCrossing.{engine_send}
-use Rattle.script_runner.proofs.Runs.{if_ok}
+use Rattle.script_loop.proofs.Texts.{if_ok}
 use Rattle.store_driver.specs.Openings.{LeavesPrefix}
 use Rattle.registry_runner.specs.Running.{IsOfStore, RunsFrom}
 use Rattle.registry_runner.specs.declared.parts.PartKind.TheVariants.{Opened}

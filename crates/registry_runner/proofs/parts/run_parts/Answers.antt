@@ -1,7 +1,6 @@
-use Rattle.std.proofs.Common.{◌≡◌, ◌∙◌, ◌||◌, ap, subst, sym}
+use Rattle.std.proofs.Common.{◌∙◌, ◌||◌, ap, subst, sym}
 use Rattle.script_syntax.specs.Statuses.{with_refusal}
-use Rattle.script_syntax.specs.declared.status.Status.{Status}
-use Rattle.script_runner.proofs.Runs.{refusals_join}
+use Rattle.script_loop.proofs.Running.{refusals_join}
 use Rattle.registry_runner.specs.Running.{EndsPart, RunsFrom}
 use Rattle.registry_runner.specs.declared.parts.PartEnd.{PartEnd}
 use Rattle.registry_runner.specs.declared.parts.PartStart.{PartStart}

@@ -5,7 +5,7 @@ use Rattle.reg_tree.specs.Fresh.{fresh_tree}
 use Rattle.store_model.specs.Machine.{bounds_for, fresh_machine, opened_machine}
 use Rattle.commit_journal.specs.Store.{Store}
 use Rattle.recovery.specs.Shown.{store_of}
-use Rattle.script_runner.proofs.Runs.{if_ok}
+use Rattle.script_loop.proofs.Texts.{if_ok}
 use Rattle.script_runner.proofs.store_setup.new_store.Goals as goal
 
 pub returns : goal.returns
