@@ -51,7 +51,13 @@ fn found(alloc: Global, disk: MemDisk) -> Result<FoundStore, Refusal> {
 fn described(alloc: Global, store: &Opened<MemDisk>) -> Result<FoundStore, Refusal> {
     let has_outcomes = matches!(store.layout(), Layout::WithOutcomes);
     let keys = keys(alloc, store.trees(), 0)?;
-    Ok((has_outcomes, store.id(), store.number(), store.trees().len(), keys))
+    Ok((
+        has_outcomes,
+        store.id(),
+        store.number(),
+        store.trees().len(),
+        keys,
+    ))
 }
 
 // what `upgrade` prints and answers of a store, and the target's disk
@@ -77,7 +83,10 @@ fn the_first_layout_has_the_hives_of_the_trees_alone(rt: HostRuntime) -> Result<
 fn an_upgrade_keeps_id_and_trees_at_number_0(rt: HostRuntime) -> Result<(), Fail> {
     let alloc = rt.alloc();
     let (printed, status, target) = upgraded(alloc, first_layout(alloc)?)?;
-    assert_eq!(&rt; (printed.as_slice(), status), (b"ok\n".as_slice(), Status::Clean));
+    assert_eq!(&rt;
+        (printed.as_slice(), status),
+        (b"ok\n".as_slice(), Status::Clean)
+    );
     let store = found(alloc, target)?;
     assert_eq!(&rt; store, (true, id(), 0, 2, *b"A----"));
     Ok(())
@@ -88,6 +97,9 @@ fn a_store_with_outcomes_is_not_upgraded(rt: HostRuntime) -> Result<(), Fail> {
     let alloc = rt.alloc();
     let (_, _, source) = upgraded(alloc, first_layout(alloc)?)?;
     let (printed, status, _) = upgraded(alloc, source)?;
-    assert_eq!(&rt; (printed.as_slice(), status), (b"E17 Unsupported\n".as_slice(), Status::Refused));
+    assert_eq!(&rt;
+        (printed.as_slice(), status),
+        (b"E17 Unsupported\n".as_slice(), Status::Refused)
+    );
     Ok(())
 }
