@@ -11,6 +11,32 @@ use std::io::{self, BufWriter, Eprint};
 use store_values::{ChangeResult, find_commit};
 use uuid::Uuid;
 
+/// `kept DIR ID`: what is asked.
+#[derive(Clone, Copy)]
+pub struct KeptQuestion<'a> {
+    /// The folder of the store.
+    pub folder: &'a str,
+    /// The word that is the unit of work, in any text form of a UUID.
+    pub unit: &'a str,
+}
+
+/// What the words ask, of which the first two are the program and the command; `None` if the command is another one.
+pub fn parse_kept<'a>(words: &'a [String]) -> Result<Option<KeptQuestion<'a>>, CommandError<'a>> {
+    let [_, command, rest @ ..] = words else {
+        return Ok(None);
+    };
+    if command.as_str() != "kept" {
+        return Ok(None);
+    }
+    let [folder, unit] = rest else {
+        return Err(CommandError::WrongWords);
+    };
+    Ok(Some(KeptQuestion {
+        folder: folder.as_str(),
+        unit: unit.as_str(),
+    }))
+}
+
 /// Prints the number of the commit of a unit of work that the store in a folder keeps. The store is only read.
 pub fn tell_kept<
     'a,
@@ -21,15 +47,18 @@ pub fn tell_kept<
     rt: &R,
     output: TerminalOutput,
     opener: F,
-    folder: &'a str,
-    unit: &Uuid,
+    question: KeptQuestion<'a>,
 ) -> Result<Ending, CommandError<'a>>
-    requires { F.pre opener folder }
+    requires { F.pre opener question.folder }
 {
+    let KeptQuestion { folder, unit } = question;
+    let Ok(unit) = Uuid::parse_str(unit) else {
+        return Err(CommandError::WrongWord(unit));
+    };
     let alloc = rt.alloc();
     let disk = store_in(opener(folder), folder)?;
     let mut writer = BufWriter::new(alloc, io::writer(rt))?;
-    let (disk, told) = find_commit(alloc, disk, unit, &mut writer);
+    let (disk, told) = find_commit(alloc, disk, &unit, &mut writer);
     if is_not_kept(&told) {
         return Ok(Ending::NotKept);
     }

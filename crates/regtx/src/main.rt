@@ -42,7 +42,7 @@ use crate::export_command::export;
 use crate::files::{Source, Target, Trouble, last_error};
 use crate::hint::Hint;
 use crate::input_file::opened;
-use crate::kept_command::tell_kept;
+use crate::kept_command::{parse_kept, tell_kept};
 use crate::lock_wait::{Access, LockWait, take_wait};
 use crate::script_commands::{InMemory, play_script, run_script};
 use crate::store_commands::{import_store, new_store, upgrade_store};
@@ -91,11 +91,34 @@ fn answer<
     requires opens { F.IsAlwaysCallable opener }
     requires reads { G.IsAlwaysCallable reader }
 {
-    match run(rt, output, opener, reader, words) {
+    match act(rt, output, opener, reader, words) {
         Ok(ending) => ending,
         Err(command_error) => {
             Ending::Replied(print_error(rt, output, words.get(1), &command_error))
         }
+    }
+}
+
+// tells whether a unit of work is kept, if the words ask that; else does what they ask for
+fn act<
+    'a,
+    R: Files<File = File> + Input + Print + Eprint + Clock + AllocGlobal + Threads + Wait + Sync,
+    D: StoreDisk + Drop + Send,
+    F: FnOnce(&'a str) -> Result<D, LockError> + Drop,
+    G: FnOnce(&'a str) -> Result<D, LockError> + Drop,
+>(
+    rt: &'a R,
+    output: TerminalOutput,
+    opener: F,
+    reader: G,
+    words: &'a [String],
+) -> Result<Ending, CommandError<'a>>
+    requires opens { F.IsAlwaysCallable opener }
+    requires reads { G.IsAlwaysCallable reader }
+{
+    match parse_kept(words)? {
+        Some(question) => tell_kept(rt, output, reader, question),
+        None => Ok(Ending::Replied(run(rt, output, opener, reader, words)?)),
     }
 }
 
@@ -112,12 +135,11 @@ fn run<
     opener: F,
     reader: G,
     words: &'a [String],
-) -> Result<Ending, CommandError<'a>>
+) -> Result<Status, CommandError<'a>>
     requires opens { F.IsAlwaysCallable opener }
     requires reads { G.IsAlwaysCallable reader }
 {
-    let told = match parse_task(rt.alloc(), words)? {
-        Task::Kept { folder, unit } => return tell_kept(rt, output, reader, folder, &unit),
+    match parse_task(rt.alloc(), words)? {
         Task::Play { script } => play_script(rt, output, InMemory::Play, script),
         Task::Lab { script } => play_script(rt, output, InMemory::Lab, script),
         Task::Sweep { script } => play_script(rt, output, InMemory::Sweep, script),
@@ -150,8 +172,7 @@ fn run<
         Task::Check { source } => check(rt, output, reader, source),
         Task::About => print_about(rt, output),
         Task::Usage { word } => print_usages(rt, output, word),
-    };
-    Ok(Ending::Replied(told?))
+    }
 }
 
 // prints why nothing could be begun; a terminal shows more: which word is wrong, and the usage of the command of this

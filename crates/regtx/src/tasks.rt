@@ -85,13 +85,6 @@ pub enum Task<'a> {
         /// What.
         writing: Writing<'a>,
     },
-    /// `kept DIR ID`: the commit of a unit of work is to be looked for in a store.
-    Kept {
-        /// The folder of the store.
-        folder: &'a str,
-        /// The unit of work.
-        unit: Uuid,
-    },
     /// `check SOURCE`: a report is to be printed.
     Check {
         /// The folder of a store, or the path of a hive's file.

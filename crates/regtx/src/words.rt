@@ -53,10 +53,6 @@ fn parse_command<'a>(alloc: Global, words: &'a [String]) -> Result<Task<'a>, Com
             id: id(given)?,
             sources: sources_named(alloc, given)?,
         }),
-        Some(("kept", given)) => Ok(Task::Kept {
-            folder: text(given, "DIR")?,
-            unit: id(given)?,
-        }),
         Some(("upgrade", given)) => Ok(Task::Upgrade {
             source: text(given, "OLD")?,
             folder: text(given, "NEW")?,
@@ -134,7 +130,6 @@ fn command<'a>(alloc: Global) -> Result<Command<'a>, AllocError> {
     let all = with_new(alloc, all)?;
     let all = with_import(alloc, all)?;
     let all = with_upgrade(alloc, all)?;
-    let all = with_kept(alloc, all)?;
     let all = with_apply(alloc, all, "apply")?;
     let all = with_apply(alloc, all, "apply-check")?;
     let all = with_export(alloc, all, "export")?;
@@ -215,12 +210,6 @@ fn with_import<'a>(alloc: Global, all: Command<'a>) -> Result<Command<'a>, Alloc
 fn with_upgrade<'a>(alloc: Global, all: Command<'a>) -> Result<Command<'a>, AllocError> {
     let upgrade = Command::new(alloc, "upgrade").arg(one(alloc, "OLD"))?;
     all.subcommand(upgrade.arg(one(alloc, "NEW"))?)
-}
-
-// the same, and `kept`
-fn with_kept<'a>(alloc: Global, all: Command<'a>) -> Result<Command<'a>, AllocError> {
-    let kept = Command::new(alloc, "kept").arg(one(alloc, "DIR"))?;
-    all.subcommand(kept.arg(one(alloc, "ID"))?)
 }
 
 // one word that has to be there
