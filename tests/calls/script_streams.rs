@@ -1,5 +1,6 @@
 //! Scripts that can't be read on, and replies that can't be written.
-use script_runner::{Status, play};
+use reply_lines::Status;
+use script_runner::play;
 use std::io;
 use std::io::{BufReader, Read, Write};
 use std::test::Fail;

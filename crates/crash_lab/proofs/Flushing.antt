@@ -1,8 +1,8 @@
 -- A hive's flush, step by step.
 use Rattle.std.proofs.Common.{◌≡◌, ◌≢◌, ℕ, suc, ◌+◌, ◌-◌, ◌<◌, refl, sym, subst, inl, inr, arith}
 use Rattle.store_model.specs.declared.event.Event.TheVariants as event
-use Rattle.script_syntax.specs.declared.reply.ReplyLine.{ReplyLine}
-use Rattle.script_syntax.specs.declared.reply.ReplyLine.TheVariants as reply
+use Rattle.reply_lines.specs.declared.reply.ReplyLine.{ReplyLine}
+use Rattle.reply_lines.specs.declared.reply.ReplyLine.TheVariants as reply
 use Rattle.script_runner.specs.Scripts.{Script, Asks}
 use Rattle.crash_lab.specs.Experiments.{Flushes}
 

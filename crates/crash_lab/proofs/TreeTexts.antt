@@ -4,7 +4,7 @@ use Rattle.std.specs.Prelude.{slice_get, ◌≤◌}
 use Rattle.std.specs.Io.KnownBytes.{Appends}
 use Rattle.std.proofs.lemmas.List.{drop_more, drop_all, get_or-take, length-take}
 use Rattle.std.proofs.lemmas.Option.{slice_get_within, slice_get-get_or, get_or_from_slice_get}
-use Rattle.script_syntax.proofs.Written.{appends_more, appends_nothing}
+use Rattle.reply_lines.proofs.Written.{appends_more, appends_nothing}
 use Rattle.reg_tree.specs.Maps.{TreeMap}
 use Rattle.tree_printer.specs.TreeTexts.{tree_text}
 use Rattle.crash_lab.specs.Experiments.{trees_text}

@@ -5,15 +5,15 @@ use Rattle.disk_model.specs.declared.tear.Tear.TheVariants as tear
 use Rattle.store_model.specs.declared.event.Event.TheVariants as event
 use Rattle.reg_tree.specs.Maps.{TreeMap}
 use Rattle.script_syntax.specs.Lines.{line_of}
-use Rattle.script_syntax.specs.Replies.{reply_line}
+use Rattle.reply_lines.specs.Replies.{reply_line}
 use Rattle.script_syntax.specs.declared.lab_line.CrashTear.{CrashTear}
 use Rattle.script_syntax.specs.declared.lab_line.CrashTear.TheVariants as crash
 use Rattle.script_syntax.specs.declared.lab_line.LabLine.{LabLine}
 use Rattle.script_syntax.specs.declared.lab_line.LabLine.TheVariants.{Accept, JournalStep, FlusherStep, TrimStep, FlushWhole, StopAt, FailAt, Crash}
 use Rattle.script_syntax.specs.declared.line.Line.{Line}
 use Rattle.script_syntax.specs.declared.line.Line.TheVariants.{Hives, History, Lab}
-use Rattle.script_syntax.specs.declared.reply.ReplyLine.{ReplyLine}
-use Rattle.script_syntax.specs.declared.reply.ReplyLine.TheVariants as reply
+use Rattle.reply_lines.specs.declared.reply.ReplyLine.{ReplyLine}
+use Rattle.reply_lines.specs.declared.reply.ReplyLine.TheVariants as reply
 use Rattle.script_runner.specs.Plays.{is_refusal}
 use Rattle.script_runner.specs.Plays.{opened_text}
 use Rattle.script_runner.specs.Scripts.{Script, Answers, Asks, IsLabelled, script_at}

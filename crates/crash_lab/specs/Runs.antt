@@ -1,7 +1,7 @@
 -- What a script prints in a laboratory, and how its run ends.
 use Rattle.std.specs.Prelude.{◌≡◌, ℕ, Bool, List, Option, Some, None}
 use Rattle.script_syntax.specs.declared.line.Line.{Line}
-use Rattle.script_syntax.specs.declared.status.Status.{Status}
+use Rattle.reply_lines.specs.declared.status.Status.{Status}
 use Rattle.script_loop.specs.NewStores.{IsScriptRun}
 use Rattle.store_model.specs.Machine.{named_trees}
 use Rattle.crash_lab.specs.LabStates.{LabState, IsLimited, IsNew}

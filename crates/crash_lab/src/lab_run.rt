@@ -3,8 +3,8 @@ ghost use Rattle.std.specs.Prelude.{IfOk};
 ghost use Rattle.crash_lab.specs.Runs.{IsExperiment};
 
 use crate::lab_state::Laboratory;
+use reply_lines::Status;
 use script_loop::run_script;
-use script_syntax::Status;
 use std::alloc::Global;
 use std::io;
 use std::io::{BufRead, Write};

@@ -11,14 +11,16 @@ use crate::power_loss::{Reopened, open_after_crash};
 use crate::reply::LabReply;
 use disk_model::{MemDisk, Tear};
 use reg_tree::Trees;
+use reply_lines::ReplyLine;
 use script_loop::{Answerer, HistoryLimit, LineTurn, ScriptedStore};
 use script_runner::{Interpreter, begin_on};
-use script_syntax::{CrashTear, LabLine, Line, ParseError, ReplyLine, read_line};
+use script_syntax::{CrashTear, LabLine, Line, read_line};
 use std::alloc::{AllocError, Global};
 use std::convert::Infallible;
 use std::io;
 use std::io::Write;
 use store_model::Event;
+use word_syntax::ParseError;
 
 /// A script over a disk in memory, and what was asked of that disk's device.
 pub(crate) struct Laboratory {

@@ -4,8 +4,8 @@ ghost use Rattle.std.specs.Io.KnownBytes.{Appends};
 ghost use Rattle.crash_lab.specs.Experiments.{is_refused, lab_reply_text, trees_text};
 
 use reg_tree::Trees;
+use reply_lines::ReplyLine;
 use script_runner::is_refusal;
-use script_syntax::ReplyLine;
 use std::io;
 use std::io::Write;
 use tree_printer::write_tree;

@@ -2,8 +2,8 @@
 use crate::sweep_error::SweepError;
 use crate::sweep_steps::begun;
 use crate::table::write_heading;
+use reply_lines::Status;
 use script_loop::{EndOfScript, end, next_line, wrong};
-use script_syntax::Status;
 use std::alloc::Global;
 use std::io;
 use std::io::{BufRead, Write};

@@ -7,14 +7,16 @@ use crate::watched_disk::WatchedMemDisk;
 use disk_model::Plan;
 use engine::Engine;
 use refusals::Refusal;
+use reply_lines::{ReplyLine, Status};
 use script_loop::read_history_limit;
 use script_runner::{Interpreter, begin_on, is_refusal};
-use script_syntax::{Label, Line, ParseError, ReplyLine, Status, read_line};
+use script_syntax::{Label, Line, read_line};
 use std::alloc::Global;
 use std::io::Write;
 use std::sync::Arc;
 use store_driver::{frees_room, next_step, open_store};
 use store_model::{Event, Reply};
+use word_syntax::ParseError;
 
 /// A run of a script, and the table of what opens after each of its device calls.
 pub(crate) struct Run {

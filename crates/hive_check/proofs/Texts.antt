@@ -1,7 +1,7 @@
 -- Texts that were written one after another.
 use Rattle.std.proofs.Common.{inl, ℕ, List, ◌++◌, Option, Some, None, Result, Ok, Err, OnOk, refl, ◌∙◌}
 use Rattle.std.specs.Io.KnownBytes.{Appends, Keeps}
-use Rattle.script_syntax.proofs.Written.{appends_more}
+use Rattle.reply_lines.proofs.Written.{appends_more}
 use Rattle.jiff_core.specs.Timestamp.{IsTimestampNanos}
 use Rattle.reg_export.specs.Moments.{IsUtcText, nanos_of}
 use Rattle.hive_check.specs.declared.block_report.BlockReport.{BlockReport}

@@ -7,7 +7,7 @@ use Rattle.refusals.specs.declared.refusal.Refusal.TheVariants as refusal
 use Rattle.refusals.specs.declared.refusal.Cause.TheVariants as cause
 use Rattle.refusals.specs.declared.limits.TheConstants.{MOST_WEIGHT}
 use Rattle.base_block.specs.declared.block.BaseBlock.{BaseBlock}
-use Rattle.script_syntax.specs.declared.status.Status.TheVariants as status
+use Rattle.reply_lines.specs.declared.status.Status.TheVariants as status
 use Rattle.reg_tree.specs.Maps.{TreeMap, weight}
 use Rattle.hive_records.specs.Images.{BinsEncodeTree}
 use Rattle.hive_load.specs.Limits.{BinsEncodeTreeInLimits, TreeIsInLimits}

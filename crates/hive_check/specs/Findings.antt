@@ -4,8 +4,8 @@ use Rattle.std.specs.Global.{Vec}
 use Rattle.refusals.specs.declared.refusal.Refusal.{Refusal}
 use Rattle.refusals.specs.declared.limits.TheConstants.{MOST_WEIGHT}
 use Rattle.base_block.specs.declared.block.BaseBlock.{BaseBlock}
-use Rattle.script_syntax.specs.declared.status.Status.{Status}
-use Rattle.script_syntax.specs.declared.status.Status.TheVariants as status
+use Rattle.reply_lines.specs.declared.status.Status.{Status}
+use Rattle.reply_lines.specs.declared.status.Status.TheVariants as status
 use Rattle.reg_tree.specs.Maps.{TreeMap}
 use Rattle.hive_records.specs.Images.{BinsEncodeTree}
 use Rattle.hive_file_reader.specs.Hives.{FileHasBins}

@@ -10,7 +10,7 @@ use crate::block_report::is_log;
 use crate::block_text::write_block;
 use crate::finding::{HiveReport, report_of};
 use crate::finding_text::write_finding;
-use script_syntax::Status;
+use reply_lines::Status;
 use std::alloc::Global;
 use std::io::{self, Read, Write};
 

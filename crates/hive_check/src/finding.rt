@@ -1,6 +1,6 @@
 //! What is found of the bins data of a hive's file.
 ghost use Rattle.std.specs.Prelude.{◌≡◌, ◌<◌, ◌^◌, ℕ, List, IfOk, IfSome};
-ghost use Rattle.script_syntax.specs.declared.status.Status.{Status};
+ghost use Rattle.reply_lines.specs.declared.status.Status.{Status};
 ghost use Rattle.hive_file_reader.specs.Hives.{FileHasBins};
 ghost use Rattle.hive_check.specs.CellCounts.{AreCounted};
 ghost use Rattle.hive_check.specs.Findings.{BinsAreOf, IsFinding, IsReportOf, status_of};
@@ -14,7 +14,7 @@ use hive_file_reader::{FileParts, read_parts};
 use hive_walk::{ImageError, WalkError, walk_hive};
 use refusals::Refusal;
 use refusals::limits::MOST_WEIGHT;
-use script_syntax::Status;
+use reply_lines::Status;
 use std::alloc::Global;
 use std::io::{self, Read};
 

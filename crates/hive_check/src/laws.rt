@@ -1,6 +1,6 @@
 //! What a report says of a file: a law.
 ghost use Rattle.std.specs.Prelude.{◌≡◌, ℕ, List};
-ghost use Rattle.script_syntax.specs.declared.status.Status.TheVariants.{Clean, Refused};
+ghost use Rattle.reply_lines.specs.declared.status.Status.TheVariants.{Clean, Refused};
 ghost use Rattle.reg_tree.specs.Maps.{TreeMap};
 ghost use Rattle.hive_file_reader.specs.Hives.{FileHoldsHive};
 ghost use Rattle.hive_check.specs.declared.finding.HiveReport.{HiveReport};

@@ -9,7 +9,7 @@ ghost use Rattle.hive_dump.specs.Dumps.{DumpWrites};
 use hive_file_reader::{ReadError, read_hive};
 use refusals::Refusal;
 use reg_tree::Tree;
-use script_syntax::Status;
+use reply_lines::Status;
 use std::alloc::Global;
 use std::io;
 use std::io::{Read, Write};

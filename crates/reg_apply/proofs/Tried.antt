@@ -1,7 +1,7 @@
 -- What is told of statements that are tried, one after another.
 use Rattle.std.proofs.Common.{◌≡◌, ℕ, ◌==◌, true, false, cond, List, [], ◌∷◌, ◌++◌, length, Option, refl, sym, ◌∙◌, ap, subst, append_assoc, append-nil}
 use Rattle.std.specs.List.{flat_map, list_any}
-use Rattle.script_syntax.specs.declared.status.Status.TheVariants as status
+use Rattle.reply_lines.specs.declared.status.Status.TheVariants as status
 use Rattle.reg_prefixes.specs.declared.prefix.Prefix.{Prefix}
 use Rattle.change_plan.specs.Plans.{Planned}
 use Rattle.reg_file.specs.declared.statement.NumberedStatement.{NumberedStatement}

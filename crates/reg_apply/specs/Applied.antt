@@ -5,8 +5,8 @@ use Rattle.refusals.specs.declared.refusal.Refusal.{Refusal}
 use Rattle.refusals.specs.declared.refusal.Refusal.TheVariants.{NoMemory, Unsupported}
 use Rattle.disk_model.specs.FileState.{FileState}
 use Rattle.store_model.specs.Machine.{Machine, has_outcomes, named_trees, outcome_bytes, outcome_of}
-use Rattle.script_syntax.specs.declared.status.Status.{Status}
-use Rattle.script_syntax.specs.declared.status.Status.TheVariants as status
+use Rattle.reply_lines.specs.declared.status.Status.{Status}
+use Rattle.reply_lines.specs.declared.status.Status.TheVariants as status
 use Rattle.reg_prefixes.specs.declared.prefix.Prefix.{Prefix}
 use Rattle.change_plan.specs.Plans.{Planned}
 use Rattle.reg_tree.specs.declared.op.Op.{Op}

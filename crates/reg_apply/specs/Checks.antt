@@ -9,8 +9,8 @@ use Rattle.store_model.specs.declared.room.TheConstants.{MOST_OUTCOME_BYTES}
 use Rattle.hive_files.specs.Frames.{RefusalHasCause}
 use Rattle.commit_journal.specs.Store.{Store}
 use Rattle.recovery.specs.Recovered.{IsNoStore, IsRecovered}
-use Rattle.script_syntax.specs.declared.status.Status.{Status}
-use Rattle.script_syntax.specs.declared.status.Status.TheVariants as status
+use Rattle.reply_lines.specs.declared.status.Status.{Status}
+use Rattle.reply_lines.specs.declared.status.Status.TheVariants as status
 use Rattle.reg_prefixes.specs.declared.prefix.Prefix.{Prefix}
 use Rattle.change_plan.specs.Plans.{Planned}
 use Rattle.reg_file.specs.declared.fault.Fault.{Fault}

@@ -5,8 +5,8 @@ use Rattle.refusals.specs.Refusals.{refusal_text}
 use Rattle.reg_file.specs.Faults.{fault_text}
 use Rattle.reg_file.specs.declared.fault.FaultKind.{FaultKind}
 use Rattle.reg_file.specs.declared.fault.FaultKind.TheVariants.{TooLarge}
-use Rattle.script_syntax.specs.declared.status.Status.{Status}
-use Rattle.script_syntax.specs.declared.status.Status.TheVariants as status
+use Rattle.reply_lines.specs.declared.status.Status.{Status}
+use Rattle.reply_lines.specs.declared.status.Status.TheVariants as status
 use Rattle.reg_apply.specs.declared.outcome.Outcome.{Outcome}
 use Rattle.reg_apply.specs.declared.outcome.Outcome.TheVariants.{Applied, BadFile, NoHive, Denied, Refused}
 

@@ -7,7 +7,7 @@ ghost use Rattle.reg_apply.specs.Checks.{is_refusal};
 
 use refusals::Refusal;
 use reg_file::{Fault, FaultKind};
-use script_syntax::Status;
+use reply_lines::Status;
 use std::fmt;
 use std::io::{self, Write};
 

@@ -14,7 +14,7 @@ use disk_model::Disk;
 use engine::Engine;
 use refusals::Refusal;
 use reg_file::RegFile;
-use script_syntax::Status;
+use reply_lines::Status;
 use std::alloc::Global;
 use std::io::{self, Write};
 use store_change::{ChangeReport, StoreChange, bytes_aside, commit, make_change};

@@ -19,7 +19,7 @@ use recovery::{Opened, open};
 use refusals::Refusal;
 use reg_file::{NumberedStatement, RegFile, Statement};
 use reg_prefixes::Prefixes;
-use script_syntax::Status;
+use reply_lines::Status;
 use std::alloc::{AllocError, Global};
 use std::io::{self, Write};
 use store_change::bytes_aside_in;

@@ -6,7 +6,7 @@ use Rattle.std.specs.Char.Utf16.{is_high_surrogate, is_low_surrogate, surrogate_
 use Rattle.std.specs.Io.KnownBytes.{Appends}
 use Rattle.std.proofs.lemmas.Bool.{and_parts, le-leb, lt-ltb, leb-true, ltb-true}
 use Rattle.std.proofs.lemmas.List.{append-nil, map-append}
-use Rattle.script_syntax.proofs.Written.{appends_both}
+use Rattle.reply_lines.proofs.Written.{appends_both}
 use Rattle.reg_export.specs.declared.characters.First.{First}
 use Rattle.reg_export.specs.declared.characters.First.TheVariants.{Pair, Single}
 use Rattle.reg_export.specs.Characters.{IsFirst, IsSurrogatePair, IsWhole, units_in}

@@ -3,7 +3,7 @@ use Rattle.std.specs.Prelude.{ℕ, nat_le, nat_lt, ◌==◌, ◌&&◌, ◌||◌,
 use Rattle.std.specs.Str.{bytes_eq}
 use Rattle.std.specs.List.{join_with_byte}
 use Rattle.std.specs.Char.Utf16.{is_high_surrogate, is_low_surrogate, surrogate_pair_char}
-use Rattle.script_syntax.specs.Replies.{unit_text}
+use Rattle.reply_lines.specs.Replies.{unit_text}
 use Rattle.reg_export.specs.declared.characters.First.{First}
 use Rattle.reg_export.specs.declared.characters.First.TheVariants.{Pair, Single}
 

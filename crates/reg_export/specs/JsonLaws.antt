@@ -3,7 +3,7 @@ use Rattle.std.proofs.Common.{◌≡◌, ℕ, List, [], ◌∷◌, ◌++◌, Opt
 use Rattle.std.specs.Io.KnownBytes.{Appends}
 use Rattle.std.proofs.lemmas.List.{append-nil}
 use Rattle.reg_export.specs.Moments.{IsUtcField}
-use Rattle.script_syntax.proofs.Written.{appends_both, appends_nothing}
+use Rattle.reply_lines.proofs.Written.{appends_both, appends_nothing}
 use Rattle.key_walk.specs.KeyRows.{NamedRow}
 use Rattle.reg_export.specs.JsonTexts.{AreJsonLines, json_key_lines}
 

@@ -6,7 +6,7 @@ use Rattle.std.specs.Io.KnownBytes.{Appends}
 use Rattle.std.specs.Char.Utf16.{utf16_chars}
 use Rattle.std.proofs.lemmas.Str.{utf16_chars-nil}
 use Rattle.std.proofs.lemmas.List.Concat.{flat_map-append}
-use Rattle.script_syntax.proofs.Written.{appends_both, appends_nothing}
+use Rattle.reply_lines.proofs.Written.{appends_both, appends_nothing}
 use Rattle.key_walk.specs.KeyRows.{NamedRow}
 use Rattle.reg_export.specs.declared.encoding.Encoding.{Encoding}
 use Rattle.reg_export.specs.declared.encoding.Encoding.TheVariants.{Utf8, Utf16}

@@ -4,7 +4,7 @@ use Rattle.std.specs.List.{flat_map}
 use Rattle.std.specs.Fmt.{decimal}
 use Rattle.std.specs.FinMap as finite
 use Rattle.reg_tree_parts.specs.declared.value.Value.{Value}
-use Rattle.script_syntax.specs.Replies.{data_text}
+use Rattle.reply_lines.specs.Replies.{data_text}
 use Rattle.key_walk.specs.KeyRows.{NamedRow}
 use Rattle.reg_export.specs.TypeNames.{type_name}
 use Rattle.reg_export.specs.Meanings.{DataMeaning, Text, Texts, Number, WideNumber, Unknown, meaning_of}

@@ -3,7 +3,7 @@ use Rattle.std.specs.Prelude.{ℕ, ◌==◌, ◌||◌, if◌then◌else◌, List
 use Rattle.std.specs.Int.{w16, to_be_bytes}
 use Rattle.hex.specs.Hex.{encode_lower}
 use Rattle.reg_names.specs.Printable.{is_printable}
-use Rattle.script_syntax.specs.Replies.{unit_text}
+use Rattle.reply_lines.specs.Replies.{unit_text}
 use Rattle.reg_export.specs.declared.unit_form.UnitForm.{UnitForm}
 use Rattle.reg_export.specs.declared.unit_form.UnitForm.TheVariants.{Json, JsonTexts, Tsv}
 

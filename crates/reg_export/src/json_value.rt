@@ -11,7 +11,7 @@ use crate::meaning::{Meaning, data_meaning};
 use crate::type_name::write_type;
 use crate::unit_form::{UnitForm, write_byte_units, write_units};
 use reg_tree_parts::Value;
-use script_syntax::write_data;
+use reply_lines::write_data;
 use std::io;
 use std::io::Write;
 

@@ -7,7 +7,7 @@ ghost use Rattle.reg_export.specs.Fields.{field_text, field_unit, first_field, n
 
 use crate::characters::{First, first_of, pair_char, write_found};
 use key_walk::KeyPath;
-use script_syntax::write_name;
+use reply_lines::write_name;
 use std::io;
 use std::io::Write;
 

@@ -16,7 +16,7 @@ use crate::type_name::write_type;
 use crate::unit_form::{UnitForm, write_byte_units};
 use key_walk::{KeyPath, KeySink};
 use reg_tree_parts::{Key, Value};
-use script_syntax::write_data;
+use reply_lines::write_data;
 use std::io;
 use std::io::Write;
 

@@ -6,7 +6,7 @@ ghost use Rattle.reg_export.specs.ByteUnits.{units_of};
 ghost use Rattle.reg_export.specs.UnitForms.{form_text, json_unit, meaning_unit};
 
 use crate::byte_units::first_unit;
-use script_syntax::{write_data, write_name};
+use reply_lines::{write_data, write_name};
 use std::io;
 use std::io::Write;
 

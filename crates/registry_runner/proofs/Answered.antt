@@ -4,7 +4,7 @@ use Rattle.std.specs.Prelude.{IfOk}
 use Rattle.refusals.specs.declared.refusal.Refusal.{Refusal}
 use Rattle.reg_tree.specs.Maps.{TreeMap}
 use Rattle.script_syntax.specs.declared.line.Line.{Line}
-use Rattle.script_syntax.specs.declared.reply.ReplyLine.{ReplyLine}
+use Rattle.reply_lines.specs.declared.reply.ReplyLine.{ReplyLine}
 use Rattle.script_runner.specs.Scripts.{later_line}
 use Rattle.registry_runner.specs.Scripts.{Script, Answers}
 

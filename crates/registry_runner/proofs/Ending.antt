@@ -11,11 +11,11 @@ use Rattle.std.specs.Map.{lookup}
 use Rattle.refusals.specs.Refusals.{refusal_text}
 use Rattle.refusals.specs.declared.refusal.Refusal.{Refusal}
 use Rattle.refusals.specs.declared.refusal.Refusal.TheVariants.{Faulted}
-use Rattle.script_syntax.proofs.Written.{appends_more, appends_nothing}
-use Rattle.script_syntax.specs.Statuses.{with_refusal}
-use Rattle.script_syntax.specs.declared.reply.ReplyLine.{ReplyLine}
-use Rattle.script_syntax.specs.declared.status.Status.{Status}
-use Rattle.script_syntax.specs.declared.status.Status.TheVariants.{Refused}
+use Rattle.reply_lines.proofs.Written.{appends_more, appends_nothing}
+use Rattle.reply_lines.specs.Statuses.{with_refusal}
+use Rattle.reply_lines.specs.declared.reply.ReplyLine.{ReplyLine}
+use Rattle.reply_lines.specs.declared.status.Status.{Status}
+use Rattle.reply_lines.specs.declared.status.Status.TheVariants.{Refused}
 use Rattle.script_loop.proofs.Texts.{appends_kept, if_ok, keeps_same, kept_appends}
 use Rattle.script_runner.specs.Labels.{NamesNothing, named_by}
 use Rattle.script_runner.specs.Plays.{is_refusal}

@@ -14,7 +14,7 @@ use Rattle.ktm_calls.specs.Kinds.{Told}
 use Rattle.ktm_calls.specs.Moments.{NumberedList, Tells}
 use Rattle.ktm_calls.specs.declared.registry.Denied.{Denied}
 use Rattle.ktm_calls.specs.declared.registry.Denied.TheVariants as denied
-use Rattle.script_syntax.specs.declared.reply.ReplyLine.{ReplyLine}
+use Rattle.reply_lines.specs.declared.reply.ReplyLine.{ReplyLine}
 use Rattle.script_runner.specs.Scripts.{reply_of}
 use Rattle.store_model.specs.declared.handle.Tx.{Tx}
 use Rattle.registry_runner.specs.Heard.{Hears, IsHeard, denied_reply, told_reply}

@@ -3,12 +3,12 @@ use Rattle.std.proofs.Common.{◌≡◌, ◌∙◌, ℕ, ◌+◌, Bool, true, fa
 use Rattle.std.specs.Prelude.{IfSome}
 use Rattle.refusals.specs.declared.refusal.Refusal.{Refusal}
 use Rattle.reg_tree.specs.Maps.{TreeMap}
-use Rattle.script_syntax.proofs.Written.{appends_more}
-use Rattle.script_syntax.specs.Replies.{reply_line}
-use Rattle.script_syntax.specs.Statuses.{with_refusal}
+use Rattle.reply_lines.proofs.Written.{appends_more}
+use Rattle.reply_lines.specs.Replies.{reply_line}
+use Rattle.reply_lines.specs.Statuses.{with_refusal}
 use Rattle.script_syntax.specs.declared.line.Line.{Line}
-use Rattle.script_syntax.specs.declared.reply.ReplyLine.{ReplyLine}
-use Rattle.script_syntax.specs.declared.status.Status.{Status}
+use Rattle.reply_lines.specs.declared.reply.ReplyLine.{ReplyLine}
+use Rattle.reply_lines.specs.declared.status.Status.{Status}
 use Rattle.script_loop.specs.Runs.{EndsLoop, RunsOn, RunsToStop}
 use Rattle.script_loop.specs.Turns.{IsLeft}
 use Rattle.script_loop.specs.declared.end_of_script.EndOfScript.{EndOfScript}

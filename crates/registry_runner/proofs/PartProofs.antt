@@ -4,7 +4,7 @@ use Rattle.std.specs.Prelude.{IfOk}
 use Rattle.refusals.specs.declared.refusal.Refusal.{Refusal}
 use Rattle.refusals.specs.declared.refusal.Refusal.TheVariants.{NoMemory, NoSeat}
 use Rattle.reg_tree.specs.Maps.{TreeMap}
-use Rattle.script_syntax.specs.declared.status.Status.{Status}
+use Rattle.reply_lines.specs.declared.status.Status.{Status}
 use Rattle.registry_runner.specs.Parts.{MayNotBegin}
 use Rattle.registry_runner.specs.Plays.{IsPlayedOn, LinesCome}
 use Rattle.registry_runner.specs.Scripts.{Script}

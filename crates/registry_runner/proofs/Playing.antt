@@ -5,8 +5,8 @@ use Rattle.std.specs.Io.KnownBytes.{Appends, Keeps}
 use Rattle.refusals.specs.Refusals.{refusal_text}
 use Rattle.refusals.specs.declared.refusal.Refusal.{Refusal}
 use Rattle.reg_tree.specs.Maps.{TreeMap}
-use Rattle.script_syntax.specs.declared.status.Status.{Status}
-use Rattle.script_syntax.specs.declared.status.Status.TheVariants.{Refused}
+use Rattle.reply_lines.specs.declared.status.Status.{Status}
+use Rattle.reply_lines.specs.declared.status.Status.TheVariants.{Refused}
 use Rattle.script_loop.specs.Lines.{WereRead, lines_of}
 use Rattle.registry_runner.specs.Plays.{IsPlayedOn}
 use Rattle.registry_runner.specs.Parts.{Part, start_text}

@@ -8,8 +8,8 @@ use Rattle.reg_tree.specs.Sequences.{after_elements}
 use Rattle.script_runner.specs.Scripts.{found_reply, reply_of}
 use Rattle.script_runner.specs.declared.operation.Operation.{Operation}
 use Rattle.script_runner.specs.declared.operation.Operation.TheVariants.{Write, Read}
-use Rattle.script_syntax.specs.declared.reply.ReplyLine.{ReplyLine}
-use Rattle.script_syntax.specs.declared.reply.ReplyLine.TheVariants as reply
+use Rattle.reply_lines.specs.declared.reply.ReplyLine.{ReplyLine}
+use Rattle.reply_lines.specs.declared.reply.ReplyLine.TheVariants as reply
 use Rattle.store_model.specs.Machine.{read_refusal}
 use Rattle.store_model.specs.declared.event.Event.{Event}
 use Rattle.store_model.specs.declared.event.Event.TheVariants as event

@@ -1,9 +1,9 @@
 -- What answers a line of a part, and what is done before the next line.
 use Rattle.std.specs.Prelude.{◌≡◌, ◌⊎◌, ℕ, Bool, false, List, [], Some}
-use Rattle.script_syntax.specs.Replies.{reply_line}
+use Rattle.reply_lines.specs.Replies.{reply_line}
 use Rattle.script_syntax.specs.declared.line.Line.{Line}
 use Rattle.script_syntax.specs.declared.line.Line.TheVariants.{Fold}
-use Rattle.script_syntax.specs.declared.reply.ReplyLine.{ReplyLine}
+use Rattle.reply_lines.specs.declared.reply.ReplyLine.{ReplyLine}
 use Rattle.script_runner.specs.Plays.{is_refusal}
 use Rattle.script_runner.specs.Scripts.{line_asked}
 use Rattle.registry_runner.specs.Scripts.{Script, Answers, Flushes, IsFlushed}

@@ -7,12 +7,12 @@ use Rattle.refusals.specs.declared.refusal.Refusal.TheVariants.{NoMemory, DiskFa
 use Rattle.reg_tree.specs.Maps.{TreeMap}
 use Rattle.reg_tree.specs.Sequences.{after_elements}
 use Rattle.reg_tree.specs.declared.element.Element.{Element}
-use Rattle.script_syntax.specs.Replies.{reply_line}
-use Rattle.script_syntax.specs.Statuses.{with_refusal}
+use Rattle.reply_lines.specs.Replies.{reply_line}
+use Rattle.reply_lines.specs.Statuses.{with_refusal}
 use Rattle.script_syntax.specs.declared.line.Line.TheVariants.{Flush}
-use Rattle.script_syntax.specs.declared.reply.ReplyLine.{ReplyLine}
-use Rattle.script_syntax.specs.declared.status.Status.{Status}
-use Rattle.script_syntax.specs.declared.status.Status.TheVariants.{Refused}
+use Rattle.reply_lines.specs.declared.reply.ReplyLine.{ReplyLine}
+use Rattle.reply_lines.specs.declared.status.Status.{Status}
+use Rattle.reply_lines.specs.declared.status.Status.TheVariants.{Refused}
 use Rattle.script_runner.specs.Plays.{is_refusal}
 use Rattle.store_driver.specs.Openings.{IsOpenedOn, LeavesPrefix, MayNotOpen}
 use Rattle.script_runner.specs.Plays.{opened_text}

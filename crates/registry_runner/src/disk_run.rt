@@ -7,7 +7,7 @@ ghost use Rattle.registry_runner.specs.Running.{IsRun, LeavesStore};
 use crate::parts::{PartKind, PartStart, run_parts};
 use crate::run_end::write_refusal;
 use disk_model::Disk;
-use script_runner::Status;
+use reply_lines::Status;
 use std::alloc::Global;
 use std::io;
 use std::io::{BufRead, Write};

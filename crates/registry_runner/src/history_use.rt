@@ -3,7 +3,7 @@ ghost use Rattle.std.specs.Prelude.{◌≡◌, ◌≤◌, ◌*◌, ◌-◌, true
 ghost use Rattle.registry_runner.specs.Parts.{number_told as number_told_by};
 
 use crate::parts::PartStart;
-use script_syntax::ReplyLine;
+use reply_lines::ReplyLine;
 
 /// When the history of a part is folded that no line folds.
 #[derive(Drop)]

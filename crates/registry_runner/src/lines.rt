@@ -1,7 +1,7 @@
 //! The lines of a part, one after another.
 ghost use Rattle.std.specs.Prelude.{◌≡◌, IfOk, OnOk};
 ghost use Rattle.std.specs.Io.KnownBytes.{Appends, Keeps};
-ghost use Rattle.script_syntax.specs.Replies.{reply_line};
+ghost use Rattle.reply_lines.specs.Replies.{reply_line};
 ghost use Rattle.script_runner.specs.Plays.{is_refusal};
 ghost use Rattle.registry_runner.specs.Interpreters.{part_of, script_of};
 ghost use Rattle.registry_runner.specs.PartLines.{Between};
@@ -13,9 +13,9 @@ use crate::script::{LineAnswer, Script};
 use ktm_calls::StoreEngine;
 use published_trees::Origin;
 use refusals::Refusal;
+use reply_lines::{ReplyLine, Status};
 use script_loop::{Answerer, LineTurn, LoopEnd, run_lines};
-use script_runner::{Status, is_refusal};
-use script_syntax::ReplyLine;
+use script_runner::is_refusal;
 use std::alloc::AllocError;
 use std::io;
 use std::io::{BufRead, Write};

@@ -1,6 +1,6 @@
 //! The parts of a run: each calls a registry of its own, and the history is folded between two of them.
 ghost use Rattle.std.specs.Prelude.{◌≡◌, [], IfErr, IfNone, IfOk, IfSome, IsOk, OnErr};
-ghost use Rattle.script_syntax.specs.Statuses.{with_refusal};
+ghost use Rattle.reply_lines.specs.Statuses.{with_refusal};
 ghost use Rattle.store_model.specs.Steps.{Step};
 ghost use Rattle.store_model.specs.declared.event.Event.TheVariants as event;
 ghost use Rattle.store_model.specs.declared.event.Reply.TheVariants as reply;
@@ -13,7 +13,7 @@ use crate::run_end::write_refusal;
 use ktm_calls::StoreEngine;
 use published_trees::ChangeCount;
 use refusals::Refusal;
-use script_runner::Status;
+use reply_lines::Status;
 use std::alloc::Global;
 use std::io;
 use std::io::{BufRead, Write};

@@ -3,15 +3,15 @@ ghost use Rattle.std.specs.Prelude.{◌≡◌, ◌++◌, ◌∷◌, [], Option, 
 ghost use Rattle.std.specs.Io.KnownBytes.{Appends, Keeps};
 ghost use Rattle.refusals.specs.Refusals.{refusal_text};
 ghost use Rattle.refusals.specs.declared.refusal.Refusal.{Refusal as AnyRefusal};
-ghost use Rattle.script_syntax.specs.Statuses.{with_refusal};
+ghost use Rattle.reply_lines.specs.Statuses.{with_refusal};
 ghost use Rattle.script_runner.specs.Plays.{is_refusal};
 ghost use Rattle.ktm_calls.specs.Denials.{IsTurnDenied};
 ghost use Rattle.registry_runner.specs.Running.{MayBeUndone, flushed_text, undone, undone_text};
 
 use ktm_calls::{Denied, Stopped};
 use refusals::Refusal;
-use script_runner::{Status, is_refusal};
-use script_syntax::ReplyLine;
+use reply_lines::{ReplyLine, Status};
+use script_runner::is_refusal;
 use std::io;
 use std::io::Write;
 

@@ -3,7 +3,7 @@ ghost use Rattle.std.specs.Prelude.{◌≡◌, true, Some, None, IfErr, IfNone, 
 ghost use Rattle.refusals.specs.declared.refusal.Refusal.TheVariants.{NoSuchHandle};
 ghost use Rattle.script_syntax.specs.declared.line.Line.{Line as AnyLine};
 ghost use Rattle.script_syntax.specs.declared.line.Line.TheVariants.{Inside, Plain};
-ghost use Rattle.script_syntax.specs.declared.reply.ReplyLine.TheVariants.{Refused};
+ghost use Rattle.reply_lines.specs.declared.reply.ReplyLine.TheVariants.{Refused};
 ghost use Rattle.script_runner.specs.Scripts.{later_line, line_asked};
 ghost use Rattle.registry_runner.specs.Interpreters.{script_of};
 ghost use Rattle.registry_runner.specs.Parts.{IsBegun, IsUnlabelled};
@@ -16,11 +16,13 @@ use ktm_calls::{Key, Session, StoreEngine};
 use published_trees::Origin;
 use refusals::Refusal;
 use reg_names::Path;
+use reply_lines::ReplyLine;
 use script_runner::{Labels, operation_of};
-use script_syntax::{Label, Line, ParseError, ReplyLine, Request, read_line};
+use script_syntax::{Label, Line, Request, read_line};
 use std::alloc::AllocError;
 use std::sync::Wait;
 use store_model::Tx;
+use word_syntax::ParseError;
 
 /// A session that is open and isn't the current one.
 pub struct OpenSession<O: Origin> {

@@ -2,7 +2,7 @@
 ghost use Rattle.std.specs.Prelude.{◌≡◌, ◌<◌, IfErr, IfNone, IfOk, IfSome};
 ghost use Rattle.std.specs.Vec.{vec_capacity, vec_len};
 ghost use Rattle.script_syntax.specs.declared.line.Line.TheVariants as line;
-ghost use Rattle.script_syntax.specs.declared.reply.ReplyLine.TheVariants.{Refused};
+ghost use Rattle.reply_lines.specs.declared.reply.ReplyLine.TheVariants.{Refused};
 ghost use Rattle.registry_runner.specs.Interpreters.{script_of};
 ghost use Rattle.registry_runner.specs.Scripts.{Answers, InSession};
 
@@ -11,7 +11,7 @@ use crate::script::{OpenSession, Script};
 use ktm_calls::{Session, StoreEngine};
 use published_trees::Origin;
 use refusals::Refusal;
-use script_syntax::ReplyLine;
+use reply_lines::ReplyLine;
 use std::mem;
 use std::sync::Wait;
 

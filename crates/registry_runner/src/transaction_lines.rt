@@ -1,7 +1,7 @@
 //! The lines of transactions, and the lines `flush` and `fold`.
 ghost use Rattle.std.specs.Prelude.{IfErr, IfOk};
 ghost use Rattle.script_syntax.specs.declared.line.Line.TheVariants.{Begin, Close, Commit, Flush, Fold, Kept, Outcome, Rollback};
-ghost use Rattle.script_syntax.specs.declared.reply.ReplyLine.TheVariants.{Refused};
+ghost use Rattle.reply_lines.specs.declared.reply.ReplyLine.TheVariants.{Refused};
 ghost use Rattle.registry_runner.specs.Interpreters.{script_of};
 ghost use Rattle.registry_runner.specs.Scripts.{Answers, AnswersLine};
 
@@ -11,8 +11,9 @@ use crate::script::{LineAnswer, Script};
 use ktm_calls::StoreEngine;
 use published_trees::Origin;
 use refusals::Refusal;
+use reply_lines::ReplyLine;
 use script_runner::{is_refusal, reply_of};
-use script_syntax::{Label, ReplyLine};
+use script_syntax::Label;
 use std::sync::Wait;
 use uuid::Uuid;
 

@@ -3,7 +3,7 @@ use crate::build_mark::BuildMark;
 use crate::command_error::CommandError;
 use crate::terminal::TerminalOutput;
 use crate::usages::USAGES;
-use script_syntax::Status;
+use reply_lines::Status;
 use std::fs::File;
 use std::io::{self, BufWriter, Eprint, Write};
 use std::rt::Files;

@@ -14,7 +14,7 @@ use file_disk::LockError;
 use reg_apply::{Request, UnitOfWork, apply, check};
 use reg_file::{RegFile, parse};
 use reg_prefixes::{Prefixes, WordError};
-use script_syntax::Status;
+use reply_lines::Status;
 use std::alloc::{AllocError, Global};
 use std::io::{self, BufWriter, Eprint, ErrorKind, Input, Read};
 use std::rt::Files;

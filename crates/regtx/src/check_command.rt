@@ -10,7 +10,7 @@ use crate::store_disk::StoreDisk;
 use crate::terminal::TerminalOutput;
 use file_disk::LockError;
 use hive_check::{CheckError, check_hive};
-use script_syntax::Status;
+use reply_lines::Status;
 use std::io::{self, BufWriter, Eprint, Input};
 use std::rt::Files;
 use store_check::check_store;

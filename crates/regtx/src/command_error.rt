@@ -1,7 +1,7 @@
 //! What the program says if it can't begin its work.
 use crate::hint::{Hint, Why};
 use refusals::Refusal;
-use script_syntax::Status;
+use reply_lines::Status;
 use std::alloc::{AllocError, AllocFailed};
 use std::io;
 use thiserror::Error;

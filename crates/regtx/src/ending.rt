@@ -1,5 +1,5 @@
 //! How the program ends.
-use script_syntax::Status;
+use reply_lines::Status;
 
 /// The status that says that a unit of work isn't kept.
 const NOT_KEPT: u8 = 3;

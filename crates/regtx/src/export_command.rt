@@ -13,7 +13,7 @@ use crate::tasks::ExportForm;
 use crate::terminal::TerminalOutput;
 use file_disk::LockError;
 use reg_prefixes::Prefixes;
-use script_syntax::Status;
+use reply_lines::Status;
 use std::io::{self, BufWriter, Eprint, Input};
 use std::rt::Files;
 use store_export::{Encoding, ExportError, Form, Request, Selection, export_hive, export_store};

@@ -3,9 +3,10 @@
 use crate::command_error::CommandError;
 use refusals::Refusal;
 use reg_names::{Name, Path, ValueName};
-use script_syntax::{KeyRef, Line, ParseError, Request, Text, read_line};
+use script_syntax::{KeyRef, Line, Request, Text, read_line};
 use std::alloc::{AllocError, Global};
 use store_export::Selection;
+use word_syntax::ParseError;
 
 /// A blank in a script's spelling, in which it would end a word.
 const BLANK: &[u8] = b"%0020";

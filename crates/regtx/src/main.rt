@@ -53,7 +53,7 @@ use crate::value_commands::{read_store, write_store};
 use crate::words::parse_task;
 use file_disk::LockError;
 use hive_dump::{DumpError, dump};
-use script_syntax::Status;
+use reply_lines::Status;
 use std::alloc::Global;
 use std::fs::File;
 use std::io::{BufWriter, Eprint, Input};

@@ -18,7 +18,7 @@ use disk_model::Disk;
 use file_disk::{Denial, FileDisk, LockError, Unknown};
 use progress_line::{Moved, ProgressLine, WatchedDisk, WatchedReader, Work, WorkStage};
 use refusals::Refusal;
-use script_syntax::Status;
+use reply_lines::Status;
 use std::alloc::Global;
 use std::fs::{self, File};
 use std::io::{self, BufWriter, Eprint, ErrorKind, Input, Write};

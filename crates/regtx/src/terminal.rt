@@ -4,7 +4,7 @@ use crate::hint::Hint;
 use crate::input_file::{is_standard_input, length_of};
 use crate::usages::{USAGES, Usage};
 use progress_line::{ProgressLine, Work, WorkStage};
-use script_syntax::Status;
+use reply_lines::Status;
 use std::io::{self, Eprint, IsTerminal};
 use std::rt::{Env, Files};
 use std::time::Clock;

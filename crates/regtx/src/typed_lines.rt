@@ -1,7 +1,8 @@
 //! The lines of a script that is typed: one that isn't understood doesn't end the run.
-use script_syntax::{Line, ParseError, read_line};
+use script_syntax::{Line, read_line};
 use std::alloc::Global;
 use std::io::{self, Read};
+use word_syntax::ParseError;
 
 /// The byte that ends a line.
 const LINE_END: u8 = b'\n';

@@ -14,7 +14,7 @@ use crate::value_file::value_bytes;
 use file_disk::LockError;
 use refusals::Refusal;
 use reg_tree::Data;
-use script_syntax::{ParseError, Status};
+use reply_lines::Status;
 use std::alloc::Global;
 use std::io::{self, BufWriter, Eprint, Input};
 use std::rt::Files;
@@ -22,6 +22,7 @@ use std::time::Clock;
 use store_export::Selection;
 use store_values::{Change, ChangeResult, ValueForm, change_store, get_value, list_key};
 use value_syntax::{Datum, parse, type_number};
+use word_syntax::ParseError;
 
 /// The word for the empty name, which the default value has.
 const DEFAULT: &str = "@";

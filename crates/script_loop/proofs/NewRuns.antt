@@ -1,12 +1,12 @@
 -- The first lines of a script that makes its store.
 use Rattle.std.proofs.Common.{◌≡◌, ℕ, Bool, List, [], ◌∷◌, ◌++◌, Option, Some, None, refl, inl, inr}
 use Rattle.std.specs.Io.KnownBytes.{Appends}
-use Rattle.script_syntax.proofs.Written.{appends_more}
-use Rattle.script_syntax.specs.Replies.{reply_line}
-use Rattle.script_syntax.specs.Statuses.{with_refusal}
-use Rattle.script_syntax.specs.declared.reply.ReplyLine.TheVariants as reply
-use Rattle.script_syntax.specs.declared.status.Status.{Status}
-use Rattle.script_syntax.specs.declared.status.Status.TheVariants.{Wrong}
+use Rattle.reply_lines.proofs.Written.{appends_more}
+use Rattle.reply_lines.specs.Replies.{reply_line}
+use Rattle.reply_lines.specs.Statuses.{with_refusal}
+use Rattle.reply_lines.specs.declared.reply.ReplyLine.TheVariants as reply
+use Rattle.reply_lines.specs.declared.status.Status.{Status}
+use Rattle.reply_lines.specs.declared.status.Status.TheVariants.{Wrong}
 use Rattle.script_loop.specs.Ends.{EndsScript, wrong_text}
 use Rattle.script_loop.specs.FirstLines.{hives_asked, history_asked}
 use Rattle.script_loop.specs.Lines.{TakesLine, WereRead}

@@ -1,10 +1,10 @@
 -- The lines of a script, one after another.
 use Rattle.std.proofs.Common.{◌≡◌, ℕ, ◌+◌, Bool, true, false, ◌||◌, List, [], ◌∷◌, ◌++◌, Option, Some, None, refl, ap, inl, inr}
 use Rattle.std.specs.Io.KnownBytes.{Appends}
-use Rattle.script_syntax.proofs.Written.{appends_more}
-use Rattle.script_syntax.specs.Statuses.{with_refusal}
-use Rattle.script_syntax.specs.declared.status.Status.{Status}
-use Rattle.script_syntax.specs.declared.status.Status.TheVariants.{Clean, Refused, Wrong}
+use Rattle.reply_lines.proofs.Written.{appends_more}
+use Rattle.reply_lines.specs.Statuses.{with_refusal}
+use Rattle.reply_lines.specs.declared.status.Status.{Status}
+use Rattle.reply_lines.specs.declared.status.Status.TheVariants.{Clean, Refused, Wrong}
 use Rattle.script_loop.specs.Ends.{EndsScript, wrong_text}
 use Rattle.script_loop.specs.Lines.{TakesLine, WereRead}
 use Rattle.script_loop.specs.Runs.{AnswersReadLine, EndsLoop, IsRunOn, TakesNext, end_after}

@@ -1,7 +1,7 @@
 -- A run as it is seen in states of another kind.
 use Rattle.std.proofs.Common.{ℕ, ◌+◌, Bool, List, [], ◌∷◌, Option, Some, None, inl, inr}
 use Rattle.std.specs.Prelude.{⊤}
-use Rattle.script_syntax.specs.declared.status.Status.{Status}
+use Rattle.reply_lines.specs.declared.status.Status.{Status}
 use Rattle.script_loop.specs.NewStores.{IsScriptRun, RunsOverNew, RunsScript}
 use Rattle.script_loop.specs.Runs.{RunsOn}
 use Rattle.script_loop.specs.declared.end_of_script.EndOfScript.{EndOfScript}

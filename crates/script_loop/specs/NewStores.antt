@@ -1,10 +1,10 @@
 -- What a script prints that makes its store by its first line.
 use Rattle.std.specs.Prelude.{◌≡◌, ◌⊎◌, ⊤, ℕ, Bool, List, [], ◌∷◌, ◌++◌, Option, Some, None}
 use Rattle.std.specs.Io.KnownBytes.{Appends}
-use Rattle.script_syntax.specs.Replies.{reply_line}
-use Rattle.script_syntax.specs.declared.reply.ReplyLine.TheVariants as reply
-use Rattle.script_syntax.specs.declared.status.Status.{Status}
-use Rattle.script_syntax.specs.declared.status.Status.TheVariants.{Wrong}
+use Rattle.reply_lines.specs.Replies.{reply_line}
+use Rattle.reply_lines.specs.declared.reply.ReplyLine.TheVariants as reply
+use Rattle.reply_lines.specs.declared.status.Status.{Status}
+use Rattle.reply_lines.specs.declared.status.Status.TheVariants.{Wrong}
 use Rattle.script_loop.specs.Ends.{EndsAs, EndsScript, IsWrongLine, wrong_text}
 use Rattle.script_loop.specs.FirstLines.{hives_asked, history_asked}
 use Rattle.script_loop.specs.Lines.{WereRead}

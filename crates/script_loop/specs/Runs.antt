@@ -1,9 +1,9 @@
 -- What the lines of a script print, and how its run ends, by what answers them.
 use Rattle.std.specs.Prelude.{◌≡◌, ◌⊎◌, ℕ, ◌+◌, Bool, ◌||◌, List, [], ◌∷◌, ◌++◌, Option}
 use Rattle.std.specs.Io.KnownBytes.{Appends}
-use Rattle.script_syntax.specs.Statuses.{with_refusal}
-use Rattle.script_syntax.specs.declared.status.Status.{Status}
-use Rattle.script_syntax.specs.declared.status.Status.TheVariants.{Wrong}
+use Rattle.reply_lines.specs.Statuses.{with_refusal}
+use Rattle.reply_lines.specs.declared.status.Status.{Status}
+use Rattle.reply_lines.specs.declared.status.Status.TheVariants.{Wrong}
 use Rattle.script_loop.specs.Ends.{EndsAs, EndsScript, IsWrongLine, wrong_text}
 use Rattle.script_loop.specs.Lines.{TakesLine, TakesLines, WereRead}
 use Rattle.script_loop.specs.Turns.{IsLeft}

@@ -4,7 +4,7 @@ ghost use Rattle.std.specs.Io.KnownBytes.{Appends};
 ghost use Rattle.script_loop.specs.Ends.{EndsScript, wrong_text};
 
 use refusals::Refusal;
-use script_syntax::Status;
+use reply_lines::Status;
 use std::io;
 use std::io::Write;
 

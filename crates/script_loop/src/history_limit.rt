@@ -4,9 +4,10 @@ ghost use Rattle.refusals.specs.declared.limits.TheConstants.{MOST_HISTORY};
 ghost use Rattle.script_loop.specs.FirstLines.{history_asked};
 
 use refusals::limits::MOST_HISTORY;
-use script_syntax::{Line, ParseError, read_line};
+use script_syntax::{Line, read_line};
 use std::alloc::{AllocError, Global};
 use std::marker::Model;
+use word_syntax::ParseError;
 
 /// How many changes a history has at most: 1 to 1,048,576.
 #[derive(Clone, Copy)]

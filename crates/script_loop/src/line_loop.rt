@@ -5,7 +5,7 @@ ghost use Rattle.script_loop.specs.Runs.{AnswersReadLine, EndsLoop, TakesNext, e
 use crate::answerer::{Answerer, LineTurn};
 use crate::end_of_script::{EndOfScript, end, wrong};
 use crate::lines::next_line;
-use script_syntax::Status;
+use reply_lines::Status;
 use std::io;
 use std::io::{BufRead, Write};
 

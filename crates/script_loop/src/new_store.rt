@@ -8,7 +8,7 @@ use crate::end_of_script::{EndOfScript, end, wrong};
 use crate::history_limit::{HistoryLimit, read_history_limit};
 use crate::line_loop::{LineOutcome, LoopEnd, answer_line, run_lines};
 use crate::lines::next_line;
-use script_syntax::{ReplyLine, Status};
+use reply_lines::{ReplyLine, Status};
 use std::alloc::{AllocError, Global};
 use std::convert::Infallible;
 use std::io;

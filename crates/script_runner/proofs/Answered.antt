@@ -3,7 +3,7 @@ use Rattle.std.proofs.Common.{◌≡◌, Some, Result, Ok, sym, ◌∙◌, subst
 use Rattle.std.specs.Prelude.{IfOk}
 use Rattle.refusals.specs.declared.refusal.Refusal.{Refusal}
 use Rattle.script_syntax.specs.declared.line.Line.{Line}
-use Rattle.script_syntax.specs.declared.reply.ReplyLine.{ReplyLine}
+use Rattle.reply_lines.specs.declared.reply.ReplyLine.{ReplyLine}
 use Rattle.script_runner.specs.Scripts.{Script, Answers, later_line}
 
 -- what was reported for one of a script's later lines is an answer to the line

@@ -1,7 +1,7 @@
 -- Replies that report the device.
 use Rattle.std.specs.Prelude.{Bool, false}
-use Rattle.script_syntax.specs.declared.reply.ReplyLine.{ReplyLine}
-use Rattle.script_syntax.specs.declared.reply.ReplyLine.TheVariants as reply
+use Rattle.reply_lines.specs.declared.reply.ReplyLine.{ReplyLine}
+use Rattle.reply_lines.specs.declared.reply.ReplyLine.TheVariants as reply
 use Rattle.store_model.specs.Machine.{is_of_device}
 
 -- whether a reply reports that the device failed in this call, or in an earlier one

@@ -1,6 +1,6 @@
 -- What an interpreter shows: a script between two lines.
 use Rattle.std.specs.Prelude.{ℕ, Result, Ok, Err}
-use Rattle.script_syntax.specs.declared.reply.ReplyLine.{ReplyLine}
+use Rattle.reply_lines.specs.declared.reply.ReplyLine.{ReplyLine}
 use Rattle.engine.specs.Shown.{Shown}
 use Rattle.script_runner.specs.Scripts.{Script}
 use Rattle.script_runner.specs.Labels.{named_by}

@@ -1,11 +1,11 @@
 -- What a script prints, and how its run ends.
 use Rattle.std.specs.Prelude.{◌≡◌, ℕ, Bool, true, false, List, ◌++◌, Option, Some, None, codes}
 use Rattle.std.specs.Fmt.{decimal}
-use Rattle.script_syntax.specs.Replies.{reply_line}
+use Rattle.reply_lines.specs.Replies.{reply_line}
 use Rattle.script_syntax.specs.declared.line.Line.{Line}
-use Rattle.script_syntax.specs.declared.reply.ReplyLine.{ReplyLine}
-use Rattle.script_syntax.specs.declared.reply.ReplyLine.TheVariants as reply
-use Rattle.script_syntax.specs.declared.status.Status.{Status}
+use Rattle.reply_lines.specs.declared.reply.ReplyLine.{ReplyLine}
+use Rattle.reply_lines.specs.declared.reply.ReplyLine.TheVariants as reply
+use Rattle.reply_lines.specs.declared.status.Status.{Status}
 use Rattle.script_loop.specs.NewStores.{IsScriptRun}
 use Rattle.script_runner.specs.Scripts.{Script, Answers, fresh_script, limited, line_asked}
 use Rattle.script_runner.specs.Faults.{is_device_reply}

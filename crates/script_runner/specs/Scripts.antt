@@ -5,8 +5,8 @@ use Rattle.refusals.specs.declared.refusal.Refusal.TheVariants.{NoMemory, NoSuch
 use Rattle.script_syntax.specs.Lines.{line_of}
 use Rattle.script_syntax.specs.declared.line.Line.{Line}
 use Rattle.script_syntax.specs.declared.line.Line.TheVariants.{Hives, History, At, Session, End, Plain, Begin, Inside, Commit, Rollback, Close, Outcome, Kept, Flush, Fold, Lab}
-use Rattle.script_syntax.specs.declared.reply.ReplyLine.{ReplyLine}
-use Rattle.script_syntax.specs.declared.reply.ReplyLine.TheVariants as reply
+use Rattle.reply_lines.specs.declared.reply.ReplyLine.{ReplyLine}
+use Rattle.reply_lines.specs.declared.reply.ReplyLine.TheVariants as reply
 use Rattle.store_model.specs.Machine.{Machine, bounds_for, fresh_machine, with_history}
 use Rattle.store_model.specs.Steps.{Step, with_session}
 use Rattle.store_model.specs.declared.handle.Tx.{Tx}

@@ -3,7 +3,7 @@ ghost use Rattle.std.specs.Prelude.{◌≡◌, ◌≤◌, ℕ, Some, None, Match
 ghost use Rattle.store_model.specs.Machine.{with_history};
 ghost use Rattle.store_model.specs.Steps.{Step};
 ghost use Rattle.script_syntax.specs.declared.line.Line.{Line as AnyLine};
-ghost use Rattle.script_syntax.specs.declared.reply.ReplyLine.{ReplyLine as AnyReplyLine};
+ghost use Rattle.reply_lines.specs.declared.reply.ReplyLine.{ReplyLine as AnyReplyLine};
 ghost use Rattle.script_runner.specs.Scripts.{Asks, Answers, AsksAndWaits, event_alone, event_inside, later_line, limited, line_asked, script_at};
 ghost use Rattle.store_driver.specs.Later.{IsLater};
 ghost use Rattle.script_runner.specs.Interpreters.{engine_of, script_of, reply_by};
@@ -16,12 +16,14 @@ use crate::replies::reply_of;
 use disk_model::Disk;
 use engine::Engine;
 use refusals::Refusal;
+use reply_lines::ReplyLine;
 use script_loop::HistoryLimit;
-use script_syntax::{Label, Line, ParseError, ReplyLine, Request, read_line};
+use script_syntax::{Label, Line, Request, read_line};
 use std::alloc::{AllocError, Global};
 use store_driver::{ask, wait};
 use store_model::{Event, Reply, Tx};
 use uuid::Uuid;
+use word_syntax::ParseError;
 
 /// A script between two lines: its store, the current moment and session, and the transaction that each label names.
 pub struct Interpreter<D: Disk> {

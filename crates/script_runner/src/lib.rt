@@ -21,5 +21,4 @@ pub use labels::Labels;
 pub use operation::{Operation, operation_of};
 pub use replies::reply_of;
 pub use runner::{is_refusal, play};
-pub use script_syntax::Status;
 pub use store_setup::{begin_on, make_journal_room};

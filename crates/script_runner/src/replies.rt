@@ -5,7 +5,7 @@ ghost use Rattle.script_runner.specs.Scripts.{reply_of, found_reply, accepted_re
 
 use refusals::Refusal;
 use reg_tree::Value;
-use script_syntax::ReplyLine;
+use reply_lines::ReplyLine;
 use store_model::{Outcome, Progress, ReadResult, Reply};
 
 /// The reply to the line that asked. A change that is to be waited for is reported as accepted, for the lines that wait

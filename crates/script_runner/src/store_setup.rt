@@ -16,12 +16,13 @@ use recovery::{Opened, create, open};
 use refusals::Refusal;
 use refusals::limits::MOST_JOURNAL_BYTES;
 use reg_tree::Trees;
-use script_syntax::{Line, ParseError, read_line};
+use script_syntax::{Line, read_line};
 use std::alloc::{AllocError, Global};
 use std::sync::Arc;
 use store_driver::ask;
 use store_model::{Event, Reply};
 use uuid::Uuid;
+use word_syntax::ParseError;
 
 /// The journal's file alone grows once a store is made: it is file 0.
 const GROWING_FILES: u32 = 1;

@@ -4,7 +4,8 @@ use Rattle.std.specs.Prelude.{IfSome}
 use Rattle.std.specs.Option.{option_map, option_copied}
 use Rattle.std.specs.List.{slice_split}
 use Rattle.std.proofs.lemmas.List.{append-nil}
-use Rattle.script_syntax.specs.Words.{units_of, escaped, all_escaped, parts_of, before, behind}
+use Rattle.word_syntax.specs.Parts.{parts_of, before, behind}
+use Rattle.script_syntax.specs.Words.{units_of, escaped, all_escaped}
 
 -- the units so far, and those of what is left
 abbrev pub units_from : List ℕ → Option (List ℕ) → Option (List ℕ)

@@ -18,7 +18,7 @@ use Rattle.script_syntax.specs.declared.lab_line.LabLine.{LabLine}
 use Rattle.script_syntax.specs.declared.lab_line.LabLine.TheVariants.{Accept, JournalStep, FlusherStep, TrimStep, FlushWhole, StopAt, FailAt, Crash}
 use Rattle.script_syntax.specs.declared.lab_line.CrashTear.{CrashTear}
 use Rattle.script_syntax.specs.declared.lab_line.CrashTear.TheVariants.{Old, New, Torn}
-use Rattle.script_syntax.proofs.Cuts.{is_or_not}
+use Rattle.word_syntax.proofs.Cuts.{is_or_not}
 use Rattle.script_syntax.proofs.ParsedUnits.{map_some, then_some}
 use Rattle.script_syntax.proofs.ParsedWords.{read_number, parsed_number, read_label, parsed_label}
 use Rattle.script_syntax.proofs.ParsedRequests.{read_request, one_word, two_words, first_word, parsed_request, parsed_request_words}

@@ -11,7 +11,7 @@ use Rattle.script_syntax.specs.Grammar.{IsKeyRef, IsName, VerbAndKeyRef, VerbKey
 use Rattle.script_syntax.specs.declared.line.KeyRef.{KeyRef}
 use Rattle.script_syntax.specs.declared.line.Request.{Request}
 use Rattle.script_syntax.specs.declared.line.Request.TheVariants.{Create, Delete, Set, Unset, Get, Keys, Values, Info}
-use Rattle.script_syntax.proofs.Cuts.{is_or_not}
+use Rattle.word_syntax.proofs.Cuts.{is_or_not}
 use Rattle.script_syntax.proofs.ParsedUnits.{map_some, then_some}
 use Rattle.script_syntax.proofs.ParsedWords.{read_number, parsed_number, read_place, parsed_place, read_name, parsed_name, read_data, parsed_data}
 

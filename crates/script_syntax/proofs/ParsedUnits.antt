@@ -12,9 +12,11 @@ use Rattle.std.proofs.lemmas.Bool.Decides.{nat_tests, Decides-eqb}
 use Rattle.hex.specs.Hex.{decode_sized, is_hex_digit}
 use Rattle.hex.specs.declared.error.FromHexError.{FromHexError}
 use Rattle.hex.proofs.HexLemmas.{IsOk-decode_sized}
-use Rattle.script_syntax.specs.Words.{before, behind, parts_of, decoded, escaped_unit, escaped, all_escaped, units_of}
+use Rattle.word_syntax.specs.Parts.{before, behind, parts_of}
+use Rattle.word_syntax.specs.HexBytes.{decoded}
+use Rattle.script_syntax.specs.Words.{escaped_unit, escaped, all_escaped, units_of}
 use Rattle.script_syntax.specs.Grammar.{IsPlain, IsEscape, AreUnits}
-use Rattle.script_syntax.proofs.Cuts.{is_or_not, before_here, before_further, behind_here, behind_further, before_front, behind_front, parts_are}
+use Rattle.word_syntax.proofs.Cuts.{is_or_not, before_here, before_further, behind_here, behind_further, before_front, behind_front, parts_are}
 
 pub map_some : {A B : Type 0} (f : A → B) (o : Option A) (y : B) → option_map f o ≡ Some y → (x : A) × (o ≡ Some x) × (f x ≡ y)
 map_some f None y e = absurd (none-some y e)

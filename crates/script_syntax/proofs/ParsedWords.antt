@@ -12,11 +12,13 @@ use Rattle.std.proofs.lemmas.Slice.Eq.{bytes_eq-Decides}
 use Rattle.std.proofs.lemmas.Bool.{and_parts, and_from}
 use Rattle.std.proofs.lemmas.Bool.Decides.{nat_tests, Decides-eqb}
 use Rattle.hex.specs.Hex.{decode_of}
-use Rattle.script_syntax.specs.Words.{before, behind, decoded, number_of, data_of, units_of, name_of, placed, key_ref_of, label_of}
+use Rattle.word_syntax.specs.Parts.{before, behind}
+use Rattle.word_syntax.specs.HexBytes.{decoded}
+use Rattle.script_syntax.specs.Words.{number_of, data_of, units_of, name_of, placed, key_ref_of, label_of}
 use Rattle.script_syntax.specs.declared.label.TheConstants.{LONGEST_LABEL}
 use Rattle.script_syntax.specs.Grammar.{IsDecimal, IsKeyRef, IsName, IsData, IsLabel}
 use Rattle.script_syntax.specs.declared.line.KeyRef.{KeyRef}
-use Rattle.script_syntax.proofs.Cuts.{is_or_not, before_here, before_front, behind_here, behind_front, cut_back}
+use Rattle.word_syntax.proofs.Cuts.{is_or_not, before_here, before_front, behind_here, behind_front, cut_back}
 use Rattle.script_syntax.proofs.ParsedUnits.{map_some, then_some, decoded_ok, read_units, parsed_units}
 
 -- a number by the grammar is parsed

@@ -1,9 +1,9 @@
 -- What a parser refuses for another that it called.
 use Rattle.std.proofs.Common.{◌≡◌, Option, None, Result, Ok, Err, sym, subst}
 use Rattle.std.specs.Prelude.{IsErrAnd}
-use Rattle.script_syntax.specs.Reads.{Reads, RefusedAs}
-use Rattle.script_syntax.specs.declared.parse_error.ParseError.{ParseError}
-use Rattle.script_syntax.specs.declared.parse_error.ParseError.TheVariants.{NoMemory, NotUnderstood}
+use Rattle.word_syntax.specs.Reads.{Reads, RefusedAs}
+use Rattle.word_syntax.specs.declared.parse_error.ParseError.{ParseError}
+use Rattle.word_syntax.specs.declared.parse_error.ParseError.TheVariants.{NoMemory, NotUnderstood}
 
 -- a refusal of a part is one of the whole, if the whole parses to nothing when the part does
 pub carried : {X Y : Type 0} (parse_error : ParseError) (part : Option X) (whole : Option Y) → (part ≡ None → whole ≡ None) → RefusedAs parse_error part → RefusedAs parse_error whole

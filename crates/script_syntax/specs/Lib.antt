@@ -1,6 +1,3 @@
 pub mod Words
-pub mod Reads
 pub mod Lines
 pub mod Grammar
-pub mod Replies
-pub mod Statuses

@@ -1,30 +1,18 @@
--- The parts of a line, and what one word of it parses to, if anything.
-use Rattle.std.specs.Prelude.{◌≡◌, ℕ, ◌+◌, ◌-◌, ◌==◌, nat_lt, nat_le, ◌&&◌, if◌then◌else◌, List, [], ◌∷◌, ◌++◌, length, take, drop, replicate, Option, Some, None, Result, Ok, Err, codes}
+-- The words of a line, and what one of them parses to, if anything.
+use Rattle.std.specs.Prelude.{◌≡◌, ℕ, ◌-◌, ◌==◌, nat_lt, nat_le, ◌&&◌, if◌then◌else◌, List, [], ◌∷◌, ◌++◌, length, take, drop, replicate, Option, Some, None, codes}
 use Rattle.std.specs.Option.{option_map, option_and_then}
-use Rattle.std.specs.List.{list_all, slice_split, position, before_first}
+use Rattle.std.specs.List.{list_all, slice_split}
 use Rattle.std.specs.Char.{is_ascii_digit, is_ascii_alphanumeric}
 use Rattle.std.specs.Str.{bytes_eq}
 use Rattle.std.specs.Str.Parse.{digits_value}
 use Rattle.std.specs.Int.{from_be_bytes}
 use Rattle.std.specs.Int.{w16}
 use Rattle.hex.specs.Hex.{decode_of, decode_sized}
-use Rattle.hex.specs.declared.error.FromHexError.{FromHexError}
 use Rattle.uuid.specs.Text.{parsed}
+use Rattle.word_syntax.specs.Parts.{before, behind, parts_of}
+use Rattle.word_syntax.specs.HexBytes.{decoded}
 use Rattle.script_syntax.specs.declared.label.TheConstants.{LONGEST_LABEL}
 use Rattle.script_syntax.specs.declared.line.KeyRef.{KeyRef}
-
--- what follows the first separator, if there is one
-abbrev pub behind : ℕ → List ℕ → Option (List ℕ)
-behind separator bytes = option_map (λ at. drop (at + 1) bytes) (position (λ byte. byte == separator) bytes)
-
--- what is before the first separator, or all
-abbrev pub before : ℕ → List ℕ → List ℕ
-before separator bytes = before_first (λ byte. byte == separator) bytes
-
--- the parts between the separators of what follows one
-abbrev pub parts_of : ℕ → Option (List ℕ) → List (List ℕ)
-parts_of separator None = []
-parts_of separator (Some bytes) = slice_split (λ byte. byte == separator) bytes
 
 -- the words of a line: its parts between blanks
 abbrev pub words : List ℕ → List (List ℕ)
@@ -34,11 +22,6 @@ words bytes = slice_split (λ byte. byte == 32) bytes
 abbrev pub number_of : ℕ → List ℕ → Option ℕ
 number_of most word =
     if nat_lt 0 (length word) && list_all is_ascii_digit word && nat_le (digits_value 10 word) most then Some (digits_value 10 word) else None
-
--- the bytes of hex text, if it is hex text
-abbrev pub decoded : Result (List ℕ) FromHexError → Option (List ℕ)
-decoded (Ok bytes) = Some bytes
-decoded (Err fault) = None
 
 -- the bytes of pairs of hex digits, at least one pair; a minus alone is no bytes
 abbrev pub data_of : List ℕ → Option (List ℕ)

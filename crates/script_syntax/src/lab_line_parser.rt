@@ -1,19 +1,19 @@
 //! Reads the lines that only a laboratory takes.
 ghost use Rattle.std.specs.Prelude.{◌≡◌};
 ghost use Rattle.std.specs.Option.{option_copied};
-ghost use Rattle.script_syntax.specs.Words.{parts_of};
+ghost use Rattle.word_syntax.specs.Parts.{parts_of};
 ghost use Rattle.script_syntax.specs.Lines.{call_in, device_line, hive_in, step_line, tear_in, tear_of};
-ghost use Rattle.script_syntax.specs.Reads.{Reads};
+ghost use Rattle.word_syntax.specs.Reads.{Reads};
 
 use crate::lab_line::{CrashTear, LabLine};
 use crate::line::Line;
 use crate::line_parser::{alone, label_alone};
 use crate::numbers::number;
-use crate::parse_error::ParseError;
 use crate::requests::request_with;
 use crate::word_parser::small_number;
 use crate::words::one_word;
 use std::alloc::Global;
+use word_syntax::ParseError;
 
 /// A line of a single step, one that has to do with the device, or a request alone.
 pub(crate) fn step_line(alloc: Global, verb: &[u8], rest: Option<&[u8]>) -> Result<Line, ParseError>

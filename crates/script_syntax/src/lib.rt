@@ -1,12 +1,11 @@
-//! The script language of the program: which lines there are, how they are parsed, and the text of replies.
+//! The script language of the program: which lines there are, and how they are parsed.
 //!
 //! [`read_line`] parses the bytes of one line to a [`Line`], or refuses them. A line is understood whole or not at all.
 //! Paths and names in it are texts of units ([`Text`]); whoever carries the line out judges if they may be names. The
-//! reply to a line is a [`ReplyLine`], which writes its text into any writer without taking memory. So an accepted
-//! change is always reported. [`Status`] is how a run went.
+//! replies to lines are `reply_lines`'.
 //!
 //! What is promised: bytes are parsed to a line exactly if the grammar has them as that line, and no bytes are two
-//! lines ([`grammar`]). A reply has one text.
+//! lines ([`grammar`]).
 #![tactic(auto)]
 
 pub mod grammar;
@@ -16,11 +15,7 @@ mod label;
 mod line;
 mod line_parser;
 mod numbers;
-mod parse_error;
-mod printer;
-mod reply;
 mod requests;
-mod status;
 mod word_parser;
 mod words;
 
@@ -28,7 +23,3 @@ pub use lab_line::{CrashTear, LabLine};
 pub use label::{LONGEST_LABEL, Label};
 pub use line::{KeyRef, Line, Request, Text};
 pub use line_parser::read_line;
-pub use parse_error::ParseError;
-pub use printer::{write_data, write_name};
-pub use reply::ReplyLine;
-pub use status::Status;

@@ -1,20 +1,20 @@
 //! Reads the lines of a script.
 ghost use Rattle.std.specs.Prelude.{◌≡◌};
 ghost use Rattle.std.specs.Option.{option_copied};
-ghost use Rattle.script_syntax.specs.Words.{parts_of};
+ghost use Rattle.word_syntax.specs.Parts.{parts_of};
 ghost use Rattle.script_syntax.specs.Lines.{line_of, hives_line, history_line, at_line, session_line, end_line, alone, begin_line, inside_line, kept_line, label_in, transaction_line};
-ghost use Rattle.script_syntax.specs.Reads.{Reads};
+ghost use Rattle.word_syntax.specs.Reads.{Reads};
 
 use crate::lab_line_parser::step_line;
 use crate::label::Label;
 use crate::line::Line;
 use crate::numbers::number;
-use crate::parse_error::ParseError;
 use crate::requests::request;
 use crate::word_parser::{label, small_number, uuid, whole_number};
 use crate::words::{first_word, next_word, one_word, two_words};
 use refusals::limits::{MOST_HISTORY, MOST_HIVES};
 use std::alloc::Global;
+use word_syntax::ParseError;
 
 /// Parses one line, without the byte that ends it.
 ///

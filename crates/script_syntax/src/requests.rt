@@ -1,15 +1,15 @@
 //! Reads what a line asks of a key.
 ghost use Rattle.std.specs.Prelude.{◌≡◌};
 ghost use Rattle.std.specs.Option.{option_copied};
-ghost use Rattle.script_syntax.specs.Words.{parts_of};
+ghost use Rattle.word_syntax.specs.Parts.{parts_of};
 ghost use Rattle.script_syntax.specs.Lines.{key_ref_in, named_in, set_request, request_with, request_of_words};
-ghost use Rattle.script_syntax.specs.Reads.{Reads};
+ghost use Rattle.word_syntax.specs.Reads.{Reads};
 
 use crate::line::{KeyRef, Request, Text};
-use crate::parse_error::ParseError;
 use crate::word_parser::{data, key_ref, name, whole_number};
 use crate::words::{four_words, next_word, one_word, two_words};
 use std::alloc::Global;
+use word_syntax::ParseError;
 
 /// The request after a blank.
 pub(crate) fn request(alloc: Global, rest: Option<&[u8]>) -> Result<Request, ParseError>

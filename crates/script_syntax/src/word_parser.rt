@@ -1,17 +1,16 @@
 //! What one word parses to: units, names, keys, numbers, labels and bytes.
 ghost use Rattle.std.specs.Prelude.{◌≡◌, ◌++◌, ◌∷◌, Some, None, IfOk, MatchResult, map};
 ghost use Rattle.script_syntax.specs.Words.{units_of, escaped, AddsEscaped, name_of, key_ref_of, data_of, number_of, label_of, uuid_of};
-ghost use Rattle.script_syntax.specs.Reads.{Reads, RefusedAs};
+ghost use Rattle.word_syntax.specs.Reads.{Reads, RefusedAs};
 
 use crate::label::Label;
 use crate::line::{KeyRef, Text};
 use crate::numbers::number;
-use crate::parse_error::ParseError;
-use crate::words::first_part;
 use hex::FromHexError;
 use reg_tree::Data;
 use std::alloc::{AllocError, Global};
 use uuid::Uuid;
+use word_syntax::{ParseError, first_part};
 
 /// The byte that four hex digits of one unit follow.
 const ESCAPE: u8 = b'%';

@@ -1,29 +1,15 @@
-//! The parts of a line between separators.
-ghost use Rattle.std.specs.Prelude.{◌≡◌, ◌∷◌, [], ◌==◌, ◌<◌, length, IfSome, MatchResult};
+//! The words of a line.
+ghost use Rattle.std.specs.Prelude.{◌≡◌, ◌∷◌, [], ◌==◌, MatchResult};
 ghost use Rattle.std.specs.Option.{option_copied};
-ghost use Rattle.std.specs.List.{slice_split, position};
-ghost use Rattle.script_syntax.specs.Words.{parts_of, before, behind};
+ghost use Rattle.std.specs.List.{slice_split};
+ghost use Rattle.word_syntax.specs.Parts.{parts_of};
+ghost use Rattle.word_syntax.specs.Reads.{ReadsAs};
 ghost use Rattle.script_syntax.specs.Lines.{one_of, two_of, four_of};
-ghost use Rattle.script_syntax.specs.Reads.{ReadsAs};
 
-use crate::parse_error::ParseError;
+use word_syntax::{ParseError, first_part};
 
 /// The blank between two words.
 const BLANK: u8 = b' ';
-
-/// The bytes before the first separator, and those after it if there is one.
-pub(crate) fn first_part(bytes: &[u8], separator: u8) -> (&[u8], Option<&[u8]>)
-    ensures before { result.0.now ≡ before separator bytes.now }
-    ensures behind { option_copied result.1 ≡ behind separator bytes.now }
-    ensures parts { slice_split (λ byte. byte == separator) bytes.now
-        ≡ result.0.now ∷ parts_of separator (option_copied result.1) }
-    ensures shorter { IfSome result.1 (λ rest. length rest.now < length bytes.now) }
-{
-    match separator_in(bytes, separator) {
-        Some(at) => (&bytes[..at], Some(&bytes[at + 1..])),
-        None => (bytes, None),
-    }
-}
 
 /// The first word of a line, and what follows its blank if there is one.
 pub(crate) fn first_word(line: &[u8]) -> (&[u8], Option<&[u8]>)
@@ -75,11 +61,4 @@ pub(crate) fn next_word(rest: Option<&[u8]>) -> Result<(&[u8], Option<&[u8]>), P
         Some(rest) => Ok(first_word(rest)),
         None => Err(ParseError::NotUnderstood),
     }
-}
-
-// the index of the first separator
-fn separator_in(bytes: &[u8], separator: u8) -> Option<usize>
-    ensures { result ≡ position (λ byte. byte == separator) bytes.now }
-{
-    bytes.iter().position(|byte| *byte == separator)
 }

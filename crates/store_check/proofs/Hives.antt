@@ -2,7 +2,7 @@
 use Rattle.std.proofs.Common.{◌≡◌, ℕ, ◌+◌, ◌≤◌, List, ◌∷◌, length, drop, Option, sym, subst}
 use Rattle.std.specs.Io.KnownBytes.{Appends}
 use Rattle.std.proofs.lemmas.List.{drop_all}
-use Rattle.script_syntax.proofs.Written.{appends_more, appends_nothing}
+use Rattle.reply_lines.proofs.Written.{appends_more, appends_nothing}
 use Rattle.commit_journal.specs.Numbered.{NumberedChange}
 use Rattle.hive_flush.specs.declared.hive.HiveFile.{HiveFile}
 use Rattle.store_check.specs.StoreTexts.{hive_line, hive_lines}

@@ -10,8 +10,8 @@ use Rattle.engine_invariant.specs.Prefixes.{AreOnDisk, JournalDecodesTo}
 use Rattle.recovery.specs.Invariant.{InvariantHolds}
 use Rattle.recovery.specs.Recovered.{IsNoStore, IsRecovered}
 use Rattle.recovery.specs.declared.found.RecoveredStore.{RecoveredStore}
-use Rattle.script_syntax.specs.declared.status.Status.{Status}
-use Rattle.script_syntax.specs.declared.status.Status.TheVariants as status
+use Rattle.reply_lines.specs.declared.status.Status.{Status}
+use Rattle.reply_lines.specs.declared.status.Status.TheVariants as status
 use Rattle.store_check.specs.StoreTexts.{refusal_lines, store_text}
 
 -- What was found is what the files recover: the store, the number and the trees; the journal's changes; and the hives, as

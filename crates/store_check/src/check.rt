@@ -11,7 +11,7 @@ use crate::store_lines::{write_refusal, write_store};
 use disk_model::Disk;
 use recovery::{RecoveredStore, open};
 use refusals::Refusal;
-use script_syntax::Status;
+use reply_lines::Status;
 use std::alloc::Global;
 use std::io::{self, Write};
 

@@ -13,7 +13,7 @@ use disk_model::Disk;
 use recovery::create;
 use refusals::Refusal;
 use reg_tree::Trees;
-use script_syntax::{ReplyLine, Status};
+use reply_lines::{ReplyLine, Status};
 use std::alloc::Global;
 use std::io;
 use std::io::Write;

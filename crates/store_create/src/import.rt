@@ -15,7 +15,7 @@ use disk_model::Disk;
 use hive_file_reader::{ReadError, read_file};
 use recovery::create_from;
 use refusals::Refusal;
-use script_syntax::Status;
+use reply_lines::Status;
 use std::alloc::Global;
 use std::io;
 use std::io::{Read, Write};

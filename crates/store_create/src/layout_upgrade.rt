@@ -16,7 +16,7 @@ use commit_journal::Layout;
 use disk_model::Disk;
 use recovery::{Opened, create, open};
 use refusals::Refusal;
-use script_syntax::Status;
+use reply_lines::Status;
 use std::alloc::Global;
 use std::io;
 use std::io::Write;

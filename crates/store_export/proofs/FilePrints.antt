@@ -38,7 +38,7 @@ use Rattle.store_export.specs.Reports.{IsTold}
 use Rattle.store_export.proofs.Told.{kept_appends, rows_kept}
 use Rattle.store_export.specs.HiveExports.{HiveRefused, KeepsOrLacks, RefusalIsLast, ReportsFile, are_some, found_keys, keys_asked, keys_at, part_of, path_asked}
 use Rattle.store_export.specs.HivePrints.{AnswersAsked, AnswersFile, AnswersKeys, AnswersScanned, AnswersWalk, BinsStopped, IsKeysText, IsPrinted, KeysRefused, ScanRefused, ShowsKeys, image_refusal}
-use Rattle.script_syntax.specs.declared.status.Status.{Status}
+use Rattle.reply_lines.specs.declared.status.Status.{Status}
 
 -- the refusal of an error that is one
 abbrev why_of : ExportError → Refusal

@@ -5,7 +5,7 @@ use Rattle.std.specs.List.{flat_map}
 use Rattle.std.specs.Io.KnownBytes.{Appends}
 use Rattle.std.proofs.lemmas.List.{drop_more, drop_all, map-append}
 use Rattle.std.proofs.lemmas.Option.{slice_get_within, get_or_from_slice_get}
-use Rattle.script_syntax.proofs.Written.{appends_more, appends_nothing}
+use Rattle.reply_lines.proofs.Written.{appends_more, appends_nothing}
 use Rattle.reg_tree.specs.Maps.{TreeMap}
 use Rattle.key_walk.specs.KeyRows.{NamedRow, tree_rows}
 use Rattle.reg_prefixes.specs.declared.prefix.Prefix.{Prefix}

@@ -6,7 +6,7 @@ use Rattle.refusals.specs.Refusals.{refusal_text}
 use Rattle.reg_names.specs.Names.{folded_path}
 use Rattle.reg_tree.specs.Maps.{TreeMap, is_there}
 use Rattle.key_walk.specs.SubtreeRows.{rows_below}
-use Rattle.script_syntax.specs.declared.status.Status.{Status}
+use Rattle.reply_lines.specs.declared.status.Status.{Status}
 use Rattle.store_export.specs.declared.request.Request.{Request}
 use Rattle.store_export.specs.declared.report.ExportError.{ExportError}
 use Rattle.store_export.specs.declared.report.ExportError.TheVariants as error

@@ -17,8 +17,8 @@ use Rattle.hive_walk.specs.declared.errors.ImageError.TheVariants as image_error
 use Rattle.hive_walk.specs.Judgements.{ImageRefused}
 use Rattle.hive_file_reader.specs.Hives.{FileHasBins}
 use Rattle.hive_file_reader.specs.Readings.{FileBinsRefusedAs}
-use Rattle.script_syntax.specs.declared.status.Status.{Status}
-use Rattle.script_syntax.specs.declared.status.Status.TheVariants as status
+use Rattle.reply_lines.specs.declared.status.Status.{Status}
+use Rattle.reply_lines.specs.declared.status.Status.TheVariants as status
 use Rattle.store_export.specs.declared.request.Request.{Request}
 use Rattle.store_export.specs.declared.request.Selection.{Selection}
 use Rattle.store_export.specs.declared.report.ExportError.{ExportError}

@@ -7,8 +7,8 @@ use Rattle.reg_tree.specs.Maps.{TreeMap}
 use Rattle.hive_files.specs.Frames.{RefusalHasCause}
 use Rattle.commit_journal.specs.Store.{Store}
 use Rattle.recovery.specs.Recovered.{IsNoStore, IsRecovered}
-use Rattle.script_syntax.specs.declared.status.Status.{Status}
-use Rattle.script_syntax.specs.declared.status.Status.TheVariants as status
+use Rattle.reply_lines.specs.declared.status.Status.{Status}
+use Rattle.reply_lines.specs.declared.status.Status.TheVariants as status
 use Rattle.refusals.specs.declared.refusal.Refusal.TheVariants.{BadName, NoMemory}
 use Rattle.reg_export.specs.declared.whole_file.ExportError.{ExportError as FileError}
 use Rattle.reg_export.specs.declared.whole_file.ExportError.TheVariants as file_error

@@ -16,7 +16,7 @@ use hive_file_reader::{ReadError, read_image};
 use hive_walk::SoundImage;
 use refusals::Refusal;
 use reg_names::Name;
-use script_syntax::Status;
+use reply_lines::Status;
 use std::alloc::Global;
 use std::io::{Read, Write};
 

@@ -5,7 +5,7 @@ ghost use Rattle.store_export.specs.HivePrints.{image_refusal};
 
 use hive_walk::ImageError;
 use refusals::Refusal;
-use script_syntax::Status;
+use reply_lines::Status;
 use std::alloc::{AllocError, AllocFailed};
 use std::io::{self, Write};
 

@@ -11,7 +11,7 @@ use crate::trees::print_trees;
 use disk_model::Disk;
 use recovery::{Opened, open};
 use refusals::Refusal;
-use script_syntax::Status;
+use reply_lines::Status;
 use std::alloc::Global;
 use std::io::Write;
 

@@ -14,10 +14,10 @@ use Rattle.reg_tree.specs.TreeLists.{value_in}
 use Rattle.hive_files.specs.Frames.{RefusalHasCause}
 use Rattle.commit_journal.specs.Store.{Store}
 use Rattle.recovery.specs.Recovered.{IsNoStore, IsRecovered}
-use Rattle.script_syntax.specs.declared.status.Status.{Status}
-use Rattle.script_syntax.specs.declared.status.Status.TheVariants as status
-use Rattle.script_syntax.specs.declared.reply.ReplyLine.TheVariants as reply
-use Rattle.script_syntax.specs.Replies.{name_text, reply_line}
+use Rattle.reply_lines.specs.declared.status.Status.{Status}
+use Rattle.reply_lines.specs.declared.status.Status.TheVariants as status
+use Rattle.reply_lines.specs.declared.reply.ReplyLine.TheVariants as reply
+use Rattle.reply_lines.specs.Replies.{name_text, reply_line}
 use Rattle.value_syntax.specs.Printed.{datum_text}
 use Rattle.store_values.specs.declared.value_form.ValueForm.{ValueForm}
 use Rattle.store_values.specs.declared.value_form.ValueForm.TheVariants.{Line, Data}

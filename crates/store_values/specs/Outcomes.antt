@@ -5,9 +5,9 @@ use Rattle.refusals.specs.declared.refusal.Refusal.{Refusal}
 use Rattle.reg_tree.specs.declared.op.Op.{Op}
 use Rattle.disk_model.specs.FileState.{FileState}
 use Rattle.store_model.specs.Machine.{Machine, named_trees, outcome_bytes}
-use Rattle.script_syntax.specs.declared.status.Status.TheVariants as status
-use Rattle.script_syntax.specs.declared.reply.ReplyLine.TheVariants as reply
-use Rattle.script_syntax.specs.Replies.{reply_line}
+use Rattle.reply_lines.specs.declared.status.Status.TheVariants as status
+use Rattle.reply_lines.specs.declared.reply.ReplyLine.TheVariants as reply
+use Rattle.reply_lines.specs.Replies.{reply_line}
 use Rattle.change_plan.specs.Plans.{Planned}
 use Rattle.store_change.specs.Commits.{Commits, FailsToCommit, KeepsAccepted}
 use Rattle.store_change.specs.Reports.{AllOrNothing, ChangesStore, report_text}

@@ -1,7 +1,7 @@
 //! How a change ended, as it was told.
 
 use refusals::Refusal;
-use script_syntax::Status;
+use reply_lines::Status;
 
 /// How a change ended.
 #[derive(Clone, Copy, Debug, PartialEq, Eq)]

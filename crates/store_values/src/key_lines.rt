@@ -8,7 +8,7 @@ ghost use Rattle.store_values.specs.Listed.{subkeys_at, values_at};
 
 use reg_names::{Name, Path};
 use reg_tree::{Tree, Value};
-use script_syntax::write_name;
+use reply_lines::write_name;
 use std::io::{self, Write};
 use value_syntax::write_datum;
 

@@ -14,7 +14,7 @@ use recovery::{Opened, open};
 use refusals::Refusal;
 use reg_names::{Path, ValueName};
 use reg_tree::{Trees, Value};
-use script_syntax::Status;
+use reply_lines::Status;
 use std::alloc::Global;
 use std::io::{self, Write};
 

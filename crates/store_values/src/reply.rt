@@ -6,7 +6,7 @@ ghost use Rattle.store_values.specs.Outcomes.{PrintsOutcome, outcome_line, repor
 
 use crate::change_result::ChangeResult;
 use refusals::Refusal;
-use script_syntax::{ReplyLine, Status};
+use reply_lines::{ReplyLine, Status};
 use std::io::{self, Write};
 
 /// Prints the line of a refusal.

@@ -1,8 +1,8 @@
 -- The text of a path, a name longer.
 use Rattle.std.proofs.Common.{◌≡◌, ℕ, ◌<◌, List, [], ◌∷◌, ◌++◌, length, Option, refl, sym, ◌∙◌, ap, arith, append_assoc, length-append}
 use Rattle.std.specs.Io.KnownBytes.{Appends}
-use Rattle.script_syntax.specs.Replies.{name_text}
-use Rattle.script_syntax.proofs.Written.{appends_both}
+use Rattle.reply_lines.specs.Replies.{name_text}
+use Rattle.reply_lines.proofs.Written.{appends_both}
 use Rattle.tree_printer.specs.TreeTexts.{path_text}
 
 -- some names and one more, with a backslash between

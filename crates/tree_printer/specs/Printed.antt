@@ -3,7 +3,7 @@ use Rattle.std.proofs.Common.{◌≡◌, ℕ, List, [], ◌++◌, Option, refl, 
 use Rattle.std.specs.List.{flat_map}
 use Rattle.std.specs.Io.KnownBytes.{Appends}
 use Rattle.std.proofs.lemmas.List.Concat.{flat_map-append}
-use Rattle.script_syntax.proofs.Written.{appends_both, appends_nothing}
+use Rattle.reply_lines.proofs.Written.{appends_both, appends_nothing}
 use Rattle.key_walk.specs.KeyRows.{NamedRow}
 
 -- known bytes grew by the texts of these keys, as keys of a hive; the writer is the same one, and so is the hive

@@ -7,7 +7,7 @@ use Rattle.reg_tree_parts.specs.declared.value.Value.{Value}
 use Rattle.reg_tree_parts.specs.Rows.{Row}
 use Rattle.reg_tree.specs.Maps.{TreeMap}
 use Rattle.key_walk.specs.KeyRows.{NamedRow, spelled_names}
-use Rattle.script_syntax.specs.Replies.{name_text, data_text}
+use Rattle.reply_lines.specs.Replies.{name_text, data_text}
 
 -- names with a backslash between each two
 abbrev pub path_text : List (List ℕ) → List ℕ

@@ -5,7 +5,7 @@ ghost use Rattle.tree_printer.specs.TreeTexts.{path_text};
 ghost use Rattle.key_walk.specs.KeyPaths.{names_on};
 
 use key_walk::KeyPath;
-use script_syntax::write_name;
+use reply_lines::write_name;
 use std::io;
 use std::io::Write;
 

@@ -6,7 +6,7 @@ ghost use Rattle.std.specs.FinMap as finite;
 ghost use Rattle.tree_printer.specs.TreeTexts.{value_line};
 
 use reg_tree_parts::{Value, Values};
-use script_syntax::{write_data, write_name};
+use reply_lines::{write_data, write_name};
 use std::io;
 use std::io::Write;
 

@@ -10,7 +10,7 @@ use Rattle.std.proofs.lemmas.List.{append-nil}
 use Rattle.std.proofs.Math.Seq.{take-append_seam, drop-append_seam}
 use Rattle.hex.specs.Hex.{encode_with, encode_lower, lower_digits, decode_of, IsBytes}
 use Rattle.hex.proofs.HexLemmas.{decode_of-encode_lower, length-encode_with}
-use Rattle.script_syntax.specs.Words.{decoded}
+use Rattle.word_syntax.specs.HexBytes.{decoded}
 use Rattle.value_syntax.specs.declared.type_word.TypeWord.TheVariants.{Bytes}
 use Rattle.value_syntax.specs.TypeWords.{type_of, without_end, kind_of}
 use Rattle.value_syntax.specs.Data.{datum_in, datum_with, hex_bytes, all_pair_bytes, pair_bytes}

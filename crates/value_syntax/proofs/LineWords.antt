@@ -5,7 +5,7 @@ use Rattle.std.specs.Option.{option_map, option_and_then}
 use Rattle.std.specs.List.{position_or_len, list_all, AllByRecursion}
 use Rattle.std.proofs.lemmas.Bool.{lt-ltb, and_parts, not-true}
 use Rattle.std.proofs.Math.Seq.{take-append_seam, drop-append-add}
-use Rattle.script_syntax.specs.Words.{before, behind}
+use Rattle.word_syntax.specs.Parts.{before, behind}
 use Rattle.value_syntax.specs.Data.{datum_of}
 use Rattle.value_syntax.specs.Printed.{datum_on}
 

@@ -4,9 +4,9 @@ use Rattle.std.specs.Option.{option_map, option_and_then}
 use Rattle.std.proofs.lemmas.List.{append-nil}
 use Rattle.std.specs.Prelude.{◌==◌, if◌then◌else◌, false, IsErrAnd}
 use Rattle.std.specs.List.{slice_split}
-use Rattle.script_syntax.specs.Reads.{ReadsAs, RefusedAs}
-use Rattle.script_syntax.specs.declared.parse_error.ParseError.{ParseError}
-use Rattle.script_syntax.specs.declared.parse_error.ParseError.TheVariants.{NoMemory, NotUnderstood}
+use Rattle.word_syntax.specs.Reads.{ReadsAs, RefusedAs}
+use Rattle.word_syntax.specs.declared.parse_error.ParseError.{ParseError}
+use Rattle.word_syntax.specs.declared.parse_error.ParseError.TheVariants.{NoMemory, NotUnderstood}
 use Rattle.value_syntax.specs.Data.{pair_bytes, all_pair_bytes, hex_bytes}
 
 -- the bytes of a part, before those of the parts after it

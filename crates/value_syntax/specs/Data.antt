@@ -5,7 +5,7 @@ use Rattle.std.specs.List.{flat_map, slice_split}
 use Rattle.std.specs.Char.Escape.{encode_utf16}
 use Rattle.std.specs.Int.{w16, w32, w64, to_le_bytes}
 use Rattle.hex.specs.Hex.{decode_of}
-use Rattle.script_syntax.specs.Words.{decoded}
+use Rattle.word_syntax.specs.HexBytes.{decoded}
 use Rattle.value_syntax.specs.declared.datum.Datum.{Datum}
 use Rattle.value_syntax.specs.declared.type_word.TypeWord.{TypeWord}
 use Rattle.value_syntax.specs.declared.type_word.TypeWord.TheVariants.{Text, ExpandText, Number, WideNumber, Texts, Bytes}

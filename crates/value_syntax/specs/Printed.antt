@@ -7,7 +7,7 @@ use Rattle.std.specs.Char.{encode_utf8, is_control}
 use Rattle.std.specs.Char.Utf16.{utf16_chars}
 use Rattle.std.specs.Int.{w32, w64, from_le_bytes, is_in_range}
 use Rattle.hex.specs.Hex.{encode_lower}
-use Rattle.script_syntax.specs.Words.{before, behind}
+use Rattle.word_syntax.specs.Parts.{before, behind}
 use Rattle.reg_export.specs.ByteUnits.{units_of, are_whole, ends_in_zero, front_units}
 use Rattle.value_syntax.specs.declared.datum.Datum.{Datum}
 use Rattle.value_syntax.specs.Data.{datum_of}

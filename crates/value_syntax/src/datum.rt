@@ -2,7 +2,7 @@
 ghost use Rattle.std.specs.Prelude.{◌≡◌, IfOk};
 ghost use Rattle.std.specs.Int.{w32, w64, to_le_bytes};
 ghost use Rattle.std.specs.Option.{option_map};
-ghost use Rattle.script_syntax.specs.Reads.{Reads};
+ghost use Rattle.word_syntax.specs.Reads.{Reads};
 ghost use Rattle.value_syntax.specs.TypeWords.{number_of, type_number, type_of};
 ghost use Rattle.value_syntax.specs.Data.{datum_with, datum_in, datum_of};
 
@@ -11,8 +11,8 @@ use crate::numbers::number;
 use crate::text_data::{text_data, texts_data};
 use crate::type_word::{TypeWord, type_word};
 use reg_tree::Data;
-use script_syntax::ParseError;
 use std::alloc::{AllocError, Global};
+use word_syntax::ParseError;
 
 /// The type of a text with its terminator.
 pub(crate) const TEXT: u32 = 1;

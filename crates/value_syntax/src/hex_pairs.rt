@@ -1,12 +1,12 @@
 //! Bytes as pairs of hex digits.
 ghost use Rattle.std.specs.Prelude.{◌≡◌, ◌++◌, ℕ, List, MatchResult};
-ghost use Rattle.script_syntax.specs.Reads.{ReadsAs, RefusedAs};
+ghost use Rattle.word_syntax.specs.Reads.{ReadsAs, RefusedAs};
 ghost use Rattle.value_syntax.specs.Data.{hex_bytes, pair_bytes};
 ghost use Rattle.value_syntax.specs.Steps.{AddsPairs};
 
 use hex::FromHexError;
-use script_syntax::ParseError;
 use std::alloc::Global;
+use word_syntax::ParseError;
 
 /// The bytes of pairs of hex digits in either case, between which commas may stand. Nothing is no bytes.
 pub(crate) fn hex_bytes(alloc: Global, text: &str) -> Result<Vec<u8>, ParseError>

@@ -9,7 +9,7 @@ ghost use Rattle.value_syntax.specs.Printed.{datum_text, hex_word, is_terminated
 use crate::characters::{are_shown, first_char, has_separator};
 use crate::datum::{EXPAND_TEXT, NUMBER, TEXT, TEXTS, WIDE_NUMBER};
 use crate::type_word::BYTES;
-use script_syntax::write_data;
+use reply_lines::write_data;
 use std::io;
 use std::io::Write;
 

@@ -1,7 +1,7 @@
 //! Files that can't be read on, and texts that can't be written.
 use crate::dumps::hives::{TEXT, file};
 use hive_dump::{DumpError, dump};
-use script_syntax::Status;
+use reply_lines::Status;
 use std::io;
 use std::io::{ErrorKind, Read, Write};
 use std::test::Fail;

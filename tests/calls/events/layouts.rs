@@ -7,7 +7,7 @@ use disk_model::{MemDisk, Plan};
 use recovery::{Opened, create_layout_1};
 use refusals::Refusal;
 use reg_tree::Trees;
-use script_syntax::Status;
+use reply_lines::Status;
 use std::alloc::Global;
 use std::sync::Arc;
 use std::test::Fail;

@@ -12,7 +12,8 @@ use crate::replies::reply_of;
 use disk_model::Disk;
 use engine::Engine;
 use refusals::Refusal;
-use script_syntax::{Label, ReplyLine};
+use reply_lines::ReplyLine;
+use script_syntax::Label;
 use std::alloc::Global;
 use store_model::{Event, Reply};
 

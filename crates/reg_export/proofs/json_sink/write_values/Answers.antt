@@ -3,7 +3,7 @@ use Rattle.std.specs.List.{flat_map}
 use Rattle.std.specs.FinMap as finite
 use Rattle.std.specs.Io.KnownBytes.{Appends}
 use Rattle.reg_tree_parts.specs.declared.value.Value.{Value}
-use Rattle.script_syntax.proofs.Written.{appends_both}
+use Rattle.reply_lines.proofs.Written.{appends_both}
 use Rattle.key_walk.specs.KeyPaths.{names_on}
 use Rattle.key_walk.proofs.Rows.{next_rows}
 use Rattle.tree_printer.proofs.ValueLists.{is_there, values_long}

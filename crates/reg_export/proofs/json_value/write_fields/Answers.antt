@@ -1,6 +1,6 @@
 use Rattle.std.proofs.Common.{List, ℕ, ap, ◌∙◌, ◌++◌, refl, codes}
 use Rattle.hex.specs.Hex.{encode_lower}
-use Rattle.script_syntax.proofs.Written.{appends_both}
+use Rattle.reply_lines.proofs.Written.{appends_both}
 use Rattle.key_walk.proofs.Rows.{on_ok}
 use Rattle.reg_export.specs.TypeNames.{type_name}
 use Rattle.reg_export.specs.Meanings.{meaning_of}

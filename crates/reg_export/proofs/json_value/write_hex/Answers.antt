@@ -1,7 +1,7 @@
 use Rattle.std.proofs.Common.{sym, subst}
 use Rattle.std.specs.Io.KnownBytes.{Appends}
 use Rattle.hex.specs.Hex.{encode_lower}
-use Rattle.script_syntax.proofs.Written.{appends_no_digits}
+use Rattle.reply_lines.proofs.Written.{appends_no_digits}
 use Rattle.reg_export.proofs.Lists.{none_of}
 use Rattle.reg_export.proofs.json_value.write_hex.Goals as goal
 

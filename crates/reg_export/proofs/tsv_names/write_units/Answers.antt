@@ -1,6 +1,6 @@
 use Rattle.std.proofs.Common.{ℕ, List, sym, ap, subst, ◌∙◌}
 use Rattle.std.specs.Io.KnownBytes.{Appends}
-use Rattle.script_syntax.proofs.Written.{appends_both, appends_nothing}
+use Rattle.reply_lines.proofs.Written.{appends_both, appends_nothing}
 use Rattle.reg_export.specs.Fields.{field_text}
 use Rattle.reg_export.proofs.FieldTexts.{field_step}
 use Rattle.reg_export.proofs.tsv_names.write_units.Goals as goal

@@ -1,5 +1,5 @@
 use Rattle.std.proofs.Common.{refl}
-use Rattle.script_syntax.proofs.Written.{appends_both}
+use Rattle.reply_lines.proofs.Written.{appends_both}
 use Rattle.key_walk.proofs.Rows.{on_ok}
 use Rattle.reg_export.proofs.tsv_sink.write_value.Goals as goal
 

@@ -2,7 +2,7 @@ use Rattle.std.proofs.Common.{◌∷◌, ◌++◌, [], List, ℕ, sym, ap, ◌�
 use Rattle.std.specs.List.{flat_map}
 use Rattle.std.proofs.lemmas.List.{append-nil}
 use Rattle.std.proofs.lemmas.List.Concat.{flat_map-append}
-use Rattle.script_syntax.proofs.Written.{appends_both}
+use Rattle.reply_lines.proofs.Written.{appends_both}
 use Rattle.reg_export.specs.ByteUnits.{units_of}
 use Rattle.reg_export.specs.UnitForms.{form_text}
 use Rattle.reg_export.proofs.unit_form.write_byte_units.Goals as goal

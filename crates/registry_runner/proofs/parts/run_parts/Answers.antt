@@ -1,5 +1,5 @@
 use Rattle.std.proofs.Common.{◌∙◌, ◌||◌, ap, subst, sym}
-use Rattle.script_syntax.specs.Statuses.{with_refusal}
+use Rattle.reply_lines.specs.Statuses.{with_refusal}
 use Rattle.script_loop.proofs.Running.{refusals_join}
 use Rattle.registry_runner.specs.Running.{EndsPart, RunsFrom}
 use Rattle.registry_runner.specs.declared.parts.PartEnd.{PartEnd}

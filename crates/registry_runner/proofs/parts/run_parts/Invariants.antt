@@ -1,6 +1,6 @@
 use Rattle.std.proofs.Common.{◌≡◌, ℕ, List, Option}
-use Rattle.script_syntax.specs.Statuses.{with_refusal}
-use Rattle.script_syntax.specs.declared.status.Status.{Status}
+use Rattle.reply_lines.specs.Statuses.{with_refusal}
+use Rattle.reply_lines.specs.declared.status.Status.{Status}
 use Rattle.registry_runner.specs.Folding.{IsIdle}
 use Rattle.registry_runner.specs.Running.{IsOfStore, RunsFrom}
 use Rattle.registry_runner.proofs.parts.run_parts.Given as goal

@@ -1,7 +1,7 @@
 use Rattle.std.proofs.Common.{◌≡◌, ◌∙◌, ℕ, List, Some, None, ap, sym, subst}
 use Rattle.std.specs.Prelude.{IfNone, IfSome}
 use Rattle.std.specs.Io.KnownBytes.{Appends}
-use Rattle.script_syntax.specs.declared.status.Status.TheVariants.{Wrong}
+use Rattle.reply_lines.specs.declared.status.Status.TheVariants.{Wrong}
 use Rattle.script_loop.specs.Ends.{EndsScript, wrong_text}
 use Rattle.script_loop.specs.FirstLines.{hives_asked}
 use Rattle.script_loop.specs.NewStores.{IsRunOverNew, IsScriptRun}

@@ -1,6 +1,6 @@
 use Rattle.std.proofs.Common.{◌∷◌, ◌∙◌, ap}
 use Rattle.std.specs.Option.{option_copied}
-use Rattle.script_syntax.specs.Words.{parts_of}
+use Rattle.word_syntax.specs.Parts.{parts_of}
 use Rattle.script_syntax.proofs.WordLists.{not_one}
 use Rattle.script_syntax.proofs.words.one_word.Goals as goal
 

@@ -1,6 +1,6 @@
 use Rattle.std.specs.Prelude.{codes}
 use Rattle.std.proofs.lemmas.Result.{on_ok_weaker}
-use Rattle.script_syntax.proofs.Written.{appends_more}
+use Rattle.reply_lines.proofs.Written.{appends_more}
 use Rattle.store_check.specs.StoreTexts.{pages_text}
 use Rattle.store_check.proofs.hive_lines.write_half_written.Goals as goal
 

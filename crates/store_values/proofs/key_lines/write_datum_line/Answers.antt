@@ -1,5 +1,5 @@
 use Rattle.std.proofs.Common.{List, ℕ, ◌++◌, ap, codes}
-use Rattle.script_syntax.proofs.Written.{appends_both}
+use Rattle.reply_lines.proofs.Written.{appends_both}
 use Rattle.key_walk.proofs.Rows.{on_ok}
 use Rattle.value_syntax.specs.Printed.{datum_text}
 use Rattle.store_values.proofs.key_lines.write_datum_line.Goals as goal

@@ -1,6 +1,6 @@
 use Rattle.std.proofs.Common.{List, ℕ, ◌++◌, ap, refl, codes}
-use Rattle.script_syntax.proofs.Written.{appends_both}
-use Rattle.script_syntax.specs.Replies.{name_text}
+use Rattle.reply_lines.proofs.Written.{appends_both}
+use Rattle.reply_lines.specs.Replies.{name_text}
 use Rattle.key_walk.proofs.Rows.{on_ok}
 use Rattle.store_values.specs.Answers.{datum_line}
 use Rattle.store_values.proofs.key_lines.write_value.Goals as goal

@@ -1,7 +1,7 @@
 use Rattle.std.proofs.Common.{sym, ◌∙◌}
 use Rattle.reg_names.specs.Names.{folded_path}
 use Rattle.reg_tree.specs.Maps.{row}
-use Rattle.script_syntax.proofs.Written.{appends_both}
+use Rattle.reply_lines.proofs.Written.{appends_both}
 use Rattle.key_walk.proofs.Rows.{next_rows}
 use Rattle.store_values.specs.Answers.{value_line}
 use Rattle.store_values.specs.Listed.{values_at}

@@ -1,6 +1,6 @@
 use Rattle.std.proofs.Common.{◌≡◌, List, ℕ, ◌++◌, ◌∷◌, [], sym, ap, subst, ◌∙◌}
 use Rattle.std.specs.Io.KnownBytes.{Appends}
-use Rattle.script_syntax.specs.Replies.{name_text}
+use Rattle.reply_lines.specs.Replies.{name_text}
 use Rattle.tree_printer.specs.TreeTexts.{path_text}
 use Rattle.key_walk.specs.KeyPaths.{names_on}
 use Rattle.key_walk.proofs.Rows.{on_ok}

@@ -2,7 +2,7 @@ use Rattle.std.proofs.Common.{List, ℕ, ap, ◌++◌, codes}
 use Rattle.std.specs.Fmt.{decimal}
 use Rattle.std.specs.FinMap as finite
 use Rattle.std.proofs.lemmas.List.Folds.{flat_map-map}
-use Rattle.script_syntax.proofs.Written.{appends_both}
+use Rattle.reply_lines.proofs.Written.{appends_both}
 use Rattle.key_walk.specs.KeyRows.{spelled_names}
 use Rattle.key_walk.proofs.Rows.{on_ok}
 use Rattle.tree_printer.specs.TreeTexts.{named_lines, tree_text}

@@ -2,7 +2,7 @@ use Rattle.std.proofs.Common.{arith, sym, ap, subst, take_all}
 use Rattle.std.specs.List.{flat_map}
 use Rattle.std.specs.FinMap as finite
 use Rattle.std.specs.Io.KnownBytes.{Appends}
-use Rattle.script_syntax.proofs.Written.{appends_both}
+use Rattle.reply_lines.proofs.Written.{appends_both}
 use Rattle.tree_printer.specs.TreeTexts.{value_line}
 use Rattle.key_walk.proofs.Rows.{next_rows}
 use Rattle.tree_printer.proofs.ValueLists.{is_there, values_long}

@@ -1,6 +1,6 @@
 use Rattle.std.proofs.Common.{◌∙◌, true≢false, refl, sym, subst, arith}
 use Rattle.store_model.specs.declared.event.Event.TheVariants as event
-use Rattle.script_syntax.specs.declared.reply.ReplyLine.TheVariants as reply
+use Rattle.reply_lines.specs.declared.reply.ReplyLine.TheVariants as reply
 use Rattle.script_runner.specs.Interpreters.{script_of}
 use Rattle.script_runner.specs.Scripts.{Asks}
 use Rattle.crash_lab.specs.Experiments.{most_steps}

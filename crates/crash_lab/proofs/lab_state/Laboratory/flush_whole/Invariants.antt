@@ -1,5 +1,5 @@
 use Rattle.std.proofs.Common.{◌≡◌, ◌-◌}
-use Rattle.script_syntax.specs.declared.reply.ReplyLine.{ReplyLine}
+use Rattle.reply_lines.specs.declared.reply.ReplyLine.{ReplyLine}
 use Rattle.script_runner.specs.Interpreters.{script_of}
 use Rattle.script_runner.specs.Scripts.{Script}
 use Rattle.crash_lab.specs.Experiments.{Flushes, IsFlushedWhole, most_steps}

@@ -1,4 +1,4 @@
-use Rattle.script_syntax.specs.Replies.{reply_line}
+use Rattle.reply_lines.specs.Replies.{reply_line}
 use Rattle.script_loop.proofs.Texts.{appends_kept, kept_appends}
 use Rattle.registry_runner.specs.Interpreters.{script_of}
 use Rattle.registry_runner.specs.declared.lines.BetweenLines.TheVariants.{GoOn, ToFold}

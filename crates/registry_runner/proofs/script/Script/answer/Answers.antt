@@ -1,6 +1,6 @@
 use Rattle.std.proofs.Common.{Ok, refl, ap}
 use Rattle.script_syntax.specs.declared.line.Line.TheVariants.{At, Session, End, Plain, Inside, Begin, Commit, Rollback, Close, Outcome, Kept, Flush}
-use Rattle.script_syntax.specs.declared.reply.ReplyLine.TheVariants.{Done}
+use Rattle.reply_lines.specs.declared.reply.ReplyLine.TheVariants.{Done}
 use Rattle.registry_runner.specs.Interpreters.{script_of}
 use Rattle.registry_runner.proofs.Answered.{carried}
 use Rattle.registry_runner.proofs.script.Script.answer.Goals.{in-At, in-Session, in-End, in-Plain, in-Inside, in-Begin, in-Commit, in-Rollback, in-Close, in-Outcome, in-Kept, in-Flush}

@@ -1,6 +1,6 @@
 use Rattle.std.proofs.Common.{Ok, refl, ap, sym, subst}
 use Rattle.script_syntax.specs.declared.line.Line.TheVariants.{At, Session, End, Plain, Inside, Begin, Commit, Rollback, Close, Outcome, Kept, Flush, Fold}
-use Rattle.script_syntax.specs.declared.reply.ReplyLine.TheVariants.{Done}
+use Rattle.reply_lines.specs.declared.reply.ReplyLine.TheVariants.{Done}
 use Rattle.script_runner.proofs.Answered.{carried}
 use Rattle.store_driver.proofs.Later.{later_same}
 use Rattle.store_driver.specs.Later.{IsLater}

@@ -5,7 +5,7 @@ use Rattle.std.specs.Option.{option_map}
 use Rattle.std.specs.List.{position_or_len, slice_split, onto_first, AllByRecursion}
 use Rattle.std.proofs.lemmas.Option.{none-some}
 use Rattle.std.proofs.lemmas.Bool.Decides.{nat_tests, Decides-eqb}
-use Rattle.script_syntax.specs.Words.{before, behind, parts_of}
+use Rattle.word_syntax.specs.Parts.{before, behind, parts_of}
 
 -- a byte is the separator or it isn't
 pub is_or_not : (test : Bool) → (test ≡ true) ⊎ (test ≡ false)

@@ -1,7 +1,7 @@
 -- What a parser of words answers.
 use Rattle.std.specs.Prelude.{◌≡◌, ⊤, Option, Some, None, Result, Ok, Err}
-use Rattle.script_syntax.specs.declared.parse_error.ParseError.{ParseError}
-use Rattle.script_syntax.specs.declared.parse_error.ParseError.TheVariants.{NoMemory, NotUnderstood}
+use Rattle.word_syntax.specs.declared.parse_error.ParseError.{ParseError}
+use Rattle.word_syntax.specs.declared.parse_error.ParseError.TheVariants.{NoMemory, NotUnderstood}
 
 -- for lack of memory anything may be refused; else only what parses to nothing is refused
 abbrev pub RefusedAs : {X : Type 0} → ParseError → Option X → Type 0

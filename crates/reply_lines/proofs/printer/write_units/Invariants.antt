@@ -1,8 +1,8 @@
 use Rattle.std.proofs.Common.{take}
 use Rattle.std.specs.List.{flat_map}
 use Rattle.std.specs.Io.KnownBytes.{Appends}
-use Rattle.script_syntax.specs.Replies.{unit_text}
-use Rattle.script_syntax.proofs.printer.write_units.Given as goal
+use Rattle.reply_lines.specs.Replies.{unit_text}
+use Rattle.reply_lines.proofs.printer.write_units.Given as goal
 
 -- the text of those so far was written
 abbrev pub invariant-loop-unit : goal.invariant-loop-unit

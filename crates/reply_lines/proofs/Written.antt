@@ -1,10 +1,8 @@
 -- What a writer contains after one write and another.
-use Rattle.std.proofs.Common.{◌≡◌, ℕ, ◌+◌, ◌<◌, List, [], ◌∷◌, ◌++◌, length, take, Option, Some, None, refl, sym, subst, ◌∙◌, ap, append_assoc}
-use Rattle.std.specs.Prelude.{slice_index_or, slice_index, ◌/◌, ◌%◌}
-use Rattle.std.specs.List.{flat_map}
+use Rattle.std.proofs.Common.{◌≡◌, ℕ, List, [], ◌∷◌, ◌++◌, Option, Some, None, refl, sym, subst, ◌∙◌, ap, append_assoc}
+use Rattle.std.specs.Prelude.{slice_index, ◌/◌, ◌%◌}
 use Rattle.std.specs.Io.KnownBytes.{Appends}
-use Rattle.std.proofs.lemmas.List.{append-nil, take_more}
-use Rattle.std.proofs.lemmas.List.Concat.{flat_map-append}
+use Rattle.std.proofs.lemmas.List.{append-nil}
 use Rattle.hex.specs.Hex.{encode_with, encode_lower, lower_digits}
 
 -- nothing was written
@@ -22,11 +20,6 @@ appends_more (Some xs) (Some ys) (Some zs) front back a b = b ∙ ap (λ bytes. 
 -- the same, of a text that is these two parts
 pub appends_both : (old mid new : Option (List ℕ)) (front back whole : List ℕ) → Appends old mid front → Appends mid new back → front ++ back ≡ whole → Appends old new whole
 appends_both old mid new front back whole a b e = subst (Appends old new) e (appends_more old mid new front back a b)
-
--- a text of one item more
-pub one_item_more : {X : Type 0} (text : X → List ℕ) (items : List X) (i : ℕ) (d : X) → i < length items → flat_map text (take i items) ++ text (slice_index_or items i d) ≡ flat_map text (take (i + 1) items)
-one_item_more text items i d below =
-    sym (ap (flat_map text) (take_more items i d below) ∙ flat_map-append text (take i items) (slice_index_or items i d ∷ []) ∙ ap (λ t. flat_map text (take i items) ++ t) (append-nil (text (slice_index_or items i d))))
 
 encode_both : (table front back : List ℕ) → encode_with table (front ++ back) ≡ encode_with table front ++ encode_with table back
 unfolding encode_with

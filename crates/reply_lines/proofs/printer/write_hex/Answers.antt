@@ -1,8 +1,8 @@
 use Rattle.std.proofs.Common.{[], ◌++◌, ◌≡◌, ◌∙◌, ap, refl, append_assoc, rules}
 use Rattle.std.proofs.lemmas.List.{take-append-drop}
 use Rattle.hex.specs.Hex.{encode_lower}
-use Rattle.script_syntax.proofs.Written.{appends_no_digits, appends_both, encoded_in_parts}
-use Rattle.script_syntax.proofs.printer.write_hex.Goals as goal
+use Rattle.reply_lines.proofs.Written.{appends_no_digits, appends_both, encoded_in_parts}
+use Rattle.reply_lines.proofs.printer.write_hex.Goals as goal
 
 pub loop-rest-init : goal.loop-rest-init
 loop-rest-init g c = ([], appends_no_digits (g.W.Write.contents c.args.writer.now), refl)

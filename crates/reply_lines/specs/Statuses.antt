@@ -1,7 +1,7 @@
 -- The numbers with which the program ends.
 use Rattle.std.specs.Prelude.{ℕ, Bool, true, false}
-use Rattle.script_syntax.specs.declared.status.Status.{Status}
-use Rattle.script_syntax.specs.declared.status.Status.TheVariants.{Clean, Refused, Wrong}
+use Rattle.reply_lines.specs.declared.status.Status.{Status}
+use Rattle.reply_lines.specs.declared.status.Status.TheVariants.{Clean, Refused, Wrong}
 
 -- 0 if no reply was a refusal, 1 if one was, 2 at a line that is none
 abbrev pub code_of : Status → ℕ

@@ -1,7 +1,7 @@
 //! The replies to the lines of a script, and their text.
 ghost use Rattle.std.specs.Prelude.{OnOk};
 ghost use Rattle.std.specs.Io.KnownBytes.{Appends};
-ghost use Rattle.script_syntax.specs.Replies.{reply_line, names_text};
+ghost use Rattle.reply_lines.specs.Replies.{reply_line, names_text};
 
 use crate::printer::{write_data, write_name};
 use refusals::Refusal;

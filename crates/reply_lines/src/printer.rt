@@ -4,7 +4,7 @@ ghost use Rattle.std.specs.Io.KnownBytes.{Appends};
 ghost use Rattle.std.specs.List.{flat_map};
 ghost use Rattle.std.specs.Int.{w16, to_be_bytes};
 ghost use Rattle.hex.specs.Hex.{encode_lower};
-ghost use Rattle.script_syntax.specs.Replies.{unit_text, name_text, data_text};
+ghost use Rattle.reply_lines.specs.Replies.{unit_text, name_text, data_text};
 
 use std::io;
 use std::io::Write;

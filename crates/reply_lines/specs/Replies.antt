@@ -6,8 +6,8 @@ use Rattle.std.specs.Int.{w16, to_be_bytes}
 use Rattle.std.specs.Str.{bytes_eq}
 use Rattle.hex.specs.Hex.{encode_lower}
 use Rattle.refusals.specs.Refusals.{refusal_text}
-use Rattle.script_syntax.specs.declared.reply.ReplyLine.{ReplyLine}
-use Rattle.script_syntax.specs.declared.reply.ReplyLine.TheVariants.{Done, Created, CreatedInside, Opened, Accepted, Value, Keys, Values, Info, Committed, Flushed, Folded, NotYet, StepIdle, StepMore, StepDone, StillActive, HasCommitted, RolledBack, Refused}
+use Rattle.reply_lines.specs.declared.reply.ReplyLine.{ReplyLine}
+use Rattle.reply_lines.specs.declared.reply.ReplyLine.TheVariants.{Done, Created, CreatedInside, Opened, Accepted, Value, Keys, Values, Info, Committed, Flushed, Folded, NotYet, StepIdle, StepMore, StepDone, StillActive, HasCommitted, RolledBack, Refused}
 
 -- a unit from 0x21 to 0x7e except `%` is written as itself; any other is `%` and four hex digits
 abbrev pub unit_text : ℕ → List ℕ

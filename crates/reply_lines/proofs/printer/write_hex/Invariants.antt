@@ -1,7 +1,7 @@
 use Rattle.std.proofs.Common.{◌≡◌, ◌++◌, ℕ, List, length}
 use Rattle.std.specs.Io.KnownBytes.{Appends}
 use Rattle.hex.specs.Hex.{encode_lower}
-use Rattle.script_syntax.proofs.printer.write_hex.Given as goal
+use Rattle.reply_lines.proofs.printer.write_hex.Given as goal
 
 -- the digits of the bytes before those that are left were written
 abbrev pub invariant-loop-rest : goal.invariant-loop-rest

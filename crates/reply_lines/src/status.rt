@@ -1,6 +1,6 @@
 //! How a run of the program went.
 ghost use Rattle.std.specs.Prelude.{◌≡◌};
-ghost use Rattle.script_syntax.specs.Statuses.{code_of, with_refusal};
+ghost use Rattle.reply_lines.specs.Statuses.{code_of, with_refusal};
 
 /// How a run went.
 #[derive(Clone, Copy, Debug, PartialEq, Eq)]

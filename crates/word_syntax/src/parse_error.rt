@@ -1,15 +1,15 @@
-//! Why a line was not read.
+//! Why a word or a line was not read.
 ghost use Rattle.std.specs.Prelude.{◌≡◌};
-ghost use Rattle.script_syntax.specs.declared.parse_error.ParseError.TheVariants.{NoMemory};
+ghost use Rattle.word_syntax.specs.declared.parse_error.ParseError.TheVariants.{NoMemory};
 
 use std::alloc::{AllocError, AllocFailed};
 
-/// Why a line was not read.
+/// Why a word or a line was not read.
 #[derive(Clone, Copy, Debug, PartialEq, Eq)]
 pub enum ParseError {
     /// Memory was asked for and not given.
     NoMemory,
-    /// The bytes are no line of the language.
+    /// The bytes spell nothing that was asked for.
     NotUnderstood,
 }
 

@@ -1,7 +1,7 @@
 use Rattle.std.proofs.Common.{take}
 use Rattle.std.specs.Io.KnownBytes.{Appends}
-use Rattle.script_syntax.specs.Replies.{names_text}
-use Rattle.script_syntax.proofs.reply.write_names.Given as goal
+use Rattle.reply_lines.specs.Replies.{names_text}
+use Rattle.reply_lines.proofs.reply.write_names.Given as goal
 
 -- the text of those so far was written
 abbrev pub invariant-loop-name : goal.invariant-loop-name
