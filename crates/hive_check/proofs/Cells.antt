@@ -7,14 +7,14 @@ use Rattle.hive_tree_model.specs.Lists.{IsIn, Once}
 use Rattle.hive_tree_model.proofs.Basics.{in_back, in_either, in_front, once_joined}
 use Rattle.hive_cells.specs.Tiles.{BeginsCell, BinStart, CellStart, IsBin, bin_size, cell_size, is_allocated, first_bin, next_bin, first_cell, next_cell}
 use Rattle.hive_check.specs.declared.cell_counts.CellCounts.{CellCounts}
-use Rattle.hive_check.specs.CellCounts.{Adds, AreCells, AreCounted, BinsFrom, CellsFrom, Fits, bin_ends, bin_first, cell_first, data_end, free_cells, no_cells}
+use Rattle.hive_check.specs.CellCounts.{AddsCells, AreCells, CellsAreCounted, BinsFrom, CellsFrom, CountsFit, bin_ends, bin_first, cell_first, data_end, free_cells, no_cells}
 
 -- ---- counts
 
-pub adds_none : (bytes : List ℕ) (counts : CellCounts) → Adds bytes counts [] counts
+pub adds_none : (bytes : List ℕ) (counts : CellCounts) → AddsCells bytes counts [] counts
 adds_none bytes counts = record { all = omega arith; free = omega arith; free_bytes = omega arith }
 
-pub adds_both : (bytes : List ℕ) (old mid new : CellCounts) (xs ys : List ℕ) → Adds bytes old xs mid → Adds bytes mid ys new → Adds bytes old (xs ++ ys) new
+pub adds_both : (bytes : List ℕ) (old mid new : CellCounts) (xs ys : List ℕ) → AddsCells bytes old xs mid → AddsCells bytes mid ys new → AddsCells bytes old (xs ++ ys) new
 adds_both bytes old mid new xs ys one two =
     let free : free_cells bytes (xs ++ ys) ≡ free_cells bytes xs ++ free_cells bytes ys = filter-append (λ at. not (is_allocated bytes at)) xs ys in
     record {
@@ -24,7 +24,7 @@ adds_both bytes old mid new xs ys one two =
     }
 
 -- what is no more than an offset is no more than a later one
-pub fits_on : (counts : CellCounts) (at to : ℕ) → Fits counts at → at ≤ to → Fits counts to
+pub fits_on : (counts : CellCounts) (at to : ℕ) → CountsFit counts at → at ≤ to → CountsFit counts to
 fits_on counts at to fits later = record { all = omega (arith, fits.all, later); free = omega (arith, fits.free, later); free_bytes = omega (arith, fits.free_bytes, later) }
 
 -- ---- cells of a bin
@@ -133,5 +133,5 @@ module _ (bytes all : List ℕ) (bins : BinsFrom bytes 0 all) where
     once = bins_once bytes 0 all bins;
   }
 
-pub counted : (bytes : List ℕ) (counts : CellCounts) → (all : List ℕ) × BinsFrom bytes 0 all × Adds bytes no_cells all counts → AreCounted bytes counts
+pub counted : (bytes : List ℕ) (counts : CellCounts) → (all : List ℕ) × BinsFrom bytes 0 all × AddsCells bytes no_cells all counts → CellsAreCounted bytes counts
 counted bytes counts (all, bins, adds) = (all, are_cells bytes all bins, adds)

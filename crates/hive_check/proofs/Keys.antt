@@ -7,7 +7,7 @@ use Rattle.reg_tree_parts.specs.Rows.{Row, row_weight}
 use Rattle.reg_tree.specs.Maps.{TreeMap}
 use Rattle.key_walk.specs.KeyRows.{spelled_names, tree_rows}
 use Rattle.hive_check.specs.declared.key_counts.KeyCounts.{KeyCounts}
-use Rattle.hive_check.specs.KeyCounts.{AreKeyCounts, Counts, capped, no_keys, values_of, weight_of}
+use Rattle.hive_check.specs.KeyCounts.{AreKeyCounts, AddsKeys, capped, no_keys, values_of, weight_of}
 
 capped_itself : (n m : ℕ) → n < 2 ^ 64 → capped n ≡ capped (0 + m) → n ≡ capped m
 capped_itself n m small same = omega (arith, small, same)
@@ -19,7 +19,7 @@ rows_weigh f (entry ∷ entries) =
     ∙ ap (λ n. row_weight entry.1 + n) (rows_weigh f entries)
     ∙ sym (sum_by-cons (λ e. row_weight e.1) entry entries)
 
-pub key_counts : (tree : TreeMap) (counts : KeyCounts) → counts.keys < 2 ^ 64 → counts.values < 2 ^ 64 → counts.weight < 2 ^ 64 → Counts no_keys counts (tree_rows tree) → AreKeyCounts tree counts
+pub key_counts : (tree : TreeMap) (counts : KeyCounts) → counts.keys < 2 ^ 64 → counts.values < 2 ^ 64 → counts.weight < 2 ^ 64 → AddsKeys no_keys counts (tree_rows tree) → AreKeyCounts tree counts
 key_counts tree counts keys values weighs took = (
   capped_itself counts.keys (length (tree_rows tree)) keys took.keys,
   capped_itself counts.values (values_of (tree_rows tree)) values took.values,

@@ -17,13 +17,13 @@ abbrev pub free_cells : List ℕ → List ℕ → List ℕ
 free_cells bytes cells = filter (λ at. not (is_allocated bytes at)) cells
 
 -- some cells were counted in addition to others
-pub record Adds (bytes : List ℕ) (old : CellCounts) (cells : List ℕ) (new : CellCounts) : Type 0 where
+pub record AddsCells (bytes : List ℕ) (old : CellCounts) (cells : List ℕ) (new : CellCounts) : Type 0 where
   pub all : new.all ≡ old.all + length cells
   pub free : new.free ≡ old.free + length (free_cells bytes cells)
   pub free_bytes : new.free_bytes ≡ old.free_bytes + sum_by (cell_size bytes) (free_cells bytes cells)
 
 -- what was counted up to an offset is no more than it
-pub record Fits (counts : CellCounts) (at : ℕ) : Type 0 where
+pub record CountsFit (counts : CellCounts) (at : ℕ) : Type 0 where
   pub all : counts.all ≤ at
   pub free : counts.free ≤ at
   pub free_bytes : counts.free_bytes ≤ at
@@ -33,8 +33,8 @@ abbrev pub no_cells : CellCounts
 no_cells = record { all = 0; free = 0; free_bytes = 0 }
 
 -- the counts are those of all cells of the data
-abbrev pub AreCounted : List ℕ → CellCounts → Type 0
-AreCounted bytes counts = (cells : List ℕ) × AreCells bytes cells × Adds bytes no_cells cells counts
+abbrev pub CellsAreCounted : List ℕ → CellCounts → Type 0
+CellsAreCounted bytes counts = (cells : List ℕ) × AreCells bytes cells × AddsCells bytes no_cells cells counts
 
 -- where a bin must begin, or a cell, none does: at an offset in a file whose bins data follow 4,096 bytes
 abbrev pub IsTileFault : List ℕ → TileFault → Type 0

@@ -19,7 +19,7 @@ use Rattle.hive_check.specs.declared.finding.Finding.TheVariants as finding
 use Rattle.hive_check.specs.declared.finding.HiveReport.{HiveReport}
 use Rattle.hive_check.specs.declared.key_counts.KeyCounts.{KeyCounts}
 use Rattle.hive_check.specs.Blocks.{block_in}
-use Rattle.hive_check.specs.CellCounts.{AreCounted, IsTileFault}
+use Rattle.hive_check.specs.CellCounts.{CellsAreCounted, IsTileFault}
 use Rattle.hive_check.specs.KeyCounts.{AreKeyCounts}
 
 -- something is true of the bins data of a file, and of the block by which they are read
@@ -34,8 +34,8 @@ EncodesCounted keys block bins = (tree : TreeMap) × BinsEncodeTree bins block.r
 abbrev pub IsFinding : List ℕ → Finding → Type 0
 IsFinding file (finding.Refused why) = FileBinsUnread file why
 IsFinding file (finding.Untiled fault) = HasBinsSo file (λ block bins. IsTileFault bins fault)
-IsFinding file (finding.Unwalked cells error) = HasBinsSo file (λ block bins. AreCounted bins cells × ImageRefused bins block.root block.minor error)
-IsFinding file (finding.Walked cells keys) = HasBinsSo file (λ block bins. AreCounted bins cells × EncodesCounted keys block bins)
+IsFinding file (finding.Unwalked cells error) = HasBinsSo file (λ block bins. CellsAreCounted bins cells × ImageRefused bins block.root block.minor error)
+IsFinding file (finding.Walked cells keys) = HasBinsSo file (λ block bins. CellsAreCounted bins cells × EncodesCounted keys block bins)
 
 -- a report is true of a file: of its base block, and of its bins data
 abbrev pub IsReportOf : List ℕ → HiveReport → Type 0

@@ -23,7 +23,7 @@ abbrev pub no_keys : KeyCounts
 no_keys = record { keys = 0; values = 0; weight = 0 }
 
 -- keys were counted in addition to others
-pub record Counts (old new : KeyCounts) (rows : List NamedRow) : Type 0 where
+pub record AddsKeys (old new : KeyCounts) (rows : List NamedRow) : Type 0 where
   pub keys : capped new.keys ≡ capped (old.keys + length rows)
   pub values : capped new.values ≡ capped (old.values + values_of rows)
   pub weight : capped new.weight ≡ capped (old.weight + weight_of rows)

@@ -1,7 +1,7 @@
 //! The cells of hive bins data, counted in one pass over the bins.
 ghost use Rattle.std.specs.Prelude.{◌≡◌, ◌+◌, ◌≤◌, ◌<◌, ◌^◌, ◌∷◌, [], List, ℕ, length, not, MatchResult};
 ghost use Rattle.hive_cells.specs.Tiles.{BinStart, CellStart, IsBin, IsCell, bin_size, cell_size, is_allocated};
-ghost use Rattle.hive_check.specs.CellCounts.{Adds, AreCounted, CellsFrom, Fits, IsTileFault};
+ghost use Rattle.hive_check.specs.CellCounts.{AddsCells, CellsAreCounted, CellsFrom, CountsFit, IsTileFault};
 
 use hive_records::u32_at;
 
@@ -61,7 +61,7 @@ pub enum TileFault {
 
 /// Counts the cells of hive bins data, or says where the first bin or cell is wrong.
 pub fn count_cells(bytes: &[u8]) -> Result<CellCounts, TileFault>
-    ensures { MatchResult result (AreCounted bytes.now) (IsTileFault bytes.now) }
+    ensures { MatchResult result (CellsAreCounted bytes.now) (IsTileFault bytes.now) }
 {
     let mut counts = CellCounts {
         all: 0,
@@ -79,11 +79,11 @@ pub fn count_cells(bytes: &[u8]) -> Result<CellCounts, TileFault>
 fn count_bin(bytes: &[u8], counts: &mut CellCounts, bin: usize) -> Result<usize, TileFault>
     requires starts { BinStart bytes.now bin }
     requires before { bin < length bytes.now }
-    requires fits { Fits counts.old bin }
-    ensures { MatchResult result (λ end. (bin < end) × (end ≤ length bytes.now) × Fits counts.new end
+    requires fits { CountsFit counts.old bin }
+    ensures { MatchResult result (λ end. (bin < end) × (end ≤ length bytes.now) × CountsFit counts.new end
         × IsBin bytes.now bin × (end ≡ bin + bin_size bytes.now bin)
         × (cells : List ℕ) × CellsFrom bytes.now end (bin + 32) cells
-        × Adds bytes.now counts.old cells counts.new) (IsTileFault bytes.now) }
+        × AddsCells bytes.now counts.old cells counts.new) (IsTileFault bytes.now) }
 {
     let end = bin_end(bytes, bin)?;
     let mut cell = bin + BIN_HEADER_BYTES;
@@ -126,10 +126,10 @@ fn count_cell(
     requires starts { CellStart bytes.now end cell }
     requires before { cell < end }
     requires within { end ≤ length bytes.now }
-    requires fits { Fits counts.old cell }
-    ensures { MatchResult result (λ behind. (cell < behind) × (behind ≤ end) × Fits counts.new behind
+    requires fits { CountsFit counts.old cell }
+    ensures { MatchResult result (λ behind. (cell < behind) × (behind ≤ end) × CountsFit counts.new behind
         × IsCell bytes.now end cell × (behind ≡ cell + cell_size bytes.now cell)
-        × Adds bytes.now counts.old (cell ∷ []) counts.new) (IsTileFault bytes.now) }
+        × AddsCells bytes.now counts.old (cell ∷ []) counts.new) (IsTileFault bytes.now) }
 {
     let (size, is_free) = size_at(bytes, cell, end)?;
     counts.all += 1;

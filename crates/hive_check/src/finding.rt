@@ -2,7 +2,7 @@
 ghost use Rattle.std.specs.Prelude.{◌≡◌, ◌<◌, ◌^◌, ℕ, List, IfOk, IfSome};
 ghost use Rattle.reply_lines.specs.declared.status.Status.{Status};
 ghost use Rattle.hive_file_reader.specs.Hives.{FileHasBins};
-ghost use Rattle.hive_check.specs.CellCounts.{AreCounted};
+ghost use Rattle.hive_check.specs.CellCounts.{CellsAreCounted};
 ghost use Rattle.hive_check.specs.Findings.{BinsAreOf, IsFinding, IsReportOf, status_of};
 
 use crate::block_report::{BlockReport, block_report};
@@ -91,7 +91,7 @@ fn finding_in(alloc: Global, block: &BaseBlock, bytes: Vec<u8>) -> Finding
 // what is found of the keys of a file's image, which has these cells
 fn walked(alloc: Global, block: &BaseBlock, image: &Image, cells: CellCounts) -> Finding
     ensures { (file : List ℕ) → FileHasBins file block.now image.now.bytes →
-        AreCounted image.now.bytes cells → IsFinding file result }
+        CellsAreCounted image.now.bytes cells → IsFinding file result }
 {
     let mut keys = KeyCounts::new();
     match walk_hive(alloc, image, block.root, block.minor, &mut keys) {

@@ -33,10 +33,10 @@ impl KeyCounts {
 }
 
 impl KeySink for KeyCounts {
-    ghost use Rattle.hive_check.specs.KeyCounts.{Counts};
+    ghost use Rattle.hive_check.specs.KeyCounts.{AddsKeys};
     ghost use Rattle.hive_check.specs.KeyCountLaws.{counts_none, counts_more};
 
-    ghost Took = { λ old new keys. Counts old new keys };
+    ghost Took = { λ old new keys. AddsKeys old new keys };
 
     type Error = Infallible;
 

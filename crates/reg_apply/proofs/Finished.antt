@@ -5,12 +5,12 @@ use Rattle.store_change.specs.Commits.{FailsToCommit}
 use Rattle.store_change.specs.Reports.{AllOrNothing}
 use Rattle.reg_prefixes.specs.declared.prefix.Prefix.{Prefix}
 use Rattle.reg_file.specs.declared.file.RegFile.{RegFile}
-use Rattle.reg_apply.specs.declared.outcome.Outcome.{Outcome}
-use Rattle.reg_apply.specs.declared.outcome.Outcome.TheVariants.{Applied, BadFile, NoHive, Denied, Refused}
+use Rattle.reg_apply.specs.declared.outcome.ApplyOutcome.{ApplyOutcome}
+use Rattle.reg_apply.specs.declared.outcome.ApplyOutcome.TheVariants.{Applied, BadFile, NoHive, Denied, Refused}
 use Rattle.reg_apply.specs.Applied.{AsksTaken, EndsApplication}
 
 -- however it ends, all was accepted or nothing
-pub all_or_nothing : (prefixes : List Prefix) (moment : ℕ) (unit : Option (List ℕ)) (file : RegFile) (old new : Machine) (outcome : Outcome) → EndsApplication prefixes moment unit file old outcome new → AllOrNothing (AsksTaken prefixes moment unit file) moment old new
+pub all_or_nothing : (prefixes : List Prefix) (moment : ℕ) (unit : Option (List ℕ)) (file : RegFile) (old new : Machine) (outcome : ApplyOutcome) → EndsApplication prefixes moment unit file old outcome new → AllOrNothing (AsksTaken prefixes moment unit file) moment old new
 all_or_nothing prefixes moment unit file old new (Applied number) ends = inr (ends.3, ends.0.ops, (ends.0, ends.2, ends.4, refl), ends.5.accepts)
 all_or_nothing prefixes moment unit file old new (BadFile fault) ends = inl ends.0
 all_or_nothing prefixes moment unit file old new (NoHive line) ends = inl ends.0

@@ -17,8 +17,8 @@ use Rattle.reg_file.specs.declared.file.RegFile.{RegFile}
 use Rattle.reg_apply.specs.declared.place.Place.{Place}
 use Rattle.reg_apply.specs.declared.place.Denial.{Denial}
 use Rattle.reg_apply.specs.declared.place.Denial.TheVariants as denial
-use Rattle.reg_apply.specs.declared.outcome.Outcome.{Outcome}
-use Rattle.reg_apply.specs.declared.outcome.Outcome.TheVariants.{Applied, BadFile, NoHive, Denied, Refused}
+use Rattle.reg_apply.specs.declared.outcome.ApplyOutcome.{ApplyOutcome}
+use Rattle.reg_apply.specs.declared.outcome.ApplyOutcome.TheVariants.{Applied, BadFile, NoHive, Denied, Refused}
 use Rattle.reg_apply.specs.declared.request.UnitOfWork.{UnitOfWork}
 use Rattle.reg_apply.specs.declared.request.UnitOfWork.TheVariants.{Own, Again, Once}
 use Rattle.reg_apply.specs.Outcomes.{is_applied, outcome_line, outcome_status}
@@ -47,7 +47,7 @@ IsUnit (Some unit) id = id ≡ unit
 -- fault. If a statement is denied, or the file has a fault after statements that are taken, nothing is accepted. The
 -- first of these is told. An application is refused if memory for its plan is lacking, or for the same reason as its
 -- commit.
-abbrev pub EndsApplication : List Prefix → ℕ → Option (List ℕ) → RegFile → Machine → Outcome → Machine → Type 0
+abbrev pub EndsApplication : List Prefix → ℕ → Option (List ℕ) → RegFile → Machine → ApplyOutcome → Machine → Type 0
 EndsApplication prefixes moment unit file old (Applied number) new =
     (plan : Planned) × (file.fault ≡ None) × TakesAll prefixes moment file old plan × (id : List ℕ) × IsUnit unit id × Commits old id moment plan.ops number new
 EndsApplication prefixes moment unit file old (BadFile fault) new =
@@ -67,7 +67,7 @@ unit_of (Again unit) = Some unit
 unit_of (Once unit) = Some unit
 
 -- the store keeps a commit of a unit of work, whose number is told, and nothing is changed
-abbrev pub IsKept : List ℕ → Machine → Outcome → Machine → Type 0
+abbrev pub IsKept : List ℕ → Machine → ApplyOutcome → Machine → Type 0
 IsKept unit old outcome new = (number : ℕ) × (has_outcomes old ≡ true) × (outcome_of old unit ≡ Some number) × (outcome ≡ Applied number) × (new ≡ old)
 
 -- the store keeps no commit of a unit of work
@@ -75,28 +75,28 @@ abbrev pub IsNotKept : List ℕ → Machine → Type 0
 IsNotKept unit old = (has_outcomes old ≡ true) × (outcome_of old unit ≡ None)
 
 -- it isn't told whether it does: memory is lacking, or it keeps no outcomes of commits; this is told, and nothing is changed
-abbrev pub IsNotTold : Machine → Outcome → Machine → Type 0
+abbrev pub IsNotTold : Machine → ApplyOutcome → Machine → Type 0
 IsNotTold old outcome new = (why : Refusal) × ((why ≡ NoMemory) ⊎ ((why ≡ Unsupported) × (has_outcomes old ≡ false))) × (outcome ≡ Refused why) × (new ≡ old)
 
 -- How an application ends that is made once for a unit of work: the file is applied exactly if the store keeps no commit
 -- of it.
-abbrev pub EndsOnce : List ℕ → List Prefix → ℕ → RegFile → Machine → Outcome → Machine → Type 0
+abbrev pub EndsOnce : List ℕ → List Prefix → ℕ → RegFile → Machine → ApplyOutcome → Machine → Type 0
 EndsOnce unit prefixes moment file old outcome new =
     IsKept unit old outcome new ⊎ ((IsNotKept unit old × EndsApplication prefixes moment (Some unit) file old outcome new) ⊎ IsNotTold old outcome new)
 
 -- how it ends, for the unit of work that it is for
-abbrev pub EndsFor : UnitOfWork → List Prefix → ℕ → RegFile → Machine → Outcome → Machine → Type 0
+abbrev pub EndsFor : UnitOfWork → List Prefix → ℕ → RegFile → Machine → ApplyOutcome → Machine → Type 0
 EndsFor Own prefixes moment file old outcome new = EndsApplication prefixes moment None file old outcome new
 EndsFor (Again unit) prefixes moment file old outcome new = EndsApplication prefixes moment (Some unit) file old outcome new
 EndsFor (Once unit) prefixes moment file old outcome new = EndsOnce unit prefixes moment file old outcome new
 
 -- the status of an end, with what is refused of the steps that are left: that of a refusal if a step was refused
-abbrev pub report_status : Outcome → Option Refusal → Status
+abbrev pub report_status : ApplyOutcome → Option Refusal → Status
 report_status outcome None = outcome_status outcome
 report_status outcome (Some why) = status.Refused
 
 -- it ended so, which is printed, with this status
-abbrev pub PrintsApplication : Option (List ℕ) → Option (List ℕ) → Outcome → Option Refusal → Status → Type 0
+abbrev pub PrintsApplication : Option (List ℕ) → Option (List ℕ) → ApplyOutcome → Option Refusal → Status → Type 0
 PrintsApplication before after outcome refused its_status = Appends before after (report_text (outcome_line outcome) refused) × (its_status ≡ report_status outcome refused)
 
 -- a file asks for the operations of a plan that takes all its statements, for the unit of work of its application
@@ -107,12 +107,12 @@ AsksTaken prefixes moment unit file old id ops = (plan : Planned) × TakesAll pr
 -- what is refused of the steps after it. What is left is what the application has left.
 abbrev pub ReportsApplication : {D E : Type 0} → (D → Type 0) → (ℕ → List ℕ) → (ℕ → FileState) → List Prefix → ℕ → UnitOfWork → RegFile → Option (List ℕ) → Option (List ℕ) → Result Status E → Type 0 → Type 0 → (ℕ → ℕ → FileState) → ℕ → Type 0
 ReportsApplication is_faithful files state prefixes moment work file before after told failed faithful states clock =
-    (outcome : Outcome) × (refused : Option Refusal)
+    (outcome : ApplyOutcome) × (refused : Option Refusal)
     × ChangesStore is_faithful files state (EndsFor work prefixes moment file) (AllOrNothing (AsksTaken prefixes moment (unit_of work) file) moment) is_applied Refused outcome refused told failed faithful states clock
     × IfOk told (PrintsApplication before after outcome refused)
 
 -- a denial at a line, as it is told
-abbrev pub StopsSo : ℕ → Denial → Outcome → Type 0
+abbrev pub StopsSo : ℕ → Denial → ApplyOutcome → Type 0
 StopsSo line denial.NoHive outcome = outcome ≡ NoHive line
 StopsSo line denial.NoKey outcome = outcome ≡ BadFile (record { line = line; kind = kind.NoKey })
 StopsSo line (denial.Refused why) outcome = outcome ≡ Denied line why

@@ -7,11 +7,11 @@ use Rattle.reg_file.specs.declared.fault.FaultKind.{FaultKind}
 use Rattle.reg_file.specs.declared.fault.FaultKind.TheVariants.{TooLarge}
 use Rattle.reply_lines.specs.declared.status.Status.{Status}
 use Rattle.reply_lines.specs.declared.status.Status.TheVariants as status
-use Rattle.reg_apply.specs.declared.outcome.Outcome.{Outcome}
-use Rattle.reg_apply.specs.declared.outcome.Outcome.TheVariants.{Applied, BadFile, NoHive, Denied, Refused}
+use Rattle.reg_apply.specs.declared.outcome.ApplyOutcome.{ApplyOutcome}
+use Rattle.reg_apply.specs.declared.outcome.ApplyOutcome.TheVariants.{Applied, BadFile, NoHive, Denied, Refused}
 
 -- the line that is printed, without its end
-abbrev pub outcome_text : Outcome → List ℕ
+abbrev pub outcome_text : ApplyOutcome → List ℕ
 outcome_text (Applied number) = codes "applied " ++ decimal number
 outcome_text (BadFile fault) = fault_text fault
 outcome_text (NoHive line) = codes "line " ++ decimal line ++ codes ": no hive"
@@ -19,11 +19,11 @@ outcome_text (Denied line refusal) = codes "line " ++ decimal line ++ codes ": "
 outcome_text (Refused refusal) = refusal_text refusal
 
 -- the line with its end
-abbrev pub outcome_line : Outcome → List ℕ
+abbrev pub outcome_line : ApplyOutcome → List ℕ
 outcome_line outcome = outcome_text outcome ++ 10 ∷ []
 
 -- whether the file was applied
-abbrev pub is_applied : Outcome → Bool
+abbrev pub is_applied : ApplyOutcome → Bool
 is_applied (Applied number) = true
 is_applied _ = false
 
@@ -32,7 +32,7 @@ abbrev pub fault_status : FaultKind → Status
 fault_status TooLarge = status.Refused
 fault_status _ = status.Wrong
 
-abbrev pub outcome_status : Outcome → Status
+abbrev pub outcome_status : ApplyOutcome → Status
 outcome_status (Applied number) = status.Clean
 outcome_status (BadFile fault) = fault_status fault.kind
 outcome_status (NoHive line) = status.Wrong

@@ -71,8 +71,8 @@ TakesStatements prefixes hives first old (numbered ∷ statements) last new =
     (next : Option Place) × (mid : Planned) × TakesStatement prefixes hives first old numbered.statement next mid × TakesStatements prefixes hives next mid statements last new
 
 -- Why a plan doesn't take the edit of a statement: it asks for none, or its edit isn't taken, or memory is lacking.
-abbrev pub Denies : List Prefix → ℕ → Option Place → Planned → Statement → Denial → Type 0
-Denies prefixes hives current old statement denial =
+abbrev pub DeniesStatement : List Prefix → ℕ → Option Place → Planned → Statement → Denial → Type 0
+DeniesStatement prefixes hives current old statement denial =
     (asked prefixes hives current statement ≡ Err denial)
     ⊎ ((denial ≡ Refused NoMemory)
     ⊎ ((its : Edit) × (next : Option Place) × (why : Refusal) × (asked prefixes hives current statement ≡ Ok (its, next)) × NotTaken old its why × (denial ≡ Refused why)))
@@ -87,4 +87,4 @@ pub record StopsAt (prefixes : List Prefix) (hives : ℕ) (old : Planned) (state
   pub all : statements ≡ front ++ stop ∷ rest
   pub takes : TakesStatements prefixes hives None old front current mid
   pub number : line ≡ stop.line
-  pub denied : Denies prefixes hives current mid stop.statement denial
+  pub denied : DeniesStatement prefixes hives current mid stop.statement denial

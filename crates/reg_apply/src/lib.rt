@@ -13,7 +13,7 @@ mod run;
 mod statements;
 mod trial;
 
-pub use outcome::Outcome;
-pub use request::{Request, UnitOfWork};
+pub use outcome::ApplyOutcome;
+pub use request::{ApplyRequest, UnitOfWork};
 pub use run::{apply, change};
 pub use trial::check;

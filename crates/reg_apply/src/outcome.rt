@@ -13,7 +13,7 @@ use std::io::{self, Write};
 
 /// How it ended. Its text is the line that is printed.
 #[derive(Clone, Copy, Debug, PartialEq, Eq)]
-pub enum Outcome {
+pub enum ApplyOutcome {
     /// The change of this number has all that the file asks for, and is durable. The number is 0 if the file asks for
     /// nothing that isn't so already.
     Applied {
@@ -44,19 +44,19 @@ pub enum Outcome {
     },
 }
 
-impl Outcome {
+impl ApplyOutcome {
     /// The status with which a command ends that printed this.
     pub fn status(&self) -> Status
         ensures { result ≡ outcome_status self.now }
     {
         match self {
-            Outcome::Applied { .. } => Status::Clean,
-            Outcome::BadFile { fault } => match fault.kind {
+            ApplyOutcome::Applied { .. } => Status::Clean,
+            ApplyOutcome::BadFile { fault } => match fault.kind {
                 FaultKind::TooLarge => Status::Refused,
                 _ => Status::Wrong,
             },
-            Outcome::NoHive { .. } => Status::Wrong,
-            Outcome::Denied { .. } | Outcome::Refused { .. } => Status::Refused,
+            ApplyOutcome::NoHive { .. } => Status::Wrong,
+            ApplyOutcome::Denied { .. } | ApplyOutcome::Refused { .. } => Status::Refused,
         }
     }
 
@@ -86,16 +86,16 @@ impl Outcome {
     }
 }
 
-impl fmt::Display for Outcome {
+impl fmt::Display for ApplyOutcome {
     ghost output = { λ outcome. Some (outcome_text outcome) };
 
     fn fmt<W: fmt::Write>(&self, f: &mut fmt::Formatter<W>) -> fmt::Result {
         match self {
-            Outcome::Applied { number } => write!(f, "applied {number}"),
-            Outcome::BadFile { fault } => write!(f, "{fault}"),
-            Outcome::NoHive { line } => write!(f, "line {line}: no hive"),
-            Outcome::Denied { line, refusal } => write!(f, "line {line}: {refusal}"),
-            Outcome::Refused { refusal } => write!(f, "{refusal}"),
+            ApplyOutcome::Applied { number } => write!(f, "applied {number}"),
+            ApplyOutcome::BadFile { fault } => write!(f, "{fault}"),
+            ApplyOutcome::NoHive { line } => write!(f, "line {line}: no hive"),
+            ApplyOutcome::Denied { line, refusal } => write!(f, "line {line}: {refusal}"),
+            ApplyOutcome::Refused { refusal } => write!(f, "{refusal}"),
         }
     }
 }

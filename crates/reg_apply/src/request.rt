@@ -17,7 +17,7 @@ pub enum UnitOfWork {
 
 /// How a file is to be applied.
 #[derive(Clone, Copy)]
-pub struct Request<'a> {
+pub struct ApplyRequest<'a> {
     /// The prefixes by which its paths name hives.
     pub prefixes: &'a Prefixes,
     /// The moment of the change: 100 nanoseconds since the year 1601.
@@ -26,7 +26,7 @@ pub struct Request<'a> {
     pub unit: UnitOfWork,
 }
 
-impl Request<'_> {
+impl ApplyRequest<'_> {
     /// The unit of work, if the store's last change has this number.
     pub(crate) fn unit_of_work(&self, number: u64) -> Uuid
         ensures { IsUnit (unit_of self.now.unit) result }

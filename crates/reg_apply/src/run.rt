@@ -6,8 +6,8 @@ ghost use Rattle.store_driver.specs.Later.{IsLater};
 ghost use Rattle.reg_apply.specs.declared.request.UnitOfWork.TheVariants.{Once};
 ghost use Rattle.reg_apply.specs.Applied.{EndsApplication, EndsFor, EndsOnce, ReportsApplication, report_status, unit_of};
 
-use crate::outcome::Outcome;
-use crate::request::{Request, UnitOfWork};
+use crate::outcome::ApplyOutcome;
+use crate::request::{ApplyRequest, UnitOfWork};
 use crate::statements::take_all;
 use change_plan::Plan;
 use disk_model::Disk;
@@ -33,7 +33,7 @@ use uuid::Uuid;
 pub fn apply<D: Disk, W: Write>(
     alloc: Global,
     disk: D,
-    request: &Request<'_>,
+    request: &ApplyRequest<'_>,
     file: RegFile,
     writer: &mut W,
 ) -> (D, io::Result<Status>)
@@ -50,7 +50,7 @@ pub fn apply<D: Disk, W: Write>(
 }
 
 // the status of an application, with what is refused of the steps after it, if anything is
-fn report_status(report: &ChangeReport<Outcome>) -> Status
+fn report_status(report: &ChangeReport<ApplyOutcome>) -> Status
     ensures { result ≡ report_status report.now.outcome report.now.refused_step }
 {
     match report.refused_step {
@@ -62,18 +62,18 @@ fn report_status(report: &ChangeReport<Outcome>) -> Status
 // the application of a file, as a change of a store
 #[derive(Drop)]
 struct Application<'a> {
-    request: &'a Request<'a>,
+    request: &'a ApplyRequest<'a>,
     file: RegFile,
 }
 
 impl StoreChange for Application<'_> {
     ghost use Rattle.std.specs.Prelude.{◌≡◌, OnOk};
     ghost use Rattle.std.specs.Io.KnownBytes.{Appends};
-    ghost use Rattle.reg_apply.specs.declared.outcome.Outcome.TheVariants.{Refused};
+    ghost use Rattle.reg_apply.specs.declared.outcome.ApplyOutcome.TheVariants.{Refused};
     ghost use Rattle.reg_apply.specs.Outcomes.{is_applied, outcome_line};
     ghost use Rattle.reg_apply.specs.Applied.{AsksTaken, EndsFor, unit_of};
 
-    type Outcome = Outcome;
+    type Outcome = ApplyOutcome;
 
     ghost moment = { λ it. it.request.now.moment };
 
@@ -89,24 +89,24 @@ impl StoreChange for Application<'_> {
 
     ghost line = { outcome_line };
 
-    fn make<D: Disk>(self, alloc: Global, engine: &mut Engine<D>, number: u64) -> Outcome {
+    fn make<D: Disk>(self, alloc: Global, engine: &mut Engine<D>, number: u64) -> ApplyOutcome {
         let Application { request, file } = self;
         change(alloc, engine, number, request, file)
     }
 
-    fn is_made(outcome: &Outcome) -> bool
+    fn is_made(outcome: &ApplyOutcome) -> bool
         ensures { result ≡ is_applied outcome.now }
     {
-        matches!(outcome, Outcome::Applied { .. })
+        matches!(outcome, ApplyOutcome::Applied { .. })
     }
 
-    fn refusal_of(refusal: Refusal) -> Outcome
+    fn refusal_of(refusal: Refusal) -> ApplyOutcome
         ensures { result ≡ Refused refusal }
     {
-        Outcome::Refused { refusal }
+        ApplyOutcome::Refused { refusal }
     }
 
-    fn write_line<W: Write>(outcome: &Outcome, writer: &mut W) -> io::Result<()>
+    fn write_line<W: Write>(outcome: &ApplyOutcome, writer: &mut W) -> io::Result<()>
         ensures { OnOk result (Appends (W.contents writer.old) (W.contents writer.new)
             (outcome_line outcome.now)) }
     {
@@ -120,9 +120,9 @@ pub fn change<D: Disk>(
     alloc: Global,
     engine: &mut Engine<D>,
     number: u64,
-    request: &Request<'_>,
+    request: &ApplyRequest<'_>,
     file: RegFile,
-) -> Outcome
+) -> ApplyOutcome
     requires open { is_open engine.old.machine 0 ≡ true }
     ensures ends { EndsFor request.now.unit request.now.prefixes.now request.now.moment file engine.old.machine
         result engine.new.machine }
@@ -140,10 +140,10 @@ fn change_once<D: Disk>(
     alloc: Global,
     engine: &mut Engine<D>,
     number: u64,
-    request: &Request<'_>,
+    request: &ApplyRequest<'_>,
     unit: Uuid,
     file: RegFile,
-) -> Outcome
+) -> ApplyOutcome
     requires open { is_open engine.old.machine 0 ≡ true }
     requires work { request.now.unit ≡ Once unit }
     ensures ends { EndsOnce unit request.now.prefixes.now request.now.moment file engine.old.machine
@@ -151,10 +151,10 @@ fn change_once<D: Disk>(
     ensures later { IsLater D.faithful D.failures engine.old engine.new }
 {
     match ask(engine, Event::OutcomeOf { id: unit }) {
-        Reply::CommittedAs { number } => Outcome::Applied { number },
+        Reply::CommittedAs { number } => ApplyOutcome::Applied { number },
         Reply::Refused { refusal } => match refusal {
             Refusal::NotFound => change_anyway(alloc, engine, number, request, file),
-            _ => Outcome::Refused { refusal },
+            _ => ApplyOutcome::Refused { refusal },
         },
         _ => unreachable!(),
     }
@@ -165,9 +165,9 @@ fn change_anyway<D: Disk>(
     alloc: Global,
     engine: &mut Engine<D>,
     number: u64,
-    request: &Request<'_>,
+    request: &ApplyRequest<'_>,
     file: RegFile,
-) -> Outcome
+) -> ApplyOutcome
     requires open { is_open engine.old.machine 0 ≡ true }
     ensures ends { EndsApplication request.now.prefixes.now request.now.moment (unit_of request.now.unit) file
         engine.old.machine result engine.new.machine }
@@ -175,7 +175,7 @@ fn change_anyway<D: Disk>(
 {
     let RegFile { statements, fault } = file;
     let Ok(trees) = engine.named_trees(alloc) else {
-        return Outcome::Refused {
+        return ApplyOutcome::Refused {
             refusal: Refusal::NoMemory,
         };
     };
@@ -191,11 +191,11 @@ fn change_anyway<D: Disk>(
         return stop.outcome();
     }
     if let Some(fault) = fault {
-        return Outcome::BadFile { fault };
+        return ApplyOutcome::BadFile { fault };
     }
     let id = request.unit_of_work(number);
     match commit(engine, id, request.moment, plan.into_ops()) {
-        Ok(number) => Outcome::Applied { number },
-        Err(refusal) => Outcome::Refused { refusal },
+        Ok(number) => ApplyOutcome::Applied { number },
+        Err(refusal) => ApplyOutcome::Refused { refusal },
     }
 }

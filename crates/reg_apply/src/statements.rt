@@ -3,9 +3,9 @@ ghost use Rattle.std.specs.Prelude.{◌≡◌, None, Option, IfOk, IfErr, OnOk};
 ghost use Rattle.std.specs.Option.{option_copied};
 ghost use Rattle.reg_apply.specs.declared.place.Place.{Place as AnyPlace};
 ghost use Rattle.reg_apply.specs.Applied.{StopsSo};
-ghost use Rattle.reg_apply.specs.Statements.{Denies, StopsAt, TakesStatements, TakesStatement};
+ghost use Rattle.reg_apply.specs.Statements.{DeniesStatement, StopsAt, TakesStatements, TakesStatement};
 
-use crate::outcome::Outcome;
+use crate::outcome::ApplyOutcome;
 use crate::place::{Denial, Place, edit_of};
 use change_plan::Plan;
 use reg_file::{Fault, FaultKind, NumberedStatement, Statement};
@@ -23,19 +23,19 @@ pub(crate) struct Stop {
 
 impl Stop {
     /// How it ends an application.
-    pub(crate) fn outcome(self) -> Outcome
+    pub(crate) fn outcome(self) -> ApplyOutcome
         ensures { StopsSo self.line self.denial result }
     {
         let line = self.line;
         match self.denial {
-            Denial::NoHive => Outcome::NoHive { line },
-            Denial::NoKey => Outcome::BadFile {
+            Denial::NoHive => ApplyOutcome::NoHive { line },
+            Denial::NoKey => ApplyOutcome::BadFile {
                 fault: Fault {
                     line,
                     kind: FaultKind::NoKey,
                 },
             },
-            Denial::Refused(refusal) => Outcome::Denied { line, refusal },
+            Denial::Refused(refusal) => ApplyOutcome::Denied { line, refusal },
         }
     }
 }
@@ -84,7 +84,7 @@ pub(crate) fn take(
     ensures taken { IfOk result (λ next. TakesStatement prefixes.now hives (option_copied current.entry)
         plan.old statement next plan.new) }
     ensures denied { IfErr result
-        (Denies prefixes.now hives (option_copied current.entry) plan.old statement) }
+        (DeniesStatement prefixes.now hives (option_copied current.entry) plan.old statement) }
     ensures kept { IfErr result (λ denial. plan.new ≡ plan.old) }
 {
     let (edit, next) = edit_of(alloc, prefixes, hives, current, statement)?;

@@ -6,11 +6,11 @@ ghost use Rattle.disk_model.specs.ReadOnly.{OnlySyncs};
 ghost use Rattle.recovery.specs.Recovered.{seen_in};
 ghost use Rattle.recovery.specs.Shown.{store_of};
 ghost use Rattle.reg_apply.specs.declared.place.Place.{Place as AnyPlace};
-ghost use Rattle.reg_apply.specs.declared.outcome.Outcome.{Outcome as AnyOutcome};
+ghost use Rattle.reg_apply.specs.declared.outcome.ApplyOutcome.{ApplyOutcome as AnyOutcome};
 ghost use Rattle.reg_apply.specs.Checks.{ChecksFile, ChecksOrNot, PrintsCheck, ReportsCheck, TellsDenial, TriesStatement, TriesStatements, check_status, is_refusal};
 ghost use Rattle.reg_apply.specs.Outcomes.{outcome_line};
 
-use crate::outcome::Outcome;
+use crate::outcome::ApplyOutcome;
 use crate::place::{Denial, Place};
 use crate::statements::{Stop, take};
 use change_plan::Plan;
@@ -47,7 +47,7 @@ pub fn check<D: Disk, W: Write>(
             let status = check_opened(alloc, &opened, prefixes, file, writer);
             (opened.into_disk(), status)
         }
-        Err((refusal, disk)) => (disk, Outcome::Refused { refusal }.print(writer)),
+        Err((refusal, disk)) => (disk, ApplyOutcome::Refused { refusal }.print(writer)),
     }
 }
 
@@ -67,7 +67,7 @@ fn check_opened<D: Disk, W: Write>(
         Ok(told) => print_told(&told, writer),
         Err(_) => {
             let refusal = Refusal::NoMemory;
-            Outcome::Refused { refusal }.print(writer)
+            ApplyOutcome::Refused { refusal }.print(writer)
         }
     }
 }
@@ -78,7 +78,7 @@ fn told_of<D: Disk>(
     opened: &Opened<D>,
     prefixes: &Prefixes,
     file: RegFile,
-) -> Result<Vec<Outcome>, AllocError>
+) -> Result<Vec<ApplyOutcome>, AllocError>
     ensures { IfOk result (λ told. ChecksFile prefixes.now
         (take (store_of opened.now).hives opened.now.found.trees) opened.now.found.trees file
         told.items) }
@@ -90,7 +90,7 @@ fn told_of<D: Disk>(
     let RegFile { statements, fault } = file;
     let mut told = try_all(alloc, prefixes, hives, &mut plan, statements.into_vec())?;
     if let Some(fault) = fault {
-        told.push(Outcome::BadFile { fault })?;
+        told.push(ApplyOutcome::BadFile { fault })?;
     }
     Ok(told)
 }
@@ -102,7 +102,7 @@ fn try_all(
     hives: usize,
     plan: &mut Plan,
     statements: Vec<NumberedStatement>,
-) -> Result<Vec<Outcome>, AllocError>
+) -> Result<Vec<ApplyOutcome>, AllocError>
     ensures { IfOk result (λ told. (last : Option AnyPlace) × TriesStatements prefixes.now hives None
         plan.old statements.items last told.items plan.new) }
 {
@@ -118,7 +118,7 @@ fn try_all(
 }
 
 // tells why the statement on a line isn't taken, if it isn't
-fn tell(told: &mut Vec<Outcome>, line: u64, denial: Option<Denial>) -> Result<(), AllocError>
+fn tell(told: &mut Vec<ApplyOutcome>, line: u64, denial: Option<Denial>) -> Result<(), AllocError>
     ensures { OnOk result ((one : List AnyOutcome) × TellsDenial line denial one
         × (told.new.items ≡ told.old.items ++ one)) }
 {
@@ -151,7 +151,7 @@ fn try_one(
 }
 
 // writes what is told
-fn print_told<W: Write>(told: &[Outcome], writer: &mut W) -> io::Result<Status>
+fn print_told<W: Write>(told: &[ApplyOutcome], writer: &mut W) -> io::Result<Status>
     ensures { IfOk result (PrintsCheck (W.contents writer.old) (W.contents writer.new) told.now) }
 {
     if told.is_empty() {
@@ -165,7 +165,7 @@ fn print_told<W: Write>(told: &[Outcome], writer: &mut W) -> io::Result<Status>
 }
 
 // writes a line for each that is told
-fn write_lines<W: Write>(told: &[Outcome], writer: &mut W) -> io::Result<()>
+fn write_lines<W: Write>(told: &[ApplyOutcome], writer: &mut W) -> io::Result<()>
     ensures { OnOk result (Appends (W.contents writer.old) (W.contents writer.new)
         (flat_map outcome_line told.now)) }
 {
@@ -176,7 +176,7 @@ fn write_lines<W: Write>(told: &[Outcome], writer: &mut W) -> io::Result<()>
 }
 
 // the status of what is told
-fn status_of(told: &[Outcome]) -> Status
+fn status_of(told: &[ApplyOutcome]) -> Status
     ensures { result ≡ check_status told.now }
 {
     if told.is_empty() {
@@ -189,7 +189,7 @@ fn status_of(told: &[Outcome]) -> Status
 }
 
 // whether a refusal is told
-fn has_refusal(told: &[Outcome]) -> bool
+fn has_refusal(told: &[ApplyOutcome]) -> bool
     ensures { result ≡ list_any is_refusal told.now }
 {
     told.iter().any(|outcome| outcome.is_refusal())

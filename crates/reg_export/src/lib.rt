@@ -36,4 +36,4 @@ pub use name_scan::NameScan;
 pub use reg_part::write_reg_below;
 pub use reg_sink::{RegSink, write_reg_header};
 pub use tsv_sink::TsvSink;
-pub use whole_file::{ExportError, HiveKeys, write_reg};
+pub use whole_file::{HiveKeys, RegFileError, write_reg};

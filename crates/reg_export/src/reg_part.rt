@@ -15,7 +15,7 @@ ghost use Rattle.reg_export.specs.Hives.{keys_below};
 use crate::encoding::Encoding;
 use crate::name_scan::NameScan;
 use crate::reg_sink::{RegSink, write_reg_header};
-use crate::whole_file::{ExportError, HiveKeys};
+use crate::whole_file::{HiveKeys, RegFileError};
 use key_walk::walk_below;
 use reg_names::Name;
 use std::io;
@@ -28,7 +28,7 @@ pub fn write_reg_below<W: Write>(
     encoding: Encoding,
     hive: &HiveKeys<'_>,
     path: &[Name],
-) -> Result<bool, ExportError>
+) -> Result<bool, RegFileError>
     ensures there { IfOk result (λ there. there
         ≡ is_there hive.now.tree.now (folded_path path.now)) }
     ensures text { IfOk result (λ there. OnTrue there
@@ -36,14 +36,14 @@ pub fn write_reg_below<W: Write>(
         (reg_text encoding (keys_below hive.now (folded_path path.now) ∷ [])))) }
     ensures missing { IfOk result (λ there. OnFalse there
         (Keeps (W.contents writer.old) (W.contents writer.new))) }
-    ensures bad_name { (result ≡ Err ExportError.BadName) ↔ (can_show encoding
+    ensures bad_name { (result ≡ Err RegFileError.BadName) ↔ (can_show encoding
         (file_names (keys_below hive.now (folded_path path.now) ∷ [])) ≡ false) }
-    ensures unwritten { result ≡ Err ExportError.BadName →
+    ensures unwritten { result ≡ Err RegFileError.BadName →
         Keeps (W.contents writer.old) (W.contents writer.new) }
 {
     let (scan, there) = scan_part(hive, path);
     if !scan.can_show(encoding) {
-        return Err(ExportError::BadName);
+        return Err(RegFileError::BadName);
     }
     if !there {
         return Ok(false);

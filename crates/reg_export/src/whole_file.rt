@@ -28,7 +28,7 @@ pub struct HiveKeys<'a> {
 
 /// Why a registration file is not written to its end.
 #[derive(Debug, Drop)]
-pub enum ExportError {
+pub enum RegFileError {
     /// A file in this encoding can't show a name of a key or a value: it has the unit 0, 10 or 13, or in UTF-8 half of a
     /// pair of surrogates. Nothing was written.
     BadName,
@@ -36,13 +36,13 @@ pub enum ExportError {
     Write(io::Error),
 }
 
-impl From<io::Error> for ExportError {
-    ghost use Rattle.reg_export.specs.declared.whole_file.ExportError.TheVariants.{Write};
+impl From<io::Error> for RegFileError {
+    ghost use Rattle.reg_export.specs.declared.whole_file.RegFileError.TheVariants.{Write};
 
     ghost from_gives = { λ error made. made ≡ Write error };
 
-    fn from(error: io::Error) -> ExportError {
-        ExportError::Write(error)
+    fn from(error: io::Error) -> RegFileError {
+        RegFileError::Write(error)
     }
 }
 
@@ -51,17 +51,17 @@ pub fn write_reg<W: Write>(
     writer: &mut W,
     encoding: Encoding,
     hives: &[HiveKeys<'_>],
-) -> Result<(), ExportError>
+) -> Result<(), RegFileError>
     ensures text { OnOk result (Appends (W.contents writer.old) (W.contents writer.new)
         (reg_text encoding (map keys_of hives.now))) }
-    ensures bad_name { (result ≡ Err ExportError.BadName)
+    ensures bad_name { (result ≡ Err RegFileError.BadName)
         ↔ (can_show encoding (file_names (map keys_of hives.now)) ≡ false) }
-    ensures unwritten { result ≡ Err ExportError.BadName →
+    ensures unwritten { result ≡ Err RegFileError.BadName →
         Keeps (W.contents writer.old) (W.contents writer.new) }
 {
     let scan = scan_hives(hives);
     if !scan.can_show(encoding) {
-        return Err(ExportError::BadName);
+        return Err(RegFileError::BadName);
     }
     write_file(writer, encoding, hives)?;
     Ok(())

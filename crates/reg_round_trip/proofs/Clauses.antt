@@ -13,14 +13,14 @@ use Rattle.reg_export.specs.declared.encoding.Encoding.{Encoding}
 use Rattle.reg_export.specs.RegFiles.{reg_text}
 use Rattle.reg_file.specs.Files.{reg_file_of}
 use Rattle.store_export.specs.Exports.{text_or_none}
-use Rattle.reg_apply.specs.declared.outcome.Outcome.{Outcome}
+use Rattle.reg_apply.specs.declared.outcome.ApplyOutcome.{ApplyOutcome}
 use Rattle.reg_apply.specs.Applied.{EndsApplication}
 use Rattle.reg_round_trip.specs.Statements.{export_statements}
 use Rattle.reg_round_trip.specs.Contents.{SameContent}
 use Rattle.reg_round_trip.specs.Operations.{trees_ops}
 use Rattle.reg_round_trip.specs.Parts.{part_ops}
 use Rattle.reg_round_trip.specs.Shown.{exported, exported_part}
-use Rattle.reg_round_trip.specs.Restores.{Restores, EndsGood, HasPartIn}
+use Rattle.reg_round_trip.specs.Restores.{FileRestores, EndsGood, HasPartIn}
 use Rattle.reg_round_trip.specs.Conditions.{CanRestore, CanRestorePart}
 use Rattle.reg_round_trip.proofs.Units.{none_some}
 use Rattle.reg_round_trip.proofs.Reading.{ReadsText}
@@ -31,12 +31,12 @@ use Rattle.reg_round_trip.proofs.PartRestored.{part_read, part_made, part_restor
 use Rattle.reg_round_trip.proofs.Ended.{ended_so}
 
 module _ (r : ReadsText) (encoding : Encoding) (prefixes : List Prefix) (trees : List TreeMap) (moment : ℕ) (old : Machine) (can : CanRestore prefixes trees old) where
-  pub whole_restores : Restores prefixes moment (reg_text encoding (exported prefixes trees)) old (trees_ops 0 trees) (AllZip SameContent trees)
+  pub whole_restores : FileRestores prefixes moment (reg_text encoding (exported prefixes trees)) old (trees_ops 0 trees) (AllZip SameContent trees)
   whole_restores =
       let are = can.prefixes_are in
       export_restores r encoding prefixes trees (exported prefixes trees) moment old are.showable are.apart (are_shown prefixes trees can.have) can.calls can.short can.is_new
 
-  pub whole_ended : (unit : Option (List ℕ)) (new : Machine) (outcome : Outcome) → EndsApplication prefixes moment unit (reg_file_of (reg_text encoding (exported prefixes trees))) old outcome new → EndsGood (AllZip SameContent trees) outcome new
+  pub whole_ended : (unit : Option (List ℕ)) (new : Machine) (outcome : ApplyOutcome) → EndsApplication prefixes moment unit (reg_file_of (reg_text encoding (exported prefixes trees))) old outcome new → EndsGood (AllZip SameContent trees) outcome new
   whole_ended unit new outcome ends =
       let are = can.prefixes_are in
       let shown = exported prefixes trees in
@@ -55,12 +55,12 @@ module _ (r : ReadsText) (encoding : Encoding) (prefixes : List Prefix) (hive : 
   shown_is : shown_in prefixes hive ≡ Some (text_or_none (shown_in prefixes hive))
   shown_is = prefix_of_some (shown_in prefixes hive) can.has
 
-  pub part_does : Restores prefixes moment (reg_text encoding (exported_part prefixes hive tree top)) old (part_ops hive tree top) (HasPartIn tree top hive (named_trees old))
+  pub part_does : FileRestores prefixes moment (reg_text encoding (exported_part prefixes hive tree top)) old (part_ops hive tree top) (HasPartIn tree top hive (named_trees old))
   part_does =
       let are = can.prefixes_are in
       part_restores r encoding prefixes hive tree top prefix moment old are.showable are.apart shown_is can.call can.there can.near can.short can.are_trees can.is_new (slice_get_within (named_trees old) hive fresh_tree can.is_new)
 
-  pub part_ended : (unit : Option (List ℕ)) (new : Machine) (outcome : Outcome) → EndsApplication prefixes moment unit (reg_file_of (reg_text encoding (exported_part prefixes hive tree top))) old outcome new → EndsGood (HasPartIn tree top hive (named_trees old)) outcome new
+  pub part_ended : (unit : Option (List ℕ)) (new : Machine) (outcome : ApplyOutcome) → EndsApplication prefixes moment unit (reg_file_of (reg_text encoding (exported_part prefixes hive tree top))) old outcome new → EndsGood (HasPartIn tree top hive (named_trees old)) outcome new
   part_ended unit new outcome ends =
       let are = can.prefixes_are in
       let shown : List (List ℕ × List NamedRow) = (prefix, rows_below tree top) ∷ [] in

@@ -10,10 +10,10 @@ use Rattle.reg_file.specs.Files.{reg_file_of}
 use Rattle.reg_file.specs.declared.fault.Fault.{Fault}
 use Rattle.change_plan.specs.Plans.{Planned}
 use Rattle.store_change.proofs.NamedTrees.{named_after}
-use Rattle.reg_apply.specs.declared.outcome.Outcome.{Outcome}
-use Rattle.reg_apply.specs.declared.outcome.Outcome.TheVariants.{Applied, BadFile, NoHive, Denied, Refused}
+use Rattle.reg_apply.specs.declared.outcome.ApplyOutcome.{ApplyOutcome}
+use Rattle.reg_apply.specs.declared.outcome.ApplyOutcome.TheVariants.{Applied, BadFile, NoHive, Denied, Refused}
 use Rattle.reg_apply.specs.Applied.{first_plan, StopsIn, EndsApplication}
-use Rattle.reg_round_trip.specs.Restores.{Restores, EndsGood}
+use Rattle.reg_round_trip.specs.Restores.{FileRestores, EndsGood}
 use Rattle.reg_round_trip.proofs.Places.{Denial, refused, no_key, no_hive, key_apart, hive_apart, same_refusal}
 use Rattle.reg_round_trip.proofs.OnePlan.{AllAdd, stops_for_memory}
 use Rattle.reg_round_trip.proofs.Restored.{statements_of}
@@ -21,11 +21,11 @@ use Rattle.reg_round_trip.proofs.Restored.{statements_of}
 no_fault_some : (fault : Fault) → None ≡ Some fault → ⊥
 no_fault_some fault e = cc
 
-module _ (prefixes : List Prefix) (moment : ℕ) (bytes : List ℕ) (ops : List Op) (AreGood : List TreeMap → Type 0) (old new : Machine) (restores : Restores prefixes moment bytes old ops AreGood) (adds : AllAdd (statements_of bytes)) (good : AreGood (applied (named_trees old) ops moment)) where
+module _ (prefixes : List Prefix) (moment : ℕ) (bytes : List ℕ) (ops : List Op) (AreGood : List TreeMap → Type 0) (old new : Machine) (restores : FileRestores prefixes moment bytes old ops AreGood) (adds : AllAdd (statements_of bytes)) (good : AreGood (applied (named_trees old) ops moment)) where
   memory_alone : (line : ℕ) (denial : Denial) → StopsIn prefixes moment (reg_file_of bytes) old line denial → denial ≡ refused NoMemory
   memory_alone line denial stops = stops_for_memory prefixes (length (named_trees old)) (first_plan old moment) (statements_of bytes) restores.takes.0 restores.plan line denial adds restores.takes.1 stops
 
-  pub ended_so : (unit : Option (List ℕ)) (outcome : Outcome) → EndsApplication prefixes moment unit (reg_file_of bytes) old outcome new → EndsGood AreGood outcome new
+  pub ended_so : (unit : Option (List ℕ)) (outcome : ApplyOutcome) → EndsApplication prefixes moment unit (reg_file_of bytes) old outcome new → EndsGood AreGood outcome new
   ended_so unit (Applied number) ends =
       let plan = ends.0 in
       let commits = ends.5 in

@@ -21,7 +21,7 @@ use Rattle.change_plan.specs.declared.edit.Edit.{Edit}
 use Rattle.change_plan.specs.declared.edit.Edit.TheVariants as edit
 use Rattle.change_plan.specs.Edits.{EditAsks, EditRefused, OperationAsks}
 use Rattle.change_plan.specs.Plans.{Planned, ops_len, TakesEdit, NotTaken}
-use Rattle.reg_apply.specs.Statements.{resolved, with_key, current_key, value_name, with_name, asked, TakesStatement, TakesStatements, Denies, StopsAt}
+use Rattle.reg_apply.specs.Statements.{resolved, with_key, current_key, value_name, with_name, asked, TakesStatement, TakesStatements, DeniesStatement, StopsAt}
 use Rattle.reg_round_trip.specs.Statements.{value_statement, key_statements, export_statements}
 use Rattle.reg_round_trip.proofs.Units.{all_both, all_right}
 use Rattle.reg_round_trip.proofs.Places.{Place, Denial, refused}
@@ -167,7 +167,7 @@ taken_at prefixes hives first old (n ∷ front) stop rest last current new mid a
     taken_at prefixes hives a.0 a.1 front stop rest last current new mid adds.1 a.3 (subst (λ p. TakesStatements prefixes hives p a.1 front current mid) (sym same.place) (subst (λ m. TakesStatements prefixes hives b.0 m front current mid) (sym same.plan) b.3))
 
 -- what is taken is denied for want of memory alone
-pub denied_for_memory : (prefixes : List Prefix) (hives : ℕ) (current : Option Place) (old : Planned) (statement : Statement) (denial : Denial) → IsAdding statement → TakenAt prefixes hives current old statement → Denies prefixes hives current old statement denial → denial ≡ refused NoMemory
+pub denied_for_memory : (prefixes : List Prefix) (hives : ℕ) (current : Option Place) (old : Planned) (statement : Statement) (denial : Denial) → IsAdding statement → TakenAt prefixes hives current old statement → DeniesStatement prefixes hives current old statement denial → denial ≡ refused NoMemory
 denied_for_memory prefixes hives current old statement denial adds t (inl asks) = absurd (apart (t.2.0, t.0) (sym t.2.1 ∙ asks))
   where
     apart : (x : Edit × Option Place) → ◌≡◌ {A = Result (Edit × Option Place) Denial} (Ok x) (Err denial) → ⊥

@@ -25,8 +25,8 @@ use Rattle.reg_round_trip.specs.Statements.{key_statements, export_statements}
 use Rattle.reg_round_trip.specs.Exports.{IsPrefixText, AreReadAs}
 use Rattle.reg_round_trip.specs.NewTrees.{IsCallTree}
 use Rattle.reg_round_trip.specs.Parts.{part_ops}
-use Rattle.reg_round_trip.specs.Shown.{AreApart}
-use Rattle.reg_round_trip.specs.Restores.{Restores, HasPartIn}
+use Rattle.reg_round_trip.specs.Shown.{PrefixesAreApart}
+use Rattle.reg_round_trip.specs.Restores.{FileRestores, HasPartIn}
 use Rattle.reg_round_trip.proofs.Units.{all_then, none_some}
 use Rattle.reg_round_trip.proofs.SortedKeys.{each_got}
 use Rattle.reg_round_trip.proofs.Reading.{ReadsText, export_is_read}
@@ -80,7 +80,7 @@ part_shown tree call top =
     rows_shown tree call (inside tree top)
     (all_then (λ (e : Entry). (begins_path top e.0 ≡ true) × (row tree e.0 ≡ Some e.1)) (λ e. row tree e.0 ≡ Some e.1) (λ e h. h.1) (inside tree top) (filter_all (λ (e : Entry). begins_path top e.0) (λ e. row tree e.0 ≡ Some e.1) (finite.entries tree) (each_got paths_total tree)))
 
-module _ (r : ReadsText) (encoding : Encoding) (prefixes : List Prefix) (hive : ℕ) (tree : TreeMap) (top : List (List ℕ)) (prefix : List ℕ) (moment : ℕ) (old : Machine) (texts : AreShowable prefixes) (apart : AreApart prefixes) (shown : shown_in prefixes hive ≡ Some prefix) (call : IsCallTree tree) (some : IsSome (row tree top))
+module _ (r : ReadsText) (encoding : Encoding) (prefixes : List Prefix) (hive : ℕ) (tree : TreeMap) (top : List (List ℕ)) (prefix : List ℕ) (moment : ℕ) (old : Machine) (texts : AreShowable prefixes) (apart : PrefixesAreApart prefixes) (shown : shown_in prefixes hive ≡ Some prefix) (call : IsCallTree tree) (some : IsSome (row tree top))
     (few : length top ≤ MOST_NEW_LEVELS) (short : ops_len (part_ops hive tree top) + outcome_bytes old ≤ MOST_ELEMENT_BYTES) (are : AreTrees (named_trees old)) (new : slice_get (named_trees old) hive ≡ Some fresh_tree) where
   pub part_read : AreReadAs (reg_text encoding ((prefix, rows_below tree top) ∷ [])) (export_statements ((prefix, rows_below tree top) ∷ []))
   part_read =
@@ -96,7 +96,7 @@ module _ (r : ReadsText) (encoding : Encoding) (prefixes : List Prefix) (hive : 
   pub part_made : HasPartIn tree top hive (named_trees old) (applied (named_trees old) (part_ops hive tree top) moment)
   part_made = made.2
 
-  pub part_restores : hive < length (named_trees old) → Restores prefixes moment (reg_text encoding ((prefix, rows_below tree top) ∷ [])) old (part_ops hive tree top) (HasPartIn tree top hive (named_trees old))
+  pub part_restores : hive < length (named_trees old) → FileRestores prefixes moment (reg_text encoding ((prefix, rows_below tree top) ∷ [])) old (part_ops hive tree top) (HasPartIn tree top hive (named_trees old))
   part_restores within =
       let on = made.1 in
       let first = first_plan old moment in

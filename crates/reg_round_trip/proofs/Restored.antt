@@ -26,8 +26,8 @@ use Rattle.reg_round_trip.specs.Exports.{IsPrefixText, IsHiveOfLimits, AreReadAs
 use Rattle.reg_round_trip.specs.Contents.{SameContent}
 use Rattle.reg_round_trip.specs.Operations.{new_trees, trees_ops}
 use Rattle.reg_round_trip.specs.NewTrees.{IsCallValue, IsCallTree}
-use Rattle.reg_round_trip.specs.Shown.{AreApart, IsShowable}
-use Rattle.reg_round_trip.specs.Restores.{Restores}
+use Rattle.reg_round_trip.specs.Shown.{PrefixesAreApart, IsShowable}
+use Rattle.reg_round_trip.specs.Restores.{FileRestores}
 use Rattle.reg_round_trip.proofs.Units.{all_then, all_mapped}
 use Rattle.reg_round_trip.proofs.AddedOps.{AreAdded}
 use Rattle.reg_round_trip.proofs.Entries.{plain}
@@ -51,7 +51,7 @@ bytes_add bytes statements read adds = subst (λ (file : RegFile). AllAdd file.s
 
 -- they restore what their operations make
 pub restores_by : (prefixes : List Prefix) (moment : ℕ) (bytes : List ℕ) (old : Machine) (ops : List Op) (AreGood : List TreeMap → Type 0) (statements : List Statement) → AreReadAs bytes statements → AllByRecursion IsAdding statements
-    → (last : Option Place) → Takes prefixes (length (named_trees old)) None (first_plan old moment) statements last (behind (first_plan old moment) ops) → AreGood (applied (named_trees old) ops moment) → Restores prefixes moment bytes old ops AreGood
+    → (last : Option Place) → Takes prefixes (length (named_trees old)) None (first_plan old moment) statements last (behind (first_plan old moment) ops) → AreGood (applied (named_trees old) ops moment) → FileRestores prefixes moment bytes old ops AreGood
 restores_by prefixes moment bytes old ops AreGood statements read adds last takes good =
     let hives = length (named_trees old) in
     let first = first_plan old moment in
@@ -104,8 +104,8 @@ shown_read r encoding prefixes trees shown texts are calls = export_is_read r en
 pub made_same : (trees : List TreeMap) (moment : ℕ) (old : Machine) → AllByRecursion IsCallTree trees → named_trees old ≡ new_trees trees → AllZip SameContent trees (applied (named_trees old) (trees_ops 0 trees) moment)
 made_same trees moment old calls is_new = subst (λ ts. AllZip SameContent trees (applied ts (trees_ops 0 trees) moment)) (sym is_new) (all_same trees moment calls)
 
-pub export_restores : ReadsText → (encoding : Encoding) (prefixes : List Prefix) (trees : List TreeMap) (shown : Rows) (moment : ℕ) (old : Machine) → AreShowable prefixes → AreApart prefixes → AreShown prefixes 0 trees shown → AllByRecursion IsCallTree trees
-    → ops_len (trees_ops 0 trees) + outcome_bytes old ≤ MOST_ELEMENT_BYTES → named_trees old ≡ new_trees trees → Restores prefixes moment (reg_text encoding shown) old (trees_ops 0 trees) (AllZip SameContent trees)
+pub export_restores : ReadsText → (encoding : Encoding) (prefixes : List Prefix) (trees : List TreeMap) (shown : Rows) (moment : ℕ) (old : Machine) → AreShowable prefixes → PrefixesAreApart prefixes → AreShown prefixes 0 trees shown → AllByRecursion IsCallTree trees
+    → ops_len (trees_ops 0 trees) + outcome_bytes old ≤ MOST_ELEMENT_BYTES → named_trees old ≡ new_trees trees → FileRestores prefixes moment (reg_text encoding shown) old (trees_ops 0 trees) (AllZip SameContent trees)
 export_restores r encoding prefixes trees shown moment old texts apart are calls short is_new =
     let count : length (named_trees old) ≡ length trees = ap length is_new ∙ length-map trees (λ _. fresh_tree) in
     let has : HasTrees (length (named_trees old)) (named_trees old) = subst (λ n. HasTrees n (named_trees old)) (sym count) (subst (HasTrees (length trees)) (sym is_new) (new_has trees)) in

@@ -11,7 +11,7 @@ use Rattle.reg_prefixes.specs.declared.prefix.Prefix.{Prefix}
 use Rattle.std.specs.Option.{option_map}
 use Rattle.reg_prefixes.specs.Places.{begins, longer, longest_in, joined_path, led_by, place_in, leads_to_root, shown_in}
 use Rattle.reg_export.specs.RegTexts.{reg_path}
-use Rattle.reg_round_trip.specs.Shown.{AreApart}
+use Rattle.reg_round_trip.specs.Shown.{PrefixesAreApart}
 use Rattle.reg_round_trip.proofs.Units.{all_then, both_true, not_both, not_true, not_false}
 use Rattle.std.proofs.lemmas.List.{length-append}
 use Rattle.reg_round_trip.proofs.TextLines.{by_index}
@@ -81,10 +81,10 @@ all_at : {X : Type 0} (P : X → Type 0) (d : X) (xs : List X) → ((k : ℕ) �
 all_at P d [] h = tt
 all_at P d (x ∷ xs) h = (h 0 (omega arith), all_at P d xs (λ k less. h (suc k) (omega (arith, less))))
 
-apart_first : (prefix : Prefix) (prefixes : List Prefix) → AreApart (prefix ∷ prefixes) → AllByRecursion (IsApart prefix) prefixes
+apart_first : (prefix : Prefix) (prefixes : List Prefix) → PrefixesAreApart (prefix ∷ prefixes) → AllByRecursion (IsApart prefix) prefixes
 apart_first prefix prefixes apart = all_at (IsApart prefix) prefix prefixes (λ k less. (apart 0 (omega arith) (suc k) prefix (omega (arith, less)) (λ e. absurd (omega (arith, e))), apart (suc k) (omega (arith, less)) 0 prefix (omega arith) (λ e. absurd (omega (arith, e)))))
 
-apart_rest : (prefix : Prefix) (prefixes : List Prefix) → AreApart (prefix ∷ prefixes) → AreApart prefixes
+apart_rest : (prefix : Prefix) (prefixes : List Prefix) → PrefixesAreApart (prefix ∷ prefixes) → PrefixesAreApart prefixes
 apart_rest prefix prefixes apart at within other d inside differ = apart (suc at) (omega (arith, within)) (suc other) d (omega (arith, inside)) (λ e. differ (omega (arith, e)))
 
 drop_prefix : (prefix : List ℕ) (names : List (List ℕ)) → drop (length prefix + 1) (prefix ++ behind names) ≡ joined names
@@ -110,7 +110,7 @@ pub record IsShownBy (prefixes : List Prefix) (hive : ℕ) (prefix : List ℕ) (
   pub number : its.hive ≡ hive
   pub root : (length its.key.items == 0) ≡ true
 
-shown_longest : (prefixes : List Prefix) → AreApart prefixes → (hive : ℕ) (prefix : List ℕ) → shown_in prefixes hive ≡ Some prefix → (names : List (List ℕ)) → IsShownBy prefixes hive prefix names
+shown_longest : (prefixes : List Prefix) → PrefixesAreApart prefixes → (hive : ℕ) (prefix : List ℕ) → shown_in prefixes hive ≡ Some prefix → (names : List (List ℕ)) → IsShownBy prefixes hive prefix names
 shown_longest [] apart hive prefix e names = absurd (bad e)
   where
     bad : ◌≡◌ {A = Option (List ℕ)} None (Some prefix) → ⊥
@@ -150,7 +150,7 @@ shown_longest (first ∷ prefixes) apart hive prefix e names = by_root (shown_lo
           root = rest.root;
         }
 
-pub place_shown : (prefixes : List Prefix) → AreApart prefixes → (hive : ℕ) (prefix : List ℕ) → shown_in prefixes hive ≡ Some prefix → (names : List (List ℕ)) → place_in prefixes (reg_path prefix names) ≡ Some (hive, joined names)
+pub place_shown : (prefixes : List Prefix) → PrefixesAreApart prefixes → (hive : ℕ) (prefix : List ℕ) → shown_in prefixes hive ≡ Some prefix → (names : List (List ℕ)) → place_in prefixes (reg_path prefix names) ≡ Some (hive, joined names)
 place_shown prefixes apart hive prefix e names =
     let s = shown_longest prefixes apart hive prefix e names in
     let its = s.its in

@@ -32,7 +32,7 @@ use Rattle.change_plan.specs.Plans.{Planned, ops_len, TakesEdit}
 use Rattle.reg_apply.specs.Statements.{with_name, asked, TakesStatement, TakesStatements}
 use Rattle.reg_round_trip.specs.Statements.{value_statement, key_statements, export_statements}
 use Rattle.reg_round_trip.specs.Operations.{value_op, key_ops, tree_ops, trees_ops}
-use Rattle.reg_round_trip.specs.Shown.{AreApart}
+use Rattle.reg_round_trip.specs.Shown.{PrefixesAreApart}
 use Rattle.reg_round_trip.proofs.AddedOps.{AreAdded, WritesNewIn, added_front, added_back}
 use Rattle.reg_round_trip.proofs.Units.{not_both}
 use Rattle.reg_round_trip.proofs.Entries.{plain}
@@ -153,7 +153,7 @@ module _ (prefixes : List Prefix) (hives : ℕ) where
       let rest = values_taken hive path values named.1 mid added.1 (back_short old.aside old.ops (its ∷ []) others short) in
       (Some (place_at hive path), mid, (value_edit hive path value, asked_value prefixes hives hive path value named.0, first), subst (Takes (Some (place_at hive path)) mid (map value_statement values) (Some (place_at hive path))) (both_behind old (its ∷ []) others) rest)
 
-  module _ (apart : AreApart prefixes) (hive : ℕ) (within : hive < hives) (prefix : List ℕ) (shown : shown_in prefixes hive ≡ Some prefix) where
+  module _ (apart : PrefixesAreApart prefixes) (hive : ℕ) (within : hive < hives) (prefix : List ℕ) (shown : shown_in prefixes hive ≡ Some prefix) where
     asked_key : (current : Option Place) (path : List (List ℕ)) → AllByRecursion (λ n. is_key_name n ≡ true) path → length path ≤ MOST_PATH_NAMES → asked prefixes hives current (CreateKey (reg_path prefix path)) ≡ Ok (edit.Operation (op.CreateKey hive path), Some (place_at hive path))
     asked_key current path named shallow =
         let there : nat_le hives hive ≡ false = grind (arith, nat_tests, within) in
@@ -209,7 +209,7 @@ module _ (prefixes : List Prefix) (hives : ℕ) where
         (rest.0, takes_both current (Some (place_at hive key.0)) rest.0 old mid (behind old (front ++ back)) (key_statements prefix key) (flat_map (key_statements prefix) keys) one (subst (Takes (Some (place_at hive key.0)) mid (flat_map (key_statements prefix) keys) rest.0) (both_behind old front back) rest.1))
 
   -- all hives
-  pub hives_taken : AreApart prefixes → (hive : ℕ) (trees : List TreeMap) (shown : List (List ℕ × List NamedRow)) → AreShown prefixes hive trees shown → hive + length trees ≤ hives → AllByRecursion (λ tree. AllByRecursion IsCallRow (tree_rows tree)) trees
+  pub hives_taken : PrefixesAreApart prefixes → (hive : ℕ) (trees : List TreeMap) (shown : List (List ℕ × List NamedRow)) → AreShown prefixes hive trees shown → hive + length trees ≤ hives → AllByRecursion (λ tree. AllByRecursion IsCallRow (tree_rows tree)) trees
       → (current : Option Place) (old : Planned) → HasTrees hives old.view → AreAdded old.view (trees_ops hive trees) old.moment → ops_len (old.ops ++ trees_ops hive trees) + old.aside ≤ MOST_ELEMENT_BYTES
       → (last : Option Place) × Takes current old (export_statements shown) last (behind old (trees_ops hive trees))
   hives_taken apart hive [] shown are within calls current old has added short = (current, subst (λ hs. Takes current old (export_statements hs) current (behind old [])) (sym are) (refl, none_behind old))

@@ -12,12 +12,12 @@ use Rattle.change_plan.specs.Plans.{ops_len}
 use Rattle.reg_round_trip.specs.Operations.{new_trees, trees_ops}
 use Rattle.reg_round_trip.specs.Parts.{part_ops}
 use Rattle.reg_round_trip.specs.NewTrees.{IsCallTree}
-use Rattle.reg_round_trip.specs.Shown.{AreApart, IsShowable, HavePrefixes}
+use Rattle.reg_round_trip.specs.Shown.{PrefixesAreApart, IsShowable, HavePrefixes}
 
 -- prefixes that a line can show, of which none begins another
 pub record ArePrefixes (prefixes : List Prefix) : Type 0 where
   pub showable : AllByRecursion IsShowable prefixes
-  pub apart : AreApart prefixes
+  pub apart : PrefixesAreApart prefixes
 
 -- All hives of an export can be restored in a store: each hive has a prefix, calls may make the trees, the operations fit
 -- one change beside what its commit adds, and the store has as many hives, all of which are new.

@@ -14,8 +14,8 @@ use Rattle.reg_file.specs.declared.statement.Statement.{Statement}
 use Rattle.reg_file.specs.declared.statement.NumberedStatement.{NumberedStatement}
 
 -- units of 16 bits
-abbrev pub AreUnits : List ℕ → Type 0
-AreUnits units = AllByRecursion (λ u. u < 2 ^ 16) units
+abbrev pub AreUtf16Units : List ℕ → Type 0
+AreUtf16Units units = AllByRecursion (λ u. u < 2 ^ 16) units
 
 -- no unit is a backslash
 abbrev pub HasNoBackslash : List ℕ → Type 0
@@ -29,13 +29,13 @@ pub record IsPrefixText (prefix : List ℕ) : Type 0 where
 
 -- the name of a key below the root: some units, none of which is a backslash
 pub record IsBelowName (name : List ℕ) : Type 0 where
-  pub units : AreUnits name
+  pub units : AreUtf16Units name
   pub some : name ≢ []
   pub no_backslash : HasNoBackslash name
 
 -- a value: a name of at most 65,535 units, a type of 32 bits, and at most 1,048,576 bytes
 pub record IsValueOfLimits (value : Value) : Type 0 where
-  pub units : AreUnits value.name
+  pub units : AreUtf16Units value.name
   pub short : length value.name ≤ 65535
   pub kind : value.kind < 2 ^ 32
   pub bytes : AllByRecursion (λ b. b < 256) value.«data»

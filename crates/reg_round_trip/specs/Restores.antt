@@ -7,14 +7,14 @@ use Rattle.store_model.specs.Machine.{Machine, named_trees}
 use Rattle.reg_prefixes.specs.declared.prefix.Prefix.{Prefix}
 use Rattle.reg_file.specs.Files.{reg_file_of}
 use Rattle.change_plan.specs.Plans.{Planned}
-use Rattle.reg_apply.specs.declared.outcome.Outcome.{Outcome}
-use Rattle.reg_apply.specs.declared.outcome.Outcome.TheVariants.{Applied, BadFile, NoHive, Denied, Refused}
+use Rattle.reg_apply.specs.declared.outcome.ApplyOutcome.{ApplyOutcome}
+use Rattle.reg_apply.specs.declared.outcome.ApplyOutcome.TheVariants.{Applied, BadFile, NoHive, Denied, Refused}
 use Rattle.reg_apply.specs.Applied.{TakesAll}
 use Rattle.reg_round_trip.specs.Parts.{HasPart}
 
 -- Bytes are read without a fault. A plan on the trees of a store takes all of their statements, by these operations, and
 -- the trees are good then. It is the only plan that does.
-pub record Restores (prefixes : List Prefix) (moment : ℕ) (bytes : List ℕ) (old : Machine) (ops : List Op) (AreGood : List TreeMap → Type 0) : Type 0 where
+pub record FileRestores (prefixes : List Prefix) (moment : ℕ) (bytes : List ℕ) (old : Machine) (ops : List Op) (AreGood : List TreeMap → Type 0) : Type 0 where
   pub no_fault : let file = reg_file_of bytes in file.fault ≡ None
   pub plan : Planned
   pub takes : TakesAll prefixes moment (reg_file_of bytes) old plan
@@ -24,7 +24,7 @@ pub record Restores (prefixes : List Prefix) (moment : ℕ) (bytes : List ℕ) (
 
 -- How applying ends: if the file was applied, the trees of the hives that calls name are good. No line is refused but for
 -- want of memory. What else may fail is the commit.
-abbrev pub EndsGood : (List TreeMap → Type 0) → Outcome → Machine → Type 0
+abbrev pub EndsGood : (List TreeMap → Type 0) → ApplyOutcome → Machine → Type 0
 EndsGood AreGood (Applied number) new = AreGood (named_trees new)
 EndsGood AreGood (BadFile fault) new = ⊥
 EndsGood AreGood (NoHive line) new = ⊥

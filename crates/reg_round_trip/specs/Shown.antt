@@ -14,8 +14,8 @@ abbrev pub BeginsNone : List Prefix → ℕ → Type 0
 BeginsNone prefixes at = (other : ℕ) (d : Prefix) → other < length prefixes → at ≢ other → begins (slice_index_or prefixes at d).text.items (slice_index_or prefixes other d).text.items ≡ false
 
 -- no prefix is another one, or begins it
-abbrev pub AreApart : List Prefix → Type 0
-AreApart prefixes = (at : ℕ) → at < length prefixes → BeginsNone prefixes at
+abbrev pub PrefixesAreApart : List Prefix → Type 0
+PrefixesAreApart prefixes = (at : ℕ) → at < length prefixes → BeginsNone prefixes at
 
 -- a prefix that a line can show with any path: it has at most 1,048,576 units
 abbrev pub IsShowable : Prefix → Type 0

@@ -16,15 +16,15 @@ ghost use Rattle.store_model.specs.Invariant.{AreLegalChanges};
 ghost use Rattle.store_model.specs.Machine.{Machine, named_trees};
 ghost use Rattle.key_walk.specs.KeyRows.{NamedRow};
 ghost use Rattle.reg_file.specs.Files.{reg_file_of};
-ghost use Rattle.reg_apply.specs.declared.outcome.Outcome.{Outcome};
+ghost use Rattle.reg_apply.specs.declared.outcome.ApplyOutcome.{ApplyOutcome};
 ghost use Rattle.reg_apply.specs.Applied.{EndsApplication};
 ghost use Rattle.reg_round_trip.specs.Statements.{export_statements};
 ghost use Rattle.reg_round_trip.specs.Exports.{IsPrefixText, IsHiveOfLimits, AreReadAs};
 ghost use Rattle.reg_round_trip.specs.Contents.{SameContent};
 ghost use Rattle.reg_round_trip.specs.Operations.{new_trees, trees_ops};
 ghost use Rattle.reg_round_trip.specs.NewTrees.{IsCallTree};
-ghost use Rattle.reg_round_trip.specs.Shown.{AreApart, exported, exported_part};
-ghost use Rattle.reg_round_trip.specs.Restores.{Restores, EndsGood, HasPartIn};
+ghost use Rattle.reg_round_trip.specs.Shown.{PrefixesAreApart, exported, exported_part};
+ghost use Rattle.reg_round_trip.specs.Restores.{FileRestores, EndsGood, HasPartIn};
 ghost use Rattle.reg_round_trip.specs.Parts.{part_ops};
 ghost use Rattle.reg_round_trip.specs.Conditions.{CanRestore, CanRestorePart};
 
@@ -50,7 +50,7 @@ pub fn joined_names_are_prefixes()
 
 /// The path by which an export shows a key leads back to its hive and its names, if no prefix begins another one.
 pub fn paths_lead_to_keys()
-    ensures { (prefixes : List Prefix) (hive : ℕ) (prefix : List ℕ) (names : List (List ℕ)) → AreApart prefixes →
+    ensures { (prefixes : List Prefix) (hive : ℕ) (prefix : List ℕ) (names : List (List ℕ)) → PrefixesAreApart prefixes →
         shown_in prefixes hive ≡ Some prefix → AllByRecursion (λ name. is_key_name name ≡ true) names →
         length names ≤ MOST_PATH_NAMES →
         (text : List ℕ) × (place_in prefixes (reg_path prefix names) ≡ Some (hive, text)) × (path_of text ≡ Ok names) }
@@ -81,10 +81,10 @@ pub fn same_content_same_export()
 pub fn exports_restore_trees()
     ensures restores { (encoding : Encoding) (prefixes : List Prefix) (trees : List TreeMap) (moment : ℕ) (old : Machine) →
         CanRestore prefixes trees old →
-        Restores prefixes moment (reg_text encoding (exported prefixes trees)) old (trees_ops 0 trees)
+        FileRestores prefixes moment (reg_text encoding (exported prefixes trees)) old (trees_ops 0 trees)
         (AllZip SameContent trees) }
     ensures ended { (encoding : Encoding) (prefixes : List Prefix) (trees : List TreeMap) (moment : ℕ)
-        (unit : Option (List ℕ)) (old new : Machine) (outcome : Outcome) → CanRestore prefixes trees old →
+        (unit : Option (List ℕ)) (old new : Machine) (outcome : ApplyOutcome) → CanRestore prefixes trees old →
         EndsApplication prefixes moment unit (reg_file_of (reg_text encoding (exported prefixes trees))) old outcome new →
         EndsGood (AllZip SameContent trees) outcome new }
 {
@@ -98,10 +98,10 @@ pub fn exports_restore_trees()
 pub fn part_exports_restore_parts()
     ensures restores { (encoding : Encoding) (prefixes : List Prefix) (hive : ℕ) (tree : TreeMap) (top : List (List ℕ))
         (moment : ℕ) (old : Machine) → CanRestorePart prefixes hive tree top old →
-        Restores prefixes moment (reg_text encoding (exported_part prefixes hive tree top)) old (part_ops hive tree top)
+        FileRestores prefixes moment (reg_text encoding (exported_part prefixes hive tree top)) old (part_ops hive tree top)
         (HasPartIn tree top hive (named_trees old)) }
     ensures ended { (encoding : Encoding) (prefixes : List Prefix) (hive : ℕ) (tree : TreeMap) (top : List (List ℕ))
-        (moment : ℕ) (unit : Option (List ℕ)) (old new : Machine) (outcome : Outcome) → CanRestorePart prefixes hive tree top old →
+        (moment : ℕ) (unit : Option (List ℕ)) (old new : Machine) (outcome : ApplyOutcome) → CanRestorePart prefixes hive tree top old →
         EndsApplication prefixes moment unit (reg_file_of (reg_text encoding (exported_part prefixes hive tree top))) old outcome new →
         EndsGood (HasPartIn tree top hive (named_trees old)) outcome new }
 {

@@ -11,7 +11,7 @@ use crate::script_commands::{hint_at, store_in};
 use crate::store_disk::StoreDisk;
 use crate::terminal::TerminalOutput;
 use file_disk::LockError;
-use reg_apply::{Request, UnitOfWork, apply, check};
+use reg_apply::{ApplyRequest, UnitOfWork, apply, check};
 use reg_file::{RegFile, parse};
 use reg_prefixes::{Prefixes, WordError};
 use reply_lines::Status;
@@ -48,7 +48,7 @@ pub fn apply_file<
     let (words, unit) = parted(words);
     let prefixes = understood(Prefixes::new(alloc, words))?;
     let file = read_file(rt, path)?;
-    let request = Request {
+    let request = ApplyRequest {
         prefixes: &prefixes,
         moment: moment_now(rt),
         unit,

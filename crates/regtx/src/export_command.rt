@@ -16,7 +16,9 @@ use reg_prefixes::Prefixes;
 use reply_lines::Status;
 use std::io::{self, BufWriter, Eprint, Input};
 use std::rt::Files;
-use store_export::{Encoding, ExportError, Form, Request, Selection, export_hive, export_store};
+use store_export::{
+    Encoding, ExportError, ExportRequest, Form, Selection, export_hive, export_store,
+};
 
 /// Prints a store or a hive's file, or a key of it with all below it. The first of the words may name the key,
 /// `HIVE:PATH`; the others name prefixes, which a registration file alone has.
@@ -78,14 +80,14 @@ fn request_of<'b>(
     form: ExportForm,
     selection: Option<&'b Selection>,
     prefixes: &'b Prefixes,
-) -> Request<'b> {
+) -> ExportRequest<'b> {
     let form = match form {
         ExportForm::Reg => Form::Reg(Encoding::Utf16),
         ExportForm::RegUtf8 => Form::Reg(Encoding::Utf8),
         ExportForm::Json => Form::Json,
         ExportForm::Tsv => Form::Tsv,
     };
-    Request {
+    ExportRequest {
         form,
         selection,
         prefixes,
@@ -103,7 +105,7 @@ fn print_store<
     output: TerminalOutput,
     opener: F,
     folder: &'a str,
-    request: &Request<'_>,
+    request: &ExportRequest<'_>,
 ) -> Result<Status, CommandError<'a>>
     requires { F.pre opener folder }
 {
@@ -121,7 +123,7 @@ fn print_hive<'a, R: Files + Input + Print + Eprint + AllocGlobal>(
     rt: &R,
     output: TerminalOutput,
     path: &'a str,
-    request: &Request<'_>,
+    request: &ExportRequest<'_>,
 ) -> Result<Status, CommandError<'a>> {
     let alloc = rt.alloc();
     let trouble = Trouble::new(None);

@@ -15,7 +15,7 @@ use Rattle.hex.proofs.HexLemmas.{IsOk-decode_sized}
 use Rattle.word_syntax.specs.Parts.{before, behind, parts_of}
 use Rattle.word_syntax.specs.HexBytes.{decoded}
 use Rattle.script_syntax.specs.Words.{escaped_unit, escaped, all_escaped, units_of}
-use Rattle.script_syntax.specs.Grammar.{IsPlain, IsEscape, AreUnits}
+use Rattle.script_syntax.specs.Grammar.{IsPlain, IsEscape, SpellsUnits}
 use Rattle.word_syntax.proofs.Cuts.{is_or_not, before_here, before_further, behind_here, behind_further, before_front, behind_front, parts_are}
 
 pub map_some : {A B : Type 0} (f : A → B) (o : Option A) (y : B) → option_map f o ≡ Some y → (x : A) × (o ≡ Some x) × (f x ≡ y)
@@ -114,7 +114,7 @@ no_such b true e h = absurd (h ((Decides-eqb b 37).0 e))
 no_such b false e h = refl
 
 -- the units of a word by the grammar are parsed
-pub read_units : (word units : List ℕ) → AreUnits word units → units_of word ≡ Some units
+pub read_units : (word units : List ℕ) → SpellsUnits word units → units_of word ≡ Some units
 read_units word [] e = ap units_of e
 read_units word (unit ∷ units) (piece, rest, e, inl plain, more) =
     ap units_of (e ∙ ap (λ front. front ++ rest) plain.1) ∙ plain_front unit rest (no_such unit (unit == 37) refl plain.0) ∙ ap (option_map (λ us. unit ∷ us)) (read_units rest units more)
@@ -148,12 +148,12 @@ percent_first rest units e =
     let enough : 4 ≤ length rest = omega (arith, four, cut) in
     (pair.0, enough, ap (λ digits. decode_sized digits 2) (sym (take-take 4 (position_or_len (λ byte. byte == 37) rest) rest key_ref)) ∙ decoded_ok (decode_sized (take 4 (before 37 rest)) 2) pair.0 pair.1)
 
-none_left : (units : List ℕ) → Some [] ≡ Some units → AreUnits [] units
+none_left : (units : List ℕ) → Some [] ≡ Some units → SpellsUnits [] units
 none_left [] e = refl
 none_left (unit ∷ units) e = cc
 
-first_unit : (word piece rest units : List ℕ) (unit : ℕ) (more : List ℕ) → word ≡ piece ++ rest → (IsPlain piece unit ⊎ IsEscape piece unit) → unit ∷ more ≡ units → AreUnits rest more → AreUnits word units
-first_unit word piece rest units unit more e form same others = subst (AreUnits word) same (piece, rest, e, form, others)
+first_unit : (word piece rest units : List ℕ) (unit : ℕ) (more : List ℕ) → word ≡ piece ++ rest → (IsPlain piece unit ⊎ IsEscape piece unit) → unit ∷ more ≡ units → SpellsUnits rest more → SpellsUnits word units
+first_unit word piece rest units unit more e form same others = subst (SpellsUnits word) same (piece, rest, e, form, others)
 
 not_percent : (b : ℕ) → (b == 37) ≡ false → b ≢ 37
 not_percent b e same = differs (sym e ∙ (Decides-eqb b 37).1 same)
@@ -165,7 +165,7 @@ shorter : (rest : List ℕ) (n : ℕ) → suc (length rest) ≤ suc n → length
 shorter rest n h = let cut = length-drop 4 rest in omega (arith, h, cut)
 
 -- units that are parsed of a word are its units by the grammar
-parsed_within : (n : ℕ) (word units : List ℕ) → length word ≤ n → units_of word ≡ Some units → AreUnits word units
+parsed_within : (n : ℕ) (word units : List ℕ) → length word ≤ n → units_of word ≡ Some units → SpellsUnits word units
 parsed_within n [] units h e = none_left units e
 parsed_within zero (b ∷ rest) units h e = absurd (omega (arith, h))
 parsed_within (suc n) (b ∷ rest) units h e = elim (is_or_not (b == 37)) [
@@ -187,5 +187,5 @@ parsed_within (suc n) (b ∷ rest) units h e = elim (is_or_not (b == 37)) [
       (parsed_within n others found.0 (shorter rest n h) found.1)
 ]
 
-pub parsed_units : (word units : List ℕ) → units_of word ≡ Some units → AreUnits word units
+pub parsed_units : (word units : List ℕ) → units_of word ≡ Some units → SpellsUnits word units
 parsed_units word units e = parsed_within (length word) word units (omega arith) e

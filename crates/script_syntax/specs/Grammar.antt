@@ -37,9 +37,9 @@ pub record IsEscape (piece : List ℕ) (unit : ℕ) : Type 0 where
   pub is : unit ≡ from_be_bytes w16 pair
 
 -- units, one after another
-abbrev pub AreUnits : List ℕ → List ℕ → Type 0
-AreUnits word [] = word ≡ []
-AreUnits word (unit ∷ units) = (piece : List ℕ) × (rest : List ℕ) × (word ≡ piece ++ rest) × (IsPlain piece unit ⊎ IsEscape piece unit) × AreUnits rest units
+abbrev pub SpellsUnits : List ℕ → List ℕ → Type 0
+SpellsUnits word [] = word ≡ []
+SpellsUnits word (unit ∷ units) = (piece : List ℕ) × (rest : List ℕ) × (word ≡ piece ++ rest) × (IsPlain piece unit ⊎ IsEscape piece unit) × SpellsUnits rest units
 
 -- a hive's number, a colon, and the text of a path
 pub record IsKeyRef (word : List ℕ) (key_ref : KeyRef) : Type 0 where
@@ -48,11 +48,11 @@ pub record IsKeyRef (word : List ℕ) (key_ref : KeyRef) : Type 0 where
   pub parsed : word ≡ number ++ 58 ∷ text
   pub hive : IsDecimal number key_ref.hive
   pub within : key_ref.hive ≤ 255
-  pub path : AreUnits text key_ref.path
+  pub path : SpellsUnits text key_ref.path
 
 -- the name of a value: `@` is the empty one, and nothing else is
 abbrev pub IsName : List ℕ → List ℕ → Type 0
-IsName word units = ((word ≡ codes "@") × (units ≡ [])) ⊎ ((word ≢ codes "@") × (word ≢ []) × AreUnits word units)
+IsName word units = ((word ≡ codes "@") × (units ≡ [])) ⊎ ((word ≢ codes "@") × (word ≢ []) × SpellsUnits word units)
 
 -- bytes: a minus for none, or pairs of hex digits, at least one pair
 abbrev pub IsData : List ℕ → List ℕ → Type 0

@@ -22,7 +22,7 @@ pub record IsFoundIn (files : ℕ → List ℕ) (state : ℕ → FileState) (fou
   pub on_disk : AreOnDisk found.journal found.hives.items state
 
 -- The files recover a store, if the disk is faithful, of which the text is printed; or they are refused, and that is.
-abbrev pub Reports : Type 0 → Type 0 → (ℕ → List ℕ) → (ℕ → FileState) → Option (List ℕ) → Option (List ℕ) → Status → Type 0
-Reports failed faithful files state before after its_status =
+abbrev pub ReportsStore : Type 0 → Type 0 → (ℕ → List ℕ) → (ℕ → FileState) → Option (List ℕ) → Option (List ℕ) → Status → Type 0
+ReportsStore failed faithful files state before after its_status =
     ((found : RecoveredStore) × InvariantHolds found × (faithful → IsFoundIn files state found) × Appends before after (store_text found) × (its_status ≡ status.Clean))
     ⊎ ((why : Refusal) × RefusalHasCause failed (IsNoStore faithful files) why × Appends before after (refusal_lines why) × (its_status ≡ status.Refused))

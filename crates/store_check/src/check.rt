@@ -4,7 +4,7 @@ ghost use Rattle.std.specs.Io.KnownBytes.{Appends};
 ghost use Rattle.disk_model.specs.ReadOnly.{OnlySyncs};
 ghost use Rattle.recovery.specs.Recovered.{seen_in};
 ghost use Rattle.recovery.specs.Invariant.{InvariantHolds};
-ghost use Rattle.store_check.specs.Reports.{Reports};
+ghost use Rattle.store_check.specs.Reports.{ReportsStore};
 ghost use Rattle.store_check.specs.StoreTexts.{refusal_lines, store_text};
 
 use crate::store_lines::{write_refusal, write_store};
@@ -25,7 +25,7 @@ pub fn check_store<D: Disk, W: Write>(
     disk: D,
     writer: &mut W,
 ) -> (D, io::Result<Status>)
-    ensures reports { IfOk result.1 (λ status. Reports (D.failures disk < D.failures result.0)
+    ensures reports { IfOk result.1 (λ status. ReportsStore (D.failures disk < D.failures result.0)
         (D.faithful result.0) (seen_in (D.state_at disk (D.clock disk)))
         (D.state_at result.0 (D.clock result.0))
         (W.contents writer.old) (W.contents writer.new) status) }

@@ -14,8 +14,8 @@ use Rattle.store_create.specs.Creations.{IsNewStore}
 
 -- What a call leaves of a store's files: each is as it was or synced. Or else whatever a crash leaves of them recovers
 -- the number and the trees that what was read of them recovers.
-abbrev pub KeepsStore : (ℕ → FileState) → (ℕ → FileState) → Type 0
-KeepsStore first last = ((f : ℕ) → IsSyncedOrSame (first f) (last f))
+abbrev pub UpgradeKeepsStore : (ℕ → FileState) → (ℕ → FileState) → Type 0
+UpgradeKeepsStore first last = ((f : ℕ) → IsSyncedOrSame (first f) (last f))
     ⊎ ((store : Store) × (number : ℕ) × (trees : List TreeMap) × IsRecovered (seen_in first) store number trees × CrashesRecover store number trees last)
 
 -- A store with outcomes is made of a store without them: `first` and `last` are the files of the old disk before and

@@ -9,7 +9,7 @@ ghost use Rattle.recovery.specs.Created.{IsOfStore};
 ghost use Rattle.recovery.specs.Recovered.{IsRecovered, seen_in};
 ghost use Rattle.recovery.specs.Shown.{StoreIsRepaired, store_of};
 ghost use Rattle.store_create.specs.Creations.{IsNotMade, OutcomeIsWritten};
-ghost use Rattle.store_create.specs.Upgrades.{AreNotUpgraded, IsUpgraded, KeepsStore};
+ghost use Rattle.store_create.specs.Upgrades.{AreNotUpgraded, IsUpgraded, UpgradeKeepsStore};
 
 use crate::creation::write_outcome;
 use commit_journal::Layout;
@@ -49,7 +49,7 @@ pub fn upgrade<O: Disk, N: Disk, W: Write>(
         (IsNotMade (N.failures target.old < N.failures target.new) (target.new ≡ target.old)
         (RefusalHasCause (O.failures source < O.failures result.0)
         (AreNotUpgraded (O.faithful result.0) (seen_in (O.state_at source (O.clock source)))))) }
-    ensures kept { O.faithful result.0 → KeepsStore (O.state_at source (O.clock source))
+    ensures kept { O.faithful result.0 → UpgradeKeepsStore (O.state_at source (O.clock source))
         (O.state_at result.0 (O.clock result.0)) }
     ensures stays { TouchesOwnFiles (IsOfStore (MOST_HIVES + 1)) (N.state_at target.old)
         (N.state_at target.new) (N.clock target.old) (N.clock target.new) }
@@ -74,7 +74,7 @@ fn make_upgraded<O: Disk, N: Disk>(
         (IsNotMade (N.failures target.old < N.failures target.new) (target.new ≡ target.old)
         (RefusalHasCause (O.failures source < O.failures result.0)
         (AreNotUpgraded (O.faithful result.0) (seen_in (O.state_at source (O.clock source)))))) }
-    ensures kept { O.faithful result.0 → KeepsStore (O.state_at source (O.clock source))
+    ensures kept { O.faithful result.0 → UpgradeKeepsStore (O.state_at source (O.clock source))
         (O.state_at result.0 (O.clock result.0)) }
     ensures stays { TouchesOwnFiles (IsOfStore (MOST_HIVES + 1)) (N.state_at target.old)
         (N.state_at target.new) (N.clock target.old) (N.clock target.new) }
@@ -103,7 +103,7 @@ fn open_alone<D: Disk>(alloc: Global, disk: D) -> Result<Opened<D>, (Refusal, D)
     ensures err { IfErr result (λ back. RefusalHasCause (D.failures disk < D.failures back.1)
         (AreNotUpgraded (D.faithful back.1) (seen_in (D.state_at disk (D.clock disk)))) back.0) }
     ensures kept { IfErr result (λ back. D.faithful back.1 →
-        KeepsStore (D.state_at disk (D.clock disk)) (D.state_at back.1 (D.clock back.1))) }
+        UpgradeKeepsStore (D.state_at disk (D.clock disk)) (D.state_at back.1 (D.clock back.1))) }
     ensures back { IfErr result (λ back. D.faithful back.1 → D.faithful disk) }
 {
     let opened = open(alloc, disk)?;

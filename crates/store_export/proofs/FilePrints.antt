@@ -30,10 +30,10 @@ use Rattle.reg_export.specs.Scans.{new_scan, scan_with, seen_can_show, shown_nam
 use Rattle.reg_export.specs.TsvTexts.{tsv_key_lines}
 use Rattle.store_export.specs.declared.request.Form.{Form}
 use Rattle.store_export.specs.declared.request.Form.TheVariants.{Reg, Json, Tsv}
-use Rattle.store_export.specs.declared.request.Request.{Request}
+use Rattle.store_export.specs.declared.request.ExportRequest.{ExportRequest}
 use Rattle.store_export.specs.declared.report.ExportError.{ExportError}
 use Rattle.store_export.specs.declared.report.ExportError.TheVariants as error
-use Rattle.store_export.specs.Exports.{IsTextOf, RowsRefused, ShowsRows, prefix_of}
+use Rattle.store_export.specs.Exports.{IsExportText, RowsRefused, ShowsRows, prefix_of}
 use Rattle.store_export.specs.Reports.{IsTold}
 use Rattle.store_export.proofs.Told.{kept_appends, rows_kept}
 use Rattle.store_export.specs.HiveExports.{HiveRefused, KeepsOrLacks, RefusalIsLast, ReportsFile, are_some, found_keys, keys_asked, keys_at, part_of, path_asked}
@@ -130,7 +130,7 @@ scanned_keys (Err (error.Write fault)) form prefix keys before after some p = tt
 -- ---- the keys that are asked for
 
 -- a text of keys of hive 0 is one of hives
-text_of_hives : (form : Form) (prefixes : List Prefix) (keys : List NamedRow) (text : List ℕ) → IsKeysText form (prefix_of prefixes 0) keys text → IsTextOf form prefixes ((0, keys) ∷ []) text
+text_of_hives : (form : Form) (prefixes : List Prefix) (keys : List NamedRow) (text : List ℕ) → IsKeysText form (prefix_of prefixes 0) keys text → IsExportText form prefixes ((0, keys) ∷ []) text
 text_of_hives (Reg encoding) prefixes keys text is = is
 text_of_hives Json prefixes keys text is = (text, [], is, refl, sym (append-nil text))
 text_of_hives Tsv prefixes keys text is = is ∙ sym (append-nil (flat_map (tsv_key_lines 0) keys))
@@ -142,20 +142,20 @@ none_found : (keys : List NamedRow) → are_some keys ≡ false → found_keys k
 none_found keys none = ap (λ b. if b then Some ((0, keys) ∷ []) else None) none
 
 -- the keys of a path that is there are answered
-shows_rows : (request : Request) (keys : List NamedRow) (before after : Option (List ℕ)) → (are_some keys ≡ true) × ShowsKeys request.form (prefix_of request.prefixes.now 0) keys before after → ShowsRows request (found_keys keys) before after
+shows_rows : (request : ExportRequest) (keys : List NamedRow) (before after : Option (List ℕ)) → (are_some keys ≡ true) × ShowsKeys request.form (prefix_of request.prefixes.now 0) keys before after → ShowsRows request (found_keys keys) before after
 shows_rows request keys before after shown =
     subst (λ rows. ShowsRows request rows before after) (sym (found_is keys shown.0)) (shown.1.0, text_of_hives request.form request.prefixes.now keys shown.1.0 shown.1.1, shown.1.2)
 
-rows_refused : (request : Request) (keys : List NamedRow) (why : Refusal) → KeysRefused request.form (prefix_of request.prefixes.now 0) keys why → RowsRefused request (found_keys keys) why
+rows_refused : (request : ExportRequest) (keys : List NamedRow) (why : Refusal) → KeysRefused request.form (prefix_of request.prefixes.now 0) keys why → RowsRefused request (found_keys keys) why
 rows_refused request keys why (inl none) = subst (λ rows. RowsRefused request rows why) (sym (none_found keys none.1)) none.0
 rows_refused request keys why (inr bad) = subst (λ rows. RowsRefused request rows why) (sym (found_is keys bad.1)) (inr (bad.0, bad.2))
 
-pub asked_some : {T : Type 0} (request : Request) (asked : Option (List (List ℕ))) (path : List (List ℕ)) (prefix : List ℕ) (tree : TreeMap) (before after : Option (List ℕ)) (answer : Result T ExportError) → Some path ≡ asked → prefix ≡ prefix_of request.prefixes.now 0
+pub asked_some : {T : Type 0} (request : ExportRequest) (asked : Option (List (List ℕ))) (path : List (List ℕ)) (prefix : List ℕ) (tree : TreeMap) (before after : Option (List ℕ)) (answer : Result T ExportError) → Some path ≡ asked → prefix ≡ prefix_of request.prefixes.now 0
     → AnswersKeys request.form prefix (part_of path (tree_rows tree)) before after answer → AnswersAsked request asked tree before after answer
 asked_some request asked path prefix tree before after answer is same answers =
     subst (λ (it : Option (List (List ℕ))). AnswersAsked request it tree before after answer) is (subst (λ p. AnswersKeys request.form p (part_of path (tree_rows tree)) before after answer) same answers)
 
-pub asked_none : (T : Type 0) (request : Request) (asked : Option (List (List ℕ))) (tree : TreeMap) (known : Option (List ℕ)) → None ≡ asked → AnswersAsked {T = T} request asked tree known known (Err (error.Refused NotFound))
+pub asked_none : (T : Type 0) (request : ExportRequest) (asked : Option (List (List ℕ))) (tree : TreeMap) (known : Option (List ℕ)) → None ≡ asked → AnswersAsked {T = T} request asked tree known known (Err (error.Refused NotFound))
 asked_none T request asked tree known is = subst (λ (it : Option (List (List ℕ))). AnswersAsked {T = T} request it tree known known (Err (error.Refused NotFound))) is (refl, keeps_same known)
 
 -- ---- a file
@@ -164,21 +164,21 @@ if_some_all : {A : Type 0} {P Q : A → Type 0} (known : Option A) → ((x : A) 
 if_some_all None f p = tt
 if_some_all (Some x) f p = f x p
 
-pub file_unread : (T : Type 0) (known : Option (List ℕ)) (request : Request) (before : Option (List ℕ)) (stopped : ExportError) → IfSome known (λ file. BinsStopped file stopped) → AnswersFile {T = T} known request before before (Err stopped)
+pub file_unread : (T : Type 0) (known : Option (List ℕ)) (request : ExportRequest) (before : Option (List ℕ)) (stopped : ExportError) → IfSome known (λ file. BinsStopped file stopped) → AnswersFile {T = T} known request before before (Err stopped)
 file_unread T known request before (error.Refused why) refused = if_some_all known (λ file why_not. (inr (inl why_not), inr (keeps_same before))) refused
 file_unread T known request before error.CannotRead refused = if_some_all known (λ file why_not. keeps_same before) refused
 file_unread T known request before (error.Write fault) refused = if_some_all known (λ file why_not. absurd why_not) refused
 
-pub file_unsound : (T : Type 0) (known : Option (List ℕ)) (request : Request) (before : Option (List ℕ)) (block : BaseBlock) (bins : List ℕ) (image : ImageError) → IfSome known (λ file. FileHasBins file block bins) → ImageRefused bins block.root block.minor image
+pub file_unsound : (T : Type 0) (known : Option (List ℕ)) (request : ExportRequest) (before : Option (List ℕ)) (block : BaseBlock) (bins : List ℕ) (image : ImageError) → IfSome known (λ file. FileHasBins file block bins) → ImageRefused bins block.root block.minor image
     → AnswersFile {T = T} known request before before (Err (image_refusal image))
 file_unsound T known request before block bins image_error.NoMemory has refused = if_some_all known (λ file its. (inl refl, inl refl)) has
 file_unsound T known request before block bins (image_error.Fault fault) has refused = if_some_all known (λ file its. (inr (inr (inl (block, bins, fault, its, refused, refl))), inr (keeps_same before))) has
 
-asked_shown : {T : Type 0} (request : Request) (asked : Option (List (List ℕ))) (tree : TreeMap) (before after : Option (List ℕ)) (done : T) → AnswersAsked {T = T} request asked tree before after (Ok done) → ShowsRows request (keys_at asked tree) before after
+asked_shown : {T : Type 0} (request : ExportRequest) (asked : Option (List (List ℕ))) (tree : TreeMap) (before after : Option (List ℕ)) (done : T) → AnswersAsked {T = T} request asked tree before after (Ok done) → ShowsRows request (keys_at asked tree) before after
 asked_shown request None tree before after done answers = absurd (let no : Ok done ≡ Err (error.Refused NotFound) = answers.0 in let it : ⊥ = cc in it)
 asked_shown request (Some path) tree before after done answers = shows_rows request (part_of path (tree_rows tree)) before after answers
 
-asked_stopped : (T : Type 0) (request : Request) (asked : Option (List (List ℕ))) (tree : TreeMap) (before after : Option (List ℕ)) (why : Refusal) → AnswersAsked {T = T} request asked tree before after (Err (error.Refused why))
+asked_stopped : (T : Type 0) (request : ExportRequest) (asked : Option (List (List ℕ))) (tree : TreeMap) (before after : Option (List ℕ)) (why : Refusal) → AnswersAsked {T = T} request asked tree before after (Err (error.Refused why))
     → ((why ≡ NoMemory) ⊎ RowsRefused request (keys_at asked tree) why) × KeepsOrLacks before after why
 asked_stopped T request None tree before after why answers =
     (inr (ap why_in answers.0), inr answers.1)
@@ -189,11 +189,11 @@ asked_stopped T request None tree before after why answers =
 asked_stopped T request (Some path) tree before after why (inl lacking) = (inl lacking, inl lacking)
 asked_stopped T request (Some path) tree before after why (inr refused) = (inr (rows_refused request (part_of path (tree_rows tree)) why refused.0), inr refused.1)
 
-asked_read : (T : Type 0) (request : Request) (asked : Option (List (List ℕ))) (tree : TreeMap) (before after : Option (List ℕ)) → AnswersAsked {T = T} request asked tree before after (Err error.CannotRead) → ⊥
+asked_read : (T : Type 0) (request : ExportRequest) (asked : Option (List (List ℕ))) (tree : TreeMap) (before after : Option (List ℕ)) → AnswersAsked {T = T} request asked tree before after (Err error.CannotRead) → ⊥
 asked_read T request None tree before after answers = let no = answers.0 in let it : ⊥ = cc in it
 asked_read T request (Some path) tree before after answers = answers
 
-pub file_asked : {T : Type 0} (known : Option (List ℕ)) (request : Request) (before after : Option (List ℕ)) (block : BaseBlock) (bins : List ℕ) (tree : TreeMap) (answer : Result T ExportError) → IfSome known (λ file. FileHasBins file block bins)
+pub file_asked : {T : Type 0} (known : Option (List ℕ)) (request : ExportRequest) (before after : Option (List ℕ)) (block : BaseBlock) (bins : List ℕ) (tree : TreeMap) (answer : Result T ExportError) → IfSome known (λ file. FileHasBins file block bins)
     → BinsEncodeTree bins block.root block.minor tree → AnswersAsked request (path_asked request.selection) tree before after answer → AnswersFile known request before after answer
 file_asked known request before after block bins tree (Ok done) has encodes answers =
     if_some_all known (λ file its. (tree, (block, bins, its, encodes), asked_shown request (path_asked request.selection) tree before after done answers)) has
@@ -208,7 +208,7 @@ file_asked {T} known request before after block bins tree (Err error.CannotRead)
 file_asked known request before after block bins tree (Err (error.Write fault)) has encodes answers = if_some_all known (λ file its. tt) has
 
 -- what was printed of a file, and told, is a report of it
-pub file_reported : {T : Type 0} (known : Option (List ℕ)) (request : Request) (printed : Result T ExportError) (old mid new : Option (List ℕ)) (its_status : Status) → AnswersFile known request old mid printed → IsTold printed mid new its_status
+pub file_reported : {T : Type 0} (known : Option (List ℕ)) (request : ExportRequest) (printed : Result T ExportError) (old mid new : Option (List ℕ)) (its_status : Status) → AnswersFile known request old mid printed → IsTold printed mid new its_status
     → IfSome known (λ file. ReportsFile request file old new its_status)
 file_reported known request (Ok done) old mid new its_status answers told =
     if_some_all known (λ file shown. inl ((shown.0, shown.1, rows_kept request (keys_asked request.selection shown.0) old mid new shown.2 told.0), told.1)) answers

@@ -7,7 +7,7 @@ use Rattle.reg_names.specs.Names.{folded_path}
 use Rattle.reg_tree.specs.Maps.{TreeMap, is_there}
 use Rattle.key_walk.specs.SubtreeRows.{rows_below}
 use Rattle.reply_lines.specs.declared.status.Status.{Status}
-use Rattle.store_export.specs.declared.request.Request.{Request}
+use Rattle.store_export.specs.declared.request.ExportRequest.{ExportRequest}
 use Rattle.store_export.specs.declared.report.ExportError.{ExportError}
 use Rattle.store_export.specs.declared.report.ExportError.TheVariants as error
 use Rattle.store_export.specs.Exports.{CannotShow, EndsEarly, HiveRows, MayRefuse, RowsRefused, ShowsAsked, ShowsRows, asked_rows, part_rows}
@@ -30,12 +30,12 @@ kept_appends (Some xs) None new text k a = absurd k
 kept_appends (Some xs) (Some ys) None text k a = absurd a
 kept_appends (Some xs) (Some ys) (Some zs) text k a = a ∙ ap (λ bytes. bytes ++ text) k
 
-pub rows_kept : (request : Request) (rows : Option (List HiveRows)) (old mid new : Option (List ℕ)) → ShowsRows request rows old mid → Keeps mid new → ShowsRows request rows old new
+pub rows_kept : (request : ExportRequest) (rows : Option (List HiveRows)) (old mid new : Option (List ℕ)) → ShowsRows request rows old mid → Keeps mid new → ShowsRows request rows old new
 rows_kept request None old mid new shown kept = absurd shown
 rows_kept request (Some hives) old mid new shown kept = (shown.0, shown.1, appends_kept old mid new shown.0 shown.2 kept)
 
 -- what was printed of trees, and told, is a report of them
-pub trees_reported : {T : Type 0} (printed : Result T ExportError) (request : Request) (trees : List TreeMap) (old mid new : Option (List ℕ)) (its_status : Status)
+pub trees_reported : {T : Type 0} (printed : Result T ExportError) (request : ExportRequest) (trees : List TreeMap) (old mid new : Option (List ℕ)) (its_status : Status)
     → OnOk printed (ShowsAsked request trees old mid) → IfErr printed (λ fault. EndsEarly (MayRefuse request trees) old mid fault) → IsTold printed mid new its_status → ReportsTrees request trees old new its_status
 trees_reported (Ok done) request trees old mid new its_status shown refused told = inl (rows_kept request (asked_rows request trees) old mid new shown told.0, told.1)
 trees_reported (Err (error.Refused why)) request trees old mid new its_status shown refused told =
@@ -49,7 +49,7 @@ part_is : (hive : ℕ) (path : List (List ℕ)) (trees : List TreeMap) (tree : T
 part_is hive path trees tree there held = ap (part_rows hive path) there ∙ ap (λ b. if b then Some ((hive, rows_below tree path) ∷ []) else None) held
 
 -- what is refused of them is refused of the part
-pub part_refused : {T : Type 0} (printed : Result T ExportError) (request : Request) (hive : ℕ) (path names : List (List ℕ)) (trees : List TreeMap) (tree : TreeMap) (old new : Option (List ℕ))
+pub part_refused : {T : Type 0} (printed : Result T ExportError) (request : ExportRequest) (hive : ℕ) (path names : List (List ℕ)) (trees : List TreeMap) (tree : TreeMap) (old new : Option (List ℕ))
     → slice_get trees hive ≡ Some tree → names ≡ path → is_there tree (folded_path names) ≡ true
     → IfErr printed (λ fault. EndsEarly (CannotShow request ((hive, rows_below tree (folded_path names)) ∷ [])) old new fault)
     → IfErr printed (λ fault. EndsEarly (RowsRefused request (part_rows hive (folded_path path) (slice_get trees hive))) old new fault)

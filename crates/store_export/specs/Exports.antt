@@ -18,7 +18,7 @@ use Rattle.reg_export.specs.JsonTexts.{AreJsonLines}
 use Rattle.reg_export.specs.TsvTexts.{tsv_key_lines}
 use Rattle.store_export.specs.declared.request.Form.{Form}
 use Rattle.store_export.specs.declared.request.Form.TheVariants.{Reg, Json, Tsv}
-use Rattle.store_export.specs.declared.request.Request.{Request}
+use Rattle.store_export.specs.declared.request.ExportRequest.{ExportRequest}
 use Rattle.store_export.specs.declared.request.Selection.{Selection}
 use Rattle.store_export.specs.declared.report.ExportError.{ExportError}
 use Rattle.store_export.specs.declared.report.ExportError.TheVariants as error
@@ -43,7 +43,7 @@ rows_in None trees = Some (all_rows 0 trees)
 rows_in (Some part) trees = part_rows part.now.hive (folded_path part.now.path) (slice_get trees part.now.hive)
 
 -- the keys that a request asks for
-abbrev pub asked_rows : Request → List TreeMap → Option (List HiveRows)
+abbrev pub asked_rows : ExportRequest → List TreeMap → Option (List HiveRows)
 asked_rows request trees = rows_in request.selection trees
 
 -- the prefix by which a hive is shown
@@ -69,14 +69,14 @@ AreJsonTexts (hive ∷ hives) text =
     (front : List ℕ) × (rest : List ℕ) × AreJsonLines hive.0 hive.1 front × AreJsonTexts hives rest × (text ≡ front ++ rest)
 
 -- a text shows these keys in a form
-abbrev pub IsTextOf : Form → List Prefix → List HiveRows → List ℕ → Type 0
-IsTextOf (Reg encoding) prefixes hives text = text ≡ reg_text encoding (map (with_prefix prefixes) hives)
-IsTextOf Json prefixes hives text = AreJsonTexts hives text
-IsTextOf Tsv prefixes hives text = text ≡ tsv_text hives
+abbrev pub IsExportText : Form → List Prefix → List HiveRows → List ℕ → Type 0
+IsExportText (Reg encoding) prefixes hives text = text ≡ reg_text encoding (map (with_prefix prefixes) hives)
+IsExportText Json prefixes hives text = AreJsonTexts hives text
+IsExportText Tsv prefixes hives text = text ≡ tsv_text hives
 
 -- known bytes grew by a text that shows these keys
-abbrev pub Shows : Form → List Prefix → List HiveRows → Option (List ℕ) → Option (List ℕ) → Type 0
-Shows form prefixes hives before after = (text : List ℕ) × IsTextOf form prefixes hives text × Appends before after text
+abbrev pub ShowsHives : Form → List Prefix → List HiveRows → Option (List ℕ) → Option (List ℕ) → Type 0
+ShowsHives form prefixes hives before after = (text : List ℕ) × IsExportText form prefixes hives text × Appends before after text
 
 -- no registration file can show these keys in the encoding that is asked for: a name has the unit 0, 10 or 13, or in UTF-8
 -- half of a pair of surrogates
@@ -84,24 +84,24 @@ abbrev pub HaveBadName : Form → List Prefix → List HiveRows → Type 0
 HaveBadName form prefixes hives = (encoding : Encoding) × (form ≡ Reg encoding) × (can_show encoding (file_names (map (with_prefix prefixes) hives)) ≡ false)
 
 -- why keys are not shown: memory is lacking, or a name is bad
-abbrev pub CannotShow : Request → List HiveRows → Refusal → Type 0
+abbrev pub CannotShow : ExportRequest → List HiveRows → Refusal → Type 0
 CannotShow request hives why = (why ≡ NoMemory) ⊎ ((why ≡ BadName) × HaveBadName request.form request.prefixes.now hives)
 
 -- why keys that were asked for are not shown: they are not there, or can't be shown
-abbrev pub RowsRefused : Request → Option (List HiveRows) → Refusal → Type 0
+abbrev pub RowsRefused : ExportRequest → Option (List HiveRows) → Refusal → Type 0
 RowsRefused request None why = why ≡ NotFound
 RowsRefused request (Some hives) why = CannotShow request hives why
 
 -- these keys are there, and are shown
-abbrev pub ShowsRows : Request → Option (List HiveRows) → Option (List ℕ) → Option (List ℕ) → Type 0
+abbrev pub ShowsRows : ExportRequest → Option (List HiveRows) → Option (List ℕ) → Option (List ℕ) → Type 0
 ShowsRows request None before after = ⊥
-ShowsRows request (Some hives) before after = Shows request.form request.prefixes.now hives before after
+ShowsRows request (Some hives) before after = ShowsHives request.form request.prefixes.now hives before after
 
 -- the keys that a request asks for are shown, or refused
-abbrev pub ShowsAsked : Request → List TreeMap → Option (List ℕ) → Option (List ℕ) → Type 0
+abbrev pub ShowsAsked : ExportRequest → List TreeMap → Option (List ℕ) → Option (List ℕ) → Type 0
 ShowsAsked request trees before after = ShowsRows request (asked_rows request trees) before after
 
-abbrev pub MayRefuse : Request → List TreeMap → Refusal → Type 0
+abbrev pub MayRefuse : ExportRequest → List TreeMap → Refusal → Type 0
 MayRefuse request trees why = RowsRefused request (asked_rows request trees) why
 
 -- known bytes grew by lines of JSON of these keys; and of those of a hive

@@ -19,12 +19,12 @@ use Rattle.hive_file_reader.specs.Hives.{FileHasBins}
 use Rattle.hive_file_reader.specs.Readings.{FileBinsRefusedAs}
 use Rattle.reply_lines.specs.declared.status.Status.{Status}
 use Rattle.reply_lines.specs.declared.status.Status.TheVariants as status
-use Rattle.store_export.specs.declared.request.Request.{Request}
+use Rattle.store_export.specs.declared.request.ExportRequest.{ExportRequest}
 use Rattle.store_export.specs.declared.request.Selection.{Selection}
 use Rattle.store_export.specs.declared.report.ExportError.{ExportError}
 use Rattle.store_export.specs.declared.report.ExportError.TheVariants as error
 use Rattle.store_export.specs.Exports.{HiveRows, RowsRefused, ShowsRows}
-use Rattle.store_export.specs.Reports.{PrintsRefusal}
+use Rattle.reply_lines.specs.PrintedRefusals.{PrintsRefusal}
 
 -- two paths of folded names are the same
 abbrev pub same_path : List (List ℕ) → List (List ℕ) → Bool
@@ -71,7 +71,7 @@ FileImageRefused file why =
 
 -- Why a file's keys are not printed: memory is lacking; it is no clean hive; a fault stands in its bins data; or it is a
 -- hive, and the keys that were asked for are not there, or can't be shown.
-abbrev pub HiveRefused : Request → List ℕ → Refusal → Type 0
+abbrev pub HiveRefused : ExportRequest → List ℕ → Refusal → Type 0
 HiveRefused request file why =
     (why ≡ NoMemory)
     ⊎ (FileBinsRefusedAs 0 file why
@@ -79,7 +79,7 @@ HiveRefused request file why =
     ⊎ ((tree : TreeMap) × FileEncodesTree file tree × RowsRefused request (keys_asked request.selection tree) why)))
 
 -- the file encodes a tree, and the keys that are asked for are shown
-abbrev pub ShowsFile : Request → List ℕ → Option (List ℕ) → Option (List ℕ) → Type 0
+abbrev pub ShowsFile : ExportRequest → List ℕ → Option (List ℕ) → Option (List ℕ) → Type 0
 ShowsFile request file before after = (tree : TreeMap) × FileEncodesTree file tree × ShowsRows request (keys_asked request.selection tree) before after
 
 -- the line of a refusal was printed, and nothing else; only if memory is lacking, some keys may stand before it
@@ -88,7 +88,7 @@ RefusalIsLast before after why its_status =
     PrintsRefusal before after why its_status ⊎ ((why ≡ NoMemory) × ((mid : Option (List ℕ)) × PrintsRefusal mid after why its_status))
 
 -- The file encodes a tree whose keys that are asked for are printed; or why not is.
-abbrev pub ReportsFile : Request → List ℕ → Option (List ℕ) → Option (List ℕ) → Status → Type 0
+abbrev pub ReportsFile : ExportRequest → List ℕ → Option (List ℕ) → Option (List ℕ) → Status → Type 0
 ReportsFile request file before after its_status =
     (ShowsFile request file before after × (its_status ≡ status.Clean))
     ⊎ ((why : Refusal) × HiveRefused request file why × RefusalIsLast before after why its_status)

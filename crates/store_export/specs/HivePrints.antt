@@ -19,7 +19,7 @@ use Rattle.reg_export.specs.JsonTexts.{AreJsonLines}
 use Rattle.reg_export.specs.TsvTexts.{tsv_key_lines}
 use Rattle.store_export.specs.declared.request.Form.{Form}
 use Rattle.store_export.specs.declared.request.Form.TheVariants.{Reg, Json, Tsv}
-use Rattle.store_export.specs.declared.request.Request.{Request}
+use Rattle.store_export.specs.declared.request.ExportRequest.{ExportRequest}
 use Rattle.store_export.specs.declared.report.ExportError.{ExportError}
 use Rattle.store_export.specs.declared.report.ExportError.TheVariants as error
 use Rattle.store_export.specs.Exports.{prefix_of}
@@ -83,7 +83,7 @@ AnswersScanned form prefix keys before after (Err error.CannotRead) = ⊥
 AnswersScanned form prefix keys before after (Err (error.Write fault)) = Unit {0}
 
 -- the keys at the path that is asked for are answered; no path is one that isn't there
-abbrev pub AnswersAsked : {T : Type 0} → Request → Option (List (List ℕ)) → TreeMap → Option (List ℕ) → Option (List ℕ) → Result T ExportError → Type 0
+abbrev pub AnswersAsked : {T : Type 0} → ExportRequest → Option (List (List ℕ)) → TreeMap → Option (List ℕ) → Option (List ℕ) → Result T ExportError → Type 0
 AnswersAsked request None tree before after answer = (answer ≡ Err (error.Refused NotFound)) × Keeps before after
 AnswersAsked request (Some path) tree before after answer = AnswersKeys request.form (prefix_of request.prefixes.now 0) (part_of path (tree_rows tree)) before after answer
 
@@ -99,6 +99,6 @@ image_refusal image_error.NoMemory = error.Refused NoMemory
 image_refusal (image_error.Fault fault) = error.Refused fault.refusal
 
 -- a file's keys that are asked for are shown, or why not
-abbrev pub AnswersFile : {T : Type 0} → Option (List ℕ) → Request → Option (List ℕ) → Option (List ℕ) → Result T ExportError → Type 0
+abbrev pub AnswersFile : {T : Type 0} → Option (List ℕ) → ExportRequest → Option (List ℕ) → Option (List ℕ) → Result T ExportError → Type 0
 AnswersFile known request before after (Ok done) = IfSome known (λ file. ShowsFile request file before after)
 AnswersFile known request before after (Err stopped) = IfSome known (λ file. StopsFile (HiveRefused request file) before after stopped)

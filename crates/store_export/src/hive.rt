@@ -9,7 +9,7 @@ ghost use Rattle.store_export.specs.HivePrints.{AnswersAsked, AnswersFile, BinsS
 
 use crate::hive_part::print_keys;
 use crate::report::{ExportError, reported};
-use crate::request::Request;
+use crate::request::ExportRequest;
 use base_block::BaseBlock;
 use hive_cells::Image;
 use hive_file_reader::{ReadError, read_image};
@@ -35,7 +35,7 @@ const _: () = prove!(HIVE == 0);
 pub fn export_hive<R: Read, W: Write>(
     alloc: Global,
     reader: &mut R,
-    request: &Request<'_>,
+    request: &ExportRequest<'_>,
     writer: &mut W,
 ) -> Result<Status, ExportError>
     ensures reports { IfOk result (λ status. IfSome (R.remaining reader.old) (λ file.
@@ -49,7 +49,7 @@ pub fn export_hive<R: Read, W: Write>(
 fn print_file<R: Read, W: Write>(
     alloc: Global,
     reader: &mut R,
-    request: &Request<'_>,
+    request: &ExportRequest<'_>,
     writer: &mut W,
 ) -> Result<(), ExportError>
     ensures { AnswersFile (R.remaining reader.old) request.now (W.contents writer.old)
@@ -81,7 +81,7 @@ fn read_bins<R: Read>(alloc: Global, reader: &mut R) -> Result<(BaseBlock, Image
 fn print_image<W: Write>(
     alloc: Global,
     sound: &SoundImage<'_>,
-    request: &Request<'_>,
+    request: &ExportRequest<'_>,
     writer: &mut W,
 ) -> Result<(), ExportError>
     ensures { (tree : TreeMap) → BinsEncodeTree sound.now.0 sound.now.1.0 sound.now.1.1 tree →
@@ -96,7 +96,7 @@ fn print_image<W: Write>(
 }
 
 // the path of the key that is asked for, or the root's if all keys are; none if it is of another hive
-fn asked_path<'a>(request: &Request<'a>) -> Option<&'a [Name]>
+fn asked_path<'a>(request: &ExportRequest<'a>) -> Option<&'a [Name]>
     ensures { option_map (λ path. path.now) result ≡ path_asked request.now.selection }
 {
     match request.selection {

@@ -19,5 +19,5 @@ mod trees;
 pub use hive::export_hive;
 pub use reg_export::Encoding;
 pub use report::ExportError;
-pub use request::{Form, Request, Selection};
+pub use request::{ExportRequest, Form, Selection};
 pub use store::export_store;

@@ -3,11 +3,11 @@ ghost use Rattle.std.specs.Prelude.{◌≡◌, ◌∷◌, [], OnOk, IfErr, slice
 ghost use Rattle.reg_names.specs.Names.{folded_path};
 ghost use Rattle.reg_tree.specs.Maps.{is_there};
 ghost use Rattle.key_walk.specs.SubtreeRows.{rows_below};
-ghost use Rattle.store_export.specs.Exports.{CannotShow, EndsEarly, RowsRefused, Shows, ShowsRows, part_rows};
+ghost use Rattle.store_export.specs.Exports.{CannotShow, EndsEarly, RowsRefused, ShowsHives, ShowsRows, part_rows};
 
 use crate::lines::{print_json_below, print_tsv_below};
 use crate::report::ExportError;
-use crate::request::{Form, Request, Selection};
+use crate::request::{ExportRequest, Form, Selection};
 use key_walk::walk_below;
 use refusals::Refusal;
 use reg_export::{HiveKeys, NameScan, write_reg_below};
@@ -20,7 +20,7 @@ use std::io::Write;
 pub(crate) fn print_part<W: Write>(
     writer: &mut W,
     trees: &Trees,
-    request: &Request<'_>,
+    request: &ExportRequest<'_>,
     selection: &Selection,
 ) -> Result<(), ExportError>
     ensures shown { OnOk result (ShowsRows request.now (part_rows selection.now.hive
@@ -52,13 +52,13 @@ fn has_key(tree: &Tree, path: &[Name]) -> bool
 // prints the key at a path, which is there, and all below it
 fn print_below<W: Write>(
     writer: &mut W,
-    request: &Request<'_>,
+    request: &ExportRequest<'_>,
     hive: u8,
     tree: &Tree,
     path: &[Name],
 ) -> Result<(), ExportError>
     requires there { is_there tree.now (folded_path path.now) ≡ true }
-    ensures shown { OnOk result (Shows request.now.form request.now.prefixes.now
+    ensures shown { OnOk result (ShowsHives request.now.form request.now.prefixes.now
         ((hive, rows_below tree.now (folded_path path.now)) ∷ []) (W.contents writer.old)
         (W.contents writer.new)) }
     ensures refused { IfErr result (λ error. EndsEarly (CannotShow request.now

@@ -70,15 +70,15 @@ impl ExportError {
     }
 }
 
-impl From<reg_export::ExportError> for ExportError {
+impl From<reg_export::RegFileError> for ExportError {
     ghost use Rattle.store_export.specs.Reports.{IsFileError};
 
     ghost from_gives = { λ error made. IsFileError error made };
 
-    fn from(error: reg_export::ExportError) -> ExportError {
+    fn from(error: reg_export::RegFileError) -> ExportError {
         match error {
-            reg_export::ExportError::BadName => ExportError::Refused(Refusal::BadName),
-            reg_export::ExportError::Write(error) => ExportError::Write(error),
+            reg_export::RegFileError::BadName => ExportError::Refused(Refusal::BadName),
+            reg_export::RegFileError::Write(error) => ExportError::Write(error),
         }
     }
 }

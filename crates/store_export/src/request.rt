@@ -28,7 +28,7 @@ pub struct Selection {
 
 /// What is to be printed.
 #[derive(Clone, Copy)]
-pub struct Request<'a> {
+pub struct ExportRequest<'a> {
     /// How.
     pub form: Form,
     /// The key, if not all is printed.
@@ -37,7 +37,7 @@ pub struct Request<'a> {
     pub prefixes: &'a Prefixes,
 }
 
-impl<'a> Request<'a> {
+impl<'a> ExportRequest<'a> {
     /// The prefix by which a hive is shown.
     pub(crate) fn prefix(&self, hive: u8) -> &'a [u8]
         ensures { result.now ≡ prefix_of self.now.prefixes.now hive }

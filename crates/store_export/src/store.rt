@@ -3,10 +3,10 @@ ghost use Rattle.std.specs.Prelude.{◌<◌, IfOk, take};
 ghost use Rattle.disk_model.specs.ReadOnly.{OnlySyncs};
 ghost use Rattle.recovery.specs.Recovered.{seen_in};
 ghost use Rattle.recovery.specs.Shown.{store_of};
-ghost use Rattle.store_export.specs.Reports.{Reports, ReportsOrNot};
+ghost use Rattle.store_export.specs.Reports.{ReportsExport, ReportsOrNot};
 
 use crate::report::{ExportError, reported};
-use crate::request::Request;
+use crate::request::ExportRequest;
 use crate::trees::print_trees;
 use disk_model::Disk;
 use recovery::{Opened, open};
@@ -23,10 +23,10 @@ use std::io::Write;
 pub fn export_store<D: Disk, W: Write>(
     alloc: Global,
     disk: D,
-    request: &Request<'_>,
+    request: &ExportRequest<'_>,
     writer: &mut W,
 ) -> (D, Result<Status, ExportError>)
-    ensures reports { IfOk result.1 (λ status. Reports (D.failures disk < D.failures result.0)
+    ensures reports { IfOk result.1 (λ status. ReportsExport (D.failures disk < D.failures result.0)
         (D.faithful result.0) (seen_in (D.state_at disk (D.clock disk))) request.now
         (W.contents writer.old) (W.contents writer.new) status) }
     ensures synced { D.faithful result.0 → OnlySyncs (D.state_at disk) (D.state_at result.0)
@@ -46,7 +46,7 @@ fn print_named<D: Disk, W: Write>(
     alloc: Global,
     writer: &mut W,
     opened: &Opened<D>,
-    request: &Request<'_>,
+    request: &ExportRequest<'_>,
 ) -> Result<Status, ExportError>
     ensures { IfOk result (ReportsOrNot request.now
         (take (store_of opened.now).hives opened.now.found.trees)

@@ -2,12 +2,12 @@
 ghost use Rattle.std.specs.Prelude.{◌≡◌, OnOk, IfOk, IfErr, map};
 ghost use Rattle.std.specs.Io.KnownBytes.{Appends};
 ghost use Rattle.reg_export.specs.Hives.{keys_of};
-ghost use Rattle.store_export.specs.Exports.{EndsEarly, MayRefuse, PrintsJson, Shows, ShowsAsked, CannotShow, all_rows, tsv_text, with_prefix};
+ghost use Rattle.store_export.specs.Exports.{EndsEarly, MayRefuse, PrintsJson, ShowsHives, ShowsAsked, CannotShow, all_rows, tsv_text, with_prefix};
 
 use crate::lines::{print_json, print_tsv};
 use crate::part::print_part;
 use crate::report::ExportError;
-use crate::request::{Form, Request};
+use crate::request::{ExportRequest, Form};
 use reg_export::{HiveKeys, write_reg};
 use reg_tree::Trees;
 use std::alloc::{AllocError, Global};
@@ -19,7 +19,7 @@ pub(crate) fn print_trees<W: Write>(
     alloc: Global,
     writer: &mut W,
     trees: &Trees,
-    request: &Request<'_>,
+    request: &ExportRequest<'_>,
 ) -> Result<(), ExportError>
     ensures shown { OnOk result (ShowsAsked request.now trees.now (W.contents writer.old)
         (W.contents writer.new)) }
@@ -37,9 +37,9 @@ fn print_all<W: Write>(
     alloc: Global,
     writer: &mut W,
     trees: &Trees,
-    request: &Request<'_>,
+    request: &ExportRequest<'_>,
 ) -> Result<(), ExportError>
-    ensures shown { OnOk result (Shows request.now.form request.now.prefixes.now
+    ensures shown { OnOk result (ShowsHives request.now.form request.now.prefixes.now
         (all_rows 0 trees.now) (W.contents writer.old) (W.contents writer.new)) }
     ensures refused { IfErr result (λ error. EndsEarly (CannotShow request.now (all_rows 0 trees.now))
         (W.contents writer.old) (W.contents writer.new) error) }
@@ -58,7 +58,7 @@ fn print_all<W: Write>(
 fn hive_keys<'a>(
     alloc: Global,
     trees: &'a Trees,
-    request: &Request<'a>,
+    request: &ExportRequest<'a>,
 ) -> Result<Vec<HiveKeys<'a>>, AllocError>
     ensures { IfOk result (λ hives. map keys_of hives.items
         ≡ map (with_prefix request.now.prefixes.now) (all_rows 0 trees.now)) }

@@ -11,7 +11,7 @@ use Rattle.change_plan.proofs.LegalPlans.{IsLegalPlan, edit_on, fresh_plan}
 use Rattle.store_change.specs.Commits.{Commits, FailsToCommit}
 use Rattle.store_change.specs.Reports.{AllOrNothing}
 use Rattle.store_values.specs.declared.change.Change.{Change}
-use Rattle.store_values.specs.Changes.{IsPlanned, TakesEdits, edits_of, first_plan}
+use Rattle.store_values.specs.Changes.{ChangeIsPlanned, TakesEdits, edits_of, first_plan}
 use Rattle.store_values.specs.Outcomes.{AsksPlanned, EndsChange}
 
 edits_on : (trees : List TreeMap) (old new : Planned) (edits : List Edit) → IsLegalPlan trees old → TakesEdits old edits new → IsLegalPlan trees new
@@ -23,7 +23,7 @@ same_moment old new [] takes = ap (λ (plan : Planned). plan.moment) takes
 same_moment old new (its ∷ edits) takes = same_moment takes.0 new edits takes.2 ∙ takes.1.moment
 
 -- the operations of a change that was planned are legal, one after another
-pub planned_legal : (trees : List TreeMap) (aside moment : ℕ) (change : Change) (plan : Planned) → IsPlanned trees aside moment change plan → AreLegalChanges trees plan.ops moment
+pub planned_legal : (trees : List TreeMap) (aside moment : ℕ) (change : Change) (plan : Planned) → ChangeIsPlanned trees aside moment change plan → AreLegalChanges trees plan.ops moment
 planned_legal trees aside moment change plan is =
     let legal = edits_on trees (first_plan trees aside moment) plan (edits_of change) (fresh_plan trees moment aside) is.taken in
     subst (AreLegalChanges trees plan.ops) (same_moment (first_plan trees aside moment) plan (edits_of change) is.taken) legal.legal
@@ -39,6 +39,6 @@ all_or_nothing moment change old new (Err why) (inr failed) = by_case failed.3
     by_case (inr accepts) = inr (failed.1, failed.0.ops, (failed.0, failed.2, refl), accepts.0)
 
 -- how the commit of a change that was planned ends
-pub commit_ends : (id : List ℕ) (moment : ℕ) (change : Change) (old new : Machine) (plan : Planned) (ops : List Op) (outcome : Result ℕ Refusal) → IsPlanned (named_trees old) (outcome_bytes old) moment change plan → ops ≡ plan.ops → IfOk outcome (λ number. Commits old id moment ops number new) → IfErr outcome (λ why. FailsToCommit old id moment ops why new) → EndsChange moment change old outcome new
+pub commit_ends : (id : List ℕ) (moment : ℕ) (change : Change) (old new : Machine) (plan : Planned) (ops : List Op) (outcome : Result ℕ Refusal) → ChangeIsPlanned (named_trees old) (outcome_bytes old) moment change plan → ops ≡ plan.ops → IfOk outcome (λ number. Commits old id moment ops number new) → IfErr outcome (λ why. FailsToCommit old id moment ops why new) → EndsChange moment change old outcome new
 commit_ends id moment change old new plan ops (Ok number) is same commits fails = (plan, id, is, subst (λ (os : List Op). Commits old id moment os number new) same commits)
 commit_ends id moment change old new plan ops (Err why) is same commits fails = inr (plan, id, is, subst (λ (os : List Op). FailsToCommit old id moment os why new) same fails)

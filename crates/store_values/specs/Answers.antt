@@ -16,8 +16,8 @@ use Rattle.commit_journal.specs.Store.{Store}
 use Rattle.recovery.specs.Recovered.{IsNoStore, IsRecovered}
 use Rattle.reply_lines.specs.declared.status.Status.{Status}
 use Rattle.reply_lines.specs.declared.status.Status.TheVariants as status
-use Rattle.reply_lines.specs.declared.reply.ReplyLine.TheVariants as reply
-use Rattle.reply_lines.specs.Replies.{name_text, reply_line}
+use Rattle.reply_lines.specs.PrintedRefusals.{PrintsRefusal}
+use Rattle.reply_lines.specs.Replies.{name_text}
 use Rattle.value_syntax.specs.Printed.{datum_text}
 use Rattle.store_values.specs.declared.value_form.ValueForm.{ValueForm}
 use Rattle.store_values.specs.declared.value_form.ValueForm.TheVariants.{Line, Data}
@@ -56,10 +56,6 @@ tree_answer path tree = option_map (row_lines tree path) (row tree path)
 abbrev pub key_answer : ℕ → List (List ℕ) → List TreeMap → Option (List ℕ)
 key_answer hive path trees = option_and_then (tree_answer (folded_path path)) (slice_get trees hive)
 
--- the line of a refusal was printed
-abbrev pub PrintsRefusal : Option (List ℕ) → Option (List ℕ) → Refusal → Status → Type 0
-PrintsRefusal before after why its_status = Appends before after (reply_line (reply.Refused why)) × (its_status ≡ status.Refused)
-
 -- a text was printed; or, if there is none, that nothing is there
 abbrev pub PrintsAnswer : Option (List ℕ) → Option (List ℕ) → Option (List ℕ) → Status → Type 0
 PrintsAnswer None before after its_status = PrintsRefusal before after NotFound its_status
@@ -71,7 +67,7 @@ AnswersOrNot answer before after its_status = PrintsAnswer answer before after i
 
 -- The files recover trees, if the disk is faithful, and the answer of those of the hives that calls name is printed; or
 -- they are refused, and that is.
-abbrev pub Reports : Type 0 → Type 0 → (ℕ → List ℕ) → (List TreeMap → Option (List ℕ)) → Option (List ℕ) → Option (List ℕ) → Status → Type 0
-Reports failed faithful files answer before after its_status =
+abbrev pub ReportsAnswer : Type 0 → Type 0 → (ℕ → List ℕ) → (List TreeMap → Option (List ℕ)) → Option (List ℕ) → Option (List ℕ) → Status → Type 0
+ReportsAnswer failed faithful files answer before after its_status =
     ((store : Store) × (number : ℕ) × (trees : List TreeMap) × (faithful → IsRecovered files store number trees) × PrintsAnswer (answer (take store.hives trees)) before after its_status)
     ⊎ ((why : Refusal) × RefusalHasCause failed (IsNoStore faithful files) why × PrintsRefusal before after why its_status)

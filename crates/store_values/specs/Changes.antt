@@ -22,12 +22,12 @@ edits_of (DeleteKey hive path) = Operation (op.DeleteKey hive path) ∷ []
 edits_of (DeleteTree hive path) = RemoveKey hive path ∷ []
 
 -- a key is to be deleted with all below it that isn't there
-abbrev pub IsMissing : List TreeMap → Change → Type 0
-IsMissing trees (SetValue hive path name datum) = ⊥
-IsMissing trees (CreateKey hive path) = ⊥
-IsMissing trees (DeleteValue hive path name) = ⊥
-IsMissing trees (DeleteKey hive path) = ⊥
-IsMissing trees (DeleteTree hive path) = info_in trees hive (folded_path path) ≡ None
+abbrev pub KeyIsMissing : List TreeMap → Change → Type 0
+KeyIsMissing trees (SetValue hive path name datum) = ⊥
+KeyIsMissing trees (CreateKey hive path) = ⊥
+KeyIsMissing trees (DeleteValue hive path name) = ⊥
+KeyIsMissing trees (DeleteKey hive path) = ⊥
+KeyIsMissing trees (DeleteTree hive path) = info_in trees hive (folded_path path) ≡ None
 
 -- edits are taken into a plan, one after the other
 abbrev pub TakesEdits : Planned → List Edit → Planned → Type 0
@@ -44,10 +44,10 @@ abbrev pub first_plan : List TreeMap → ℕ → ℕ → Planned
 first_plan trees aside moment = record { view = trees; ops = []; moment = moment; aside = aside }
 
 -- A change is planned on trees at a moment, with so many bytes set aside: its edits are taken.
-pub record IsPlanned (trees : List TreeMap) (aside moment : ℕ) (change : Change) (plan : Planned) : Type 0 where
-  pub there : IsMissing trees change → ⊥
+pub record ChangeIsPlanned (trees : List TreeMap) (aside moment : ℕ) (change : Change) (plan : Planned) : Type 0 where
+  pub there : KeyIsMissing trees change → ⊥
   pub taken : TakesEdits (first_plan trees aside moment) (edits_of change) plan
 
 -- Why it isn't: memory is lacking, the key to be deleted with all below it isn't there, or an edit isn't taken.
-abbrev pub IsDenied : List TreeMap → ℕ → ℕ → Change → Refusal → Type 0
-IsDenied trees aside moment change why = (why ≡ NoMemory) ⊎ (((why ≡ NotFound) × IsMissing trees change) ⊎ StopsEdits (first_plan trees aside moment) (edits_of change) why)
+abbrev pub ChangeIsDenied : List TreeMap → ℕ → ℕ → Change → Refusal → Type 0
+ChangeIsDenied trees aside moment change why = (why ≡ NoMemory) ⊎ (((why ≡ NotFound) × KeyIsMissing trees change) ⊎ StopsEdits (first_plan trees aside moment) (edits_of change) why)

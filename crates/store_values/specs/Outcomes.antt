@@ -13,19 +13,19 @@ use Rattle.store_change.specs.Commits.{Commits, FailsToCommit, KeepsAccepted}
 use Rattle.store_change.specs.Reports.{AllOrNothing, ChangesStore, report_text}
 use Rattle.store_values.specs.declared.change.Change.{Change}
 use Rattle.store_values.specs.declared.change_result.ChangeResult.{ChangeResult}
-use Rattle.store_values.specs.Changes.{IsDenied, IsPlanned}
+use Rattle.store_values.specs.Changes.{ChangeIsDenied, ChangeIsPlanned}
 
 -- How it ends: the operations that are planned are committed as one change of this number, for some unit of work. Or it
 -- is refused: it can't be planned, and nothing is accepted; or its commit is refused, for this reason.
 abbrev pub EndsChange : ℕ → Change → Machine → Result ℕ Refusal → Machine → Type 0
-EndsChange moment change old (Ok number) new = (plan : Planned) × (id : List ℕ) × IsPlanned (named_trees old) (outcome_bytes old) moment change plan × Commits old id moment plan.ops number new
+EndsChange moment change old (Ok number) new = (plan : Planned) × (id : List ℕ) × ChangeIsPlanned (named_trees old) (outcome_bytes old) moment change plan × Commits old id moment plan.ops number new
 EndsChange moment change old (Err why) new =
-    (KeepsAccepted old new × IsDenied (named_trees old) (outcome_bytes old) moment change why)
-    ⊎ ((plan : Planned) × (id : List ℕ) × IsPlanned (named_trees old) (outcome_bytes old) moment change plan × FailsToCommit old id moment plan.ops why new)
+    (KeepsAccepted old new × ChangeIsDenied (named_trees old) (outcome_bytes old) moment change why)
+    ⊎ ((plan : Planned) × (id : List ℕ) × ChangeIsPlanned (named_trees old) (outcome_bytes old) moment change plan × FailsToCommit old id moment plan.ops why new)
 
 -- the operations that a change asks for are those of a plan of it, for any unit of work
 abbrev pub AsksPlanned : ℕ → Change → Machine → List ℕ → List Op → Type 0
-AsksPlanned moment change old id ops = (plan : Planned) × IsPlanned (named_trees old) (outcome_bytes old) moment change plan × (ops ≡ plan.ops)
+AsksPlanned moment change old id ops = (plan : Planned) × ChangeIsPlanned (named_trees old) (outcome_bytes old) moment change plan × (ops ≡ plan.ops)
 
 -- whether the change was committed
 abbrev pub is_committed : Result ℕ Refusal → Bool

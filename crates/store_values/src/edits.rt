@@ -4,7 +4,7 @@ ghost use Rattle.refusals.specs.declared.refusal.Refusal.TheVariants.{NoMemory};
 ghost use Rattle.store_model.specs.declared.room.TheConstants.{MOST_OUTCOME_BYTES};
 ghost use Rattle.change_plan.specs.declared.edit.Edit.TheVariants.{Operation};
 ghost use Rattle.change_plan.specs.Plans.{NotTaken, TakesEdit};
-ghost use Rattle.store_values.specs.Changes.{IsDenied, IsPlanned, StopsEdits, TakesEdits, edits_of};
+ghost use Rattle.store_values.specs.Changes.{ChangeIsDenied, ChangeIsPlanned, StopsEdits, TakesEdits, edits_of};
 ghost use Rattle.store_values.specs.declared.change.Change.TheVariants as asked;
 
 use crate::change::Change;
@@ -26,8 +26,8 @@ pub(crate) fn planned(
     change: Change,
 ) -> Result<Plan, Refusal>
     requires few { aside ≤ MOST_OUTCOME_BYTES }
-    ensures planned { IfOk result (IsPlanned trees aside moment change) }
-    ensures denied { IfErr result (IsDenied trees aside moment change) }
+    ensures planned { IfOk result (ChangeIsPlanned trees aside moment change) }
+    ensures denied { IfErr result (ChangeIsDenied trees aside moment change) }
 {
     match change {
         Change::SetValue {

@@ -4,7 +4,7 @@ ghost use Rattle.std.specs.Io.KnownBytes.{Appends};
 ghost use Rattle.disk_model.specs.ReadOnly.{OnlySyncs};
 ghost use Rattle.recovery.specs.Recovered.{seen_in};
 ghost use Rattle.recovery.specs.Shown.{store_of};
-ghost use Rattle.store_values.specs.Answers.{AnswersOrNot, PrintsAnswer, Reports, key_answer, value_answer, value_text};
+ghost use Rattle.store_values.specs.Answers.{AnswersOrNot, PrintsAnswer, ReportsAnswer, key_answer, value_answer, value_text};
 
 use crate::key_lines::{write_datum_line, write_subkeys, write_values};
 use crate::reply::print_refusal;
@@ -32,7 +32,7 @@ pub fn get_value<D: Disk, W: Write>(
     form: ValueForm,
     writer: &mut W,
 ) -> (D, io::Result<Status>)
-    ensures reports { IfOk result.1 (Reports (D.failures disk < D.failures result.0)
+    ensures reports { IfOk result.1 (ReportsAnswer (D.failures disk < D.failures result.0)
         (D.faithful result.0) (seen_in (D.state_at disk (D.clock disk)))
         (value_answer form hive path.now name.now) (W.contents writer.old) (W.contents writer.new)) }
     ensures synced { D.faithful result.0 → OnlySyncs (D.state_at disk) (D.state_at result.0)
@@ -58,7 +58,7 @@ pub fn list_key<D: Disk, W: Write>(
     path: &Path,
     writer: &mut W,
 ) -> (D, io::Result<Status>)
-    ensures reports { IfOk result.1 (Reports (D.failures disk < D.failures result.0)
+    ensures reports { IfOk result.1 (ReportsAnswer (D.failures disk < D.failures result.0)
         (D.faithful result.0) (seen_in (D.state_at disk (D.clock disk)))
         (key_answer hive path.now) (W.contents writer.old) (W.contents writer.new)) }
     ensures synced { D.faithful result.0 → OnlySyncs (D.state_at disk) (D.state_at result.0)

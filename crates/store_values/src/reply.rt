@@ -1,7 +1,7 @@
 //! The line of a refusal, and that of an end.
 ghost use Rattle.std.specs.Prelude.{◌≡◌, IfOk, None, OnOk};
 ghost use Rattle.std.specs.Io.KnownBytes.{Appends};
-ghost use Rattle.store_values.specs.Answers.{PrintsRefusal};
+ghost use Rattle.reply_lines.specs.PrintedRefusals.{PrintsRefusal};
 ghost use Rattle.store_values.specs.Outcomes.{PrintsOutcome, outcome_line, report_told, told_of};
 
 use crate::change_result::ChangeResult;

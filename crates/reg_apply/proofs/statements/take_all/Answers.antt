@@ -1,7 +1,7 @@
 use Rattle.std.proofs.Common.{◌++◌, Option, refl, sym, ◌∙◌, ap, subst}
 use Rattle.std.specs.Vec.Iter.{into_iter_items}
 use Rattle.reg_apply.specs.declared.place.Place.{Place}
-use Rattle.reg_apply.specs.Statements.{Denies, TakesStatement}
+use Rattle.reg_apply.specs.Statements.{DeniesStatement, TakesStatement}
 use Rattle.reg_apply.proofs.Taken.{one_more, parted}
 use Rattle.reg_apply.proofs.statements.take_all.Goals as goal
 
@@ -22,5 +22,5 @@ returns-in-Err-clause-stopped c = record {
   all = sym c.into_iter-numbered-iterator.ensures.into_iter_gives.0 ∙ c.loop-numbered.invariant.0 ∙ ap (λ xs. c.loop-numbered.yielded ++ xs) c.in-Some.ensures.steps.0;
   takes = c.loop-numbered.invariant.1;
   number = refl;
-  denied = subst (λ (current : Option Place). Denies c.args.prefixes.now c.args.hives current c.loop-numbered.plan c.in-Some.numbered.statement c.in-Err.denial) c.as_ref.ensures.value c.in-Err.ensures.denied;
+  denied = subst (λ (current : Option Place). DeniesStatement c.args.prefixes.now c.args.hives current c.loop-numbered.plan c.in-Some.numbered.statement c.in-Err.denial) c.as_ref.ensures.value c.in-Err.ensures.denied;
 }
