@@ -10,7 +10,7 @@ use Rattle.refusals.specs.declared.refusal.Refusal.{Refusal}
 use Rattle.refusals.specs.declared.refusal.Refusal.TheVariants.{DiskFault, NoMemory}
 use Rattle.commit_journal.specs.Store.{Store}
 use Rattle.store_driver.specs.Openings.{IsOpenedOn, MayNotOpen, session_0}
-use Rattle.crash_sweep.specs.Findings.{CrashGivesFinding, Opens, FindingIsRight}
+use Rattle.crash_sweep.specs.Findings.{CrashGivesFinding, FilesRecoverNumber, FindingIsRight}
 use Rattle.crash_sweep.specs.declared.finding.NumberRange.{NumberRange}
 use Rattle.crash_sweep.specs.declared.finding.Finding.{Finding}
 use Rattle.crash_sweep.specs.declared.finding.Finding.TheVariants.{Nothing}
@@ -21,7 +21,7 @@ AreLeft tear state left = (f : ℕ) → IsCrashOf tear (state f) (left f)
 
 -- a finding for a store that opened at a number
 pub found_open : (tear : Tear) (bounds : NumberRange) (state left : ℕ → FileState) (store : Store) (number : ℕ) (machine : Machine) (finding : Finding) → AreLeft tear state left
-    → IsOpenedOn (Unit {0}) (seen_in left) store number session_0 machine → ((files : ℕ → List ℕ) → Opens files number → FindingIsRight bounds files finding) → CrashGivesFinding tear bounds state finding
+    → IsOpenedOn (Unit {0}) (seen_in left) store number session_0 machine → ((files : ℕ → List ℕ) → FilesRecoverNumber files number → FindingIsRight bounds files finding) → CrashGivesFinding tear bounds state finding
 found_open tear bounds state left store number machine finding by opened tells = (left, by, tells (seen_in left) (store, opened.trees, opened.recovered tt))
 
 -- why nothing opens, if memory was not lacking

@@ -12,14 +12,14 @@ use Rattle.crash_sweep.specs.declared.finding.Finding.{Finding}
 use Rattle.crash_sweep.specs.declared.finding.Finding.TheVariants.{Within, Outside, OtherTrees, Nothing}
 
 -- files recover this number
-abbrev pub Opens : (ℕ → List ℕ) → ℕ → Type 0
-Opens files number = (store : Store) × (trees : List TreeMap) × IsRecovered files store number trees
+abbrev pub FilesRecoverNumber : (ℕ → List ℕ) → ℕ → Type 0
+FilesRecoverNumber files number = (store : Store) × (trees : List TreeMap) × IsRecovered files store number trees
 
 -- a finding says which number files recover, and whether that is within bounds; or why they recover nothing
 abbrev pub FindingIsRight : NumberRange → (ℕ → List ℕ) → Finding → Type 0
-FindingIsRight bounds files (Within number) = Opens files number × (bounds.low ≤ number) × (number ≤ bounds.high)
-FindingIsRight bounds files (Outside number) = Opens files number × ((number < bounds.low) ⊎ (bounds.high < number))
-FindingIsRight bounds files (OtherTrees number) = Opens files number × (bounds.low ≤ number) × (number ≤ bounds.high)
+FindingIsRight bounds files (Within number) = FilesRecoverNumber files number × (bounds.low ≤ number) × (number ≤ bounds.high)
+FindingIsRight bounds files (Outside number) = FilesRecoverNumber files number × ((number < bounds.low) ⊎ (bounds.high < number))
+FindingIsRight bounds files (OtherTrees number) = FilesRecoverNumber files number × (bounds.low ≤ number) × (number ≤ bounds.high)
 FindingIsRight bounds files (Nothing why) = (why ≡ DiskFault) ⊎ IsNoStore (Unit {0}) files why
 
 -- a power cut with this tear, of files in these states, leaves files for which a finding is right

@@ -2,7 +2,7 @@
 ghost use Rattle.std.specs.Prelude.{◌≡◌, ◌≢◌, ℕ, List, IfOk};
 ghost use Rattle.refusals.specs.declared.refusal.Refusal.TheVariants.{NoMemory};
 ghost use Rattle.disk_model.specs.declared.tear.Tear.TheVariants.{Old, New, Torn};
-ghost use Rattle.crash_sweep.specs.Findings.{CrashGivesFinding, Opens, FindingIsRight};
+ghost use Rattle.crash_sweep.specs.Findings.{CrashGivesFinding, FilesRecoverNumber, FindingIsRight};
 
 use crate::history::TreeHistory;
 use crate::watched_disk::FileChange;
@@ -124,7 +124,7 @@ fn opening_behind(
 
 // what is found if files recover this number and these trees
 fn finding_of(number: u64, trees: &Trees, history: &TreeHistory, bounds: NumberRange) -> Finding
-    ensures { (files : ℕ → List ℕ) → Opens files number → FindingIsRight bounds files result }
+    ensures { (files : ℕ → List ℕ) → FilesRecoverNumber files number → FindingIsRight bounds files result }
 {
     if number < bounds.low {
         return Finding::Outside { number };
