@@ -5,6 +5,8 @@ and its sync, the first sector and its sync, a write for each page and their syn
 stopped and whatever is torn, the store opens with all of the values. What the hive's own files hold then shows in whether it has
 something to flush: up to the log's sync they hold the old values, for which the journal makes up; from the first sector's sync on the
 new ones; and between the two what is left of that sector decides.
+
+The same values at the same moment make no page dirty. Their flush has four calls: the log and its sync, the first sector and its sync.
 """
 import os
 import sys
@@ -12,7 +14,6 @@ import sys
 sys.path.insert(0, os.path.join(os.path.dirname(os.path.dirname(os.path.abspath(__file__))), "tests"))
 from transcript import write  # noqa: E402
 
-CALLS = 10
 BEFORE, AFTER = 0x11, 0x22
 NAMES = "ABC"
 
@@ -38,23 +39,28 @@ FLUSHED = [
     *writes(AFTER, 7),
     ("flush", "flushed 9"),
 ]
-OPENED = "\n".join(["opened 9", "hive 0", "key 0: 0", *[f"val {name} 3 {data(AFTER)}" for name in NAMES]])
+# the same values again
+UNCHANGED = [("fall 0", "done"), *writes(AFTER, 10), ("flush", "flushed 12")]
 
 
-def run(title, steps, status):
-    """A run over a hive that is flushed."""
-    write(title, [*FLUSHED, *steps], status)
+def opened(number):
+    """What an opening tells at a number."""
+    return "\n".join([f"opened {number}", "hive 0", "key 0: 0", *[f"val {name} 3 {data(AFTER)}" for name in NAMES]])
+
+
+def stopped(title, before, calls, number):
+    """Runs over a hive whose flush has so many calls, the third of which writes the first sector."""
+    steps = [("fstep 0", "more")] * (calls - 1) + [("fstep 0", "done"), ("fstep 0", "idle")]
+    write(title, [*before, *steps], 0)
+    for tear in ["old", "new", "torn"]:
+        # the fourth call, which stops, was to sync the sector
+        first_flushed = 5 if tear == "old" else 3
+        for call in range(1, calls + 1):
+            stop = [(f"stop {call}", "ok"), ("fall 0", "E13 DiskFault"), ("fstep 0", "E14 Faulted")]
+            left = ("fall 0", "idle" if call >= first_flushed else "done")
+            write(f"{title}: stopped at its call {call}; crash {tear}", [*before, *stop, (f"crash {tear}", opened(number)), left], 1)
 
 
 print("# A hive's flush in the laboratory, stopped at each of its calls.\n\ncommand: lab\n")
-
-STEPS = [("fstep 0", "more")] * (CALLS - 1) + [("fstep 0", "done"), ("fstep 0", "idle")]
-run("a flush of three single pages has ten calls", STEPS, 0)
-
-for tear in ["old", "new", "torn"]:
-    # the third call writes the first sector, and the fourth, which stops, was to sync it
-    first_flushed = 5 if tear == "old" else 3
-    for call in range(1, CALLS + 1):
-        stop = [(f"stop {call}", "ok"), ("fall 0", "E13 DiskFault"), ("fstep 0", "E14 Faulted")]
-        left = ("fall 0", "idle" if call >= first_flushed else "done")
-        run(f"stopped at its call {call}; crash {tear}", [*stop, (f"crash {tear}", OPENED), left], 1)
+stopped("a flush of three single pages", FLUSHED, 10, 9)
+stopped("a flush that changes no page", [*FLUSHED, *UNCHANGED], 4, 12)

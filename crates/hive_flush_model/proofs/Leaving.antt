@@ -181,17 +181,21 @@ module _ {T : Type 0} (decode : TreeDecoder T) (h : FlushState T) (p l : FileSta
       holds_repaired decode h.memory h.image h.pages h.plan c d on.ready (pages_unclean h.image h.pages p c on.pages left) (omega (arith, on.pages.sector, left.no_shorter))
       (pages_behind h.image h.pages p c (whole_pages decode h.memory h.image h.pages h.plan on.ready) on.pages left) (left_log h.plan.encoding l d on.encoding log)
 
-  paged_holds : ArePagesSynced decode h p l → FilesHoldTree decode c d h.memory
-  paged_holds on =
+  -- a wrong sum of the last sector: the log decides
+  paged_fixed : (purpose : Purpose) → ArePagesSynced decode h purpose p l → is_clean_file c ≡ false → FilesHoldTree decode c d h.memory
+  paged_fixed purpose on unclean =
       let beside = left_beside p.synced h.plan.final c p on.ready.final_long on.sector left in
-      let fixed : is_clean_file c ≡ false → FilesHoldTree decode c d h.memory = λ unclean.
       holds_repaired decode h.memory h.image h.pages h.plan c d on.ready unclean
-      (omega (arith, beside.size, shows_long decode h.memory h.image h.pages h.plan on.ready p.synced on.shows)) (beside_behind h.image h.pages p.synced c beside (shows_behind h.image h.pages p.synced on.ready.size on.shows)) (left_log h.plan.encoding l d on.encoding log) in
+      (omega (arith, beside.size, shows_long decode h.memory h.image h.pages h.plan on.ready p.synced on.shows)) (beside_behind h.image h.pages p.synced c beside (shows_behind h.image h.pages p.synced on.ready.size on.shows)) (left_log h.plan.encoding l d on.encoding log)
+
+  paged_holds : (purpose : Purpose) → ArePagesSynced decode h purpose p l → (c ≡ p.synced) ⊎ FilesHoldTree decode c d h.memory
+  paged_holds purpose on =
+      let beside = left_beside p.synced h.plan.final c p on.ready.final_long on.sector left in
       elim (three p.synced h.plan.final c p on.ready.final_long on.sector left honest) [
-        | inl old ↦ fixed (ap is_clean_file old ∙ on.unclean)
+        | inl old ↦ inl old
         | inr z ↦ elim z [
-          | inl new ↦ holds_clean decode c d h.memory (clean_of decode h.memory h.image h.pages h.plan on.ready c (beside_shows h.image p.synced c beside on.shows) new)
-          | inr wrong ↦ fixed (wrong_unclean c wrong)
+          | inl new ↦ inr (holds_clean decode c d h.memory (clean_of decode h.memory h.image h.pages h.plan on.ready c (beside_shows h.image p.synced c beside on.shows) new))
+          | inr wrong ↦ inr (paged_fixed purpose on (wrong_unclean c wrong))
         ]
       ]
     where
@@ -208,6 +212,21 @@ by_purpose : {T : Type 0} (decode : TreeDecoder T) (purpose : Purpose) (now memo
 by_purpose decode Flush now memory c d h = either decode now memory c d (inr h)
 by_purpose decode Repair now memory c d h = (memory, inl refl, h)
 
+-- what is there before the last sector, or what is in memory
+paged_in : {T : Type 0} (decode : TreeDecoder T) (purpose : Purpose) (h : FlushState T) (p l : FileState) (c d : List ℕ) → Leaves p c → IsHonest p c → Leaves l d → ArePagesSynced decode h purpose p l
+    → (x : T × ℕ) × promises.Leaves (choice_for purpose h.now h.memory) x × FilesHoldTree decode c d x
+paged_in decode Flush h p l c d left honest log on = elim (paged_holds decode h p l c d left honest log Flush on) [
+  | inl old ↦ either decode h.now h.memory c d (elim on.before [
+    | inl unclean ↦ inr (paged_fixed decode h p l c d left honest log Flush on (ap is_clean_file old ∙ unclean))
+    | inr clean ↦ inl (holds_clean decode c d h.now (subst (λ (xs : List ℕ). CleanPrimaryHolds decode xs h.now) (sym old) clean))
+  ])
+  | inr new ↦ either decode h.now h.memory c d (inr new)
+]
+paged_in decode Repair h p l c d left honest log on = elim (paged_holds decode h p l c d left honest log Repair on) [
+  | inl old ↦ (h.memory, inl refl, paged_fixed decode h p l c d left honest log Repair on (ap is_clean_file old ∙ on.before))
+  | inr new ↦ (h.memory, inl refl, new)
+]
+
 pub leaves_in : {T : Type 0} (decode : TreeDecoder T) (h : FlushState T) (phase : FlushPhase) (p l : FileState) → files_match_phase decode h phase p l
     → HiveOn (FilesHoldTree decode) (choice_in phase h.now h.memory) (λ c. Leaves p c × IsHonest p c) (Leaves l)
 leaves_in decode h AtRest p l on c d pc ld = (h.now, inl refl, quiet_holds decode h p l c d pc.0 pc.1 ld on)
@@ -215,5 +234,5 @@ leaves_in decode h (WritingLog n) p l on c d pc ld = either decode h.now h.memor
 leaves_in decode h LogSynced p l on c d pc ld = either decode h.now h.memory c d (logged_holds decode h p l c d pc.0 pc.1 ld on)
 leaves_in decode h PrimaryMarkedDirty p l on c d pc ld = either decode h.now h.memory c d (logged_holds decode h p l c d pc.0 pc.1 ld on.logged)
 leaves_in decode h (WritingPages purpose n) p l on c d pc ld = by_purpose decode purpose h.now h.memory c d (paging_holds decode h p l c d pc.0 pc.1 ld n on)
-leaves_in decode h (PagesSynced purpose) p l on c d pc ld = by_purpose decode purpose h.now h.memory c d (paged_holds decode h p l c d pc.0 pc.1 ld on)
-leaves_in decode h (HeaderWritten purpose) p l on c d pc ld = by_purpose decode purpose h.now h.memory c d (paged_holds decode h p l c d pc.0 pc.1 ld on.paged)
+leaves_in decode h (PagesSynced purpose) p l on c d pc ld = paged_in decode purpose h p l c d pc.0 pc.1 ld on
+leaves_in decode h (HeaderWritten purpose) p l on c d pc ld = paged_in decode purpose h p l c d pc.0 pc.1 ld on.paged

@@ -10,8 +10,8 @@ use Rattle.disk_model.proofs.Leaves.{length-put_within}
 use Rattle.dirty_vector.specs.Pages.{Pages}
 use Rattle.dirt_log.specs.FileContents.{is_clean_file}
 use Rattle.hive_flush_model.specs.StoredTrees.{TreeDecoder}
-use Rattle.hive_flush_model.specs.Phases.{FlushState}
-use Rattle.hive_flush_model.specs.States.{IsSectorOnWay, ArePagesOnWay, Shows, LogHas, HasLog, IsAtRest, IsWritingLog, IsLogSynced, IsPrimaryMarkedDirty, IsWritingPages, ArePagesSynced, IsHeaderWritten}
+use Rattle.hive_flush_model.specs.Phases.{Purpose, Purpose.Flush, Purpose.Repair, FlushState}
+use Rattle.hive_flush_model.specs.States.{IsBeforeHeader, IsSectorOnWay, ArePagesOnWay, Shows, LogHas, HasLog, IsAtRest, IsWritingLog, IsLogSynced, IsPrimaryMarkedDirty, IsWritingPages, ArePagesSynced, IsHeaderWritten}
 use Rattle.dirty_vector.specs.Changes.{ChangesAreMarked}
 use Rattle.hive_flush_model.specs.Plans.{IsBehind, PlanFitsImage, AreClean, AreDirty}
 use Rattle.hive_flush_model.proofs.StoredTrees.{clean_long, sector_unclean}
@@ -105,6 +105,23 @@ module _ {T : Type 0} (decode : TreeDecoder T) (w : FlushState T) where
         sector = subst (λ (s : FileState). IsSectorOnWay p.synced w.plan.raised s) (sym on.quiet.rest) (sector_at_rest p.synced w.plan.raised);
         clean = on.quiet.clean;
         behind = on.quiet.behind;
+        encoding = record { rest = refl; front = on.encoding.front ∙ take_all (length w.plan.encoding) w.plan.encoding (omega arith) };
+      })
+
+  -- no page is dirty: the image is in the file, and the last sector is next
+  pub log_synced_alone : (p l new : FileState) → IsWritingLog decode w (length w.plan.encoding) p l → AreClean w.pages 0 (length w.image) → Syncs l new → ArePagesSynced decode w Flush p new
+  log_synced_alone p l new on clean done = subst (λ (s : FileState). ArePagesSynced decode w Flush p s) (sym done)
+      (record {
+        ready = on.ready;
+        sector = subst (λ (s : FileState). IsSectorOnWay p.synced w.plan.final s) (sym on.quiet.rest) (sector_at_rest p.synced w.plan.final);
+        before = inr on.quiet.clean;
+        shows = λ i lt.
+            let whole = whole_pages decode w.memory w.image w.pages w.plan on.ready in
+            let inside : i < w.pages.bins_size = omega (arith, lt, on.ready.size) in
+            let off = clean i (omega arith) lt in (
+              omega (arith, on.quiet.behind.covered (i / 512) (omega (arith, inside, whole)) off, length-drop 4096 p.synced),
+              sym (get_or-drop 4096 p.synced i 0) ∙ on.quiet.behind.same i inside off,
+            );
         encoding = record { rest = refl; front = on.encoding.front ∙ take_all (length w.plan.encoding) w.plan.encoding (omega arith) };
       })
 
@@ -218,38 +235,42 @@ module _ {T : Type 0} (decode : TreeDecoder T) (w : FlushState T) where
         encoding = on.encoding;
       })
 
-  pub pages_synced : (n : ℕ) (p l new : FileState) → IsSound p → IsWritingPages decode w n p l → AreClean w.pages n (length w.image) → Syncs p new → ArePagesSynced decode w new l
-  pages_synced n p l new sound on clean done = subst (λ (s : FileState). ArePagesSynced decode w s l) (sym done)
+  unclean_before : (purpose : Purpose) (primary : List ℕ) → is_clean_file primary ≡ false → IsBeforeHeader decode purpose w.now primary
+  unclean_before Flush primary unclean = inl unclean
+  unclean_before Repair primary unclean = unclean
+
+  pub pages_synced : (n : ℕ) (purpose : Purpose) (p l new : FileState) → IsSound p → IsWritingPages decode w n p l → AreClean w.pages n (length w.image) → Syncs p new → ArePagesSynced decode w purpose new l
+  pages_synced n purpose p l new sound on clean done = subst (λ (s : FileState). ArePagesSynced decode w purpose s l) (sym done)
       (record {
         ready = on.ready;
         sector = sector_at_rest p.seen w.plan.final;
-        unclean = pages_unclean w.image w.pages p p.seen on.pages sound.left;
+        before = unclean_before purpose p.seen (pages_unclean w.image w.pages p p.seen on.pages sound.left);
         shows = shows_clean n (length w.image) p on.ready sound on.pages (omega arith) clean on.shows;
         encoding = on.encoding;
       })
 
   -- ---- the last sector
 
-  final_stays : (p l : FileState) (seen : List ℕ) → IsSound p → ArePagesSynced decode w p l → ArePagesSynced decode w (after_write p 0 w.plan.final seen) l
-  final_stays p l seen sound on = record {
+  final_stays : (purpose : Purpose) (p l : FileState) (seen : List ℕ) → IsSound p → ArePagesSynced decode w purpose p l → ArePagesSynced decode w purpose (after_write p 0 w.plan.final seen) l
+  final_stays purpose p l seen sound on = record {
     ready = on.ready;
     sector = sector_stays p.synced w.plan.final seen p on.ready.final_long (omega (arith, shows_long decode w.memory w.image w.pages w.plan on.ready p.synced on.shows)) sound on.sector;
-    unclean = on.unclean;
+    before = on.before;
     shows = on.shows;
     encoding = on.encoding;
   }
 
-  pub final_written : (p l new : FileState) → IsSound p → ArePagesSynced decode w p l → Writes 0 w.plan.final p new → IsHeaderWritten decode w new l
-  final_written p l new sound on done = subst (λ (s : FileState). IsHeaderWritten decode w s l) (sym done)
-      (record { paged = final_stays p l (put p.seen 0 w.plan.final) sound on; shown = put_sector p.seen w.plan.final on.ready.final_long })
+  pub final_written : (purpose : Purpose) (p l new : FileState) → IsSound p → ArePagesSynced decode w purpose p l → Writes 0 w.plan.final p new → IsHeaderWritten decode w purpose new l
+  final_written purpose p l new sound on done = subst (λ (s : FileState). IsHeaderWritten decode w purpose s l) (sym done)
+      (record { paged = final_stays purpose p l (put p.seen 0 w.plan.final) sound on; shown = put_sector p.seen w.plan.final on.ready.final_long })
 
-  pub final_failed : (p l new : FileState) → IsSound p → ArePagesSynced decode w p l → MayWrite 0 w.plan.final p new → ArePagesSynced decode w new l
-  final_failed p l new sound on (inl same) = subst (λ (s : FileState). ArePagesSynced decode w s l) (sym same) on
-  final_failed p l new sound on (inr part) = subst (λ (s : FileState). ArePagesSynced decode w s l) (sym part.2) (final_stays p l part.0 sound on)
+  pub final_failed : (purpose : Purpose) (p l new : FileState) → IsSound p → ArePagesSynced decode w purpose p l → MayWrite 0 w.plan.final p new → ArePagesSynced decode w purpose new l
+  final_failed purpose p l new sound on (inl same) = subst (λ (s : FileState). ArePagesSynced decode w purpose s l) (sym same) on
+  final_failed purpose p l new sound on (inr part) = subst (λ (s : FileState). ArePagesSynced decode w purpose s l) (sym part.2) (final_stays purpose p l part.0 sound on)
 
-  pub final_synced : (v : Pages) (p l new : FileState) → IsSound p → IsHeaderWritten decode w p l → v.bins_size ≡ length w.image → Syncs p new
+  pub final_synced : (v : Pages) (purpose : Purpose) (p l new : FileState) → IsSound p → IsHeaderWritten decode w purpose p l → v.bins_size ≡ length w.image → Syncs p new
       → IsAtRest decode (record w { now = w.memory; pages = v }) new
-  final_synced v p l new sound on size done =
+  final_synced v purpose p l new sound on size done =
       let beside = left_beside p.synced w.plan.final p.seen p on.paged.ready.final_long on.paged.sector sound.left in
       let shows : Shows w.image (length w.image) p.seen = λ i lt. (omega (arith, (on.paged.shows i lt).0, beside.size), beside.rest (4096 + i) (omega arith) ∙ (on.paged.shows i lt).1) in
       subst (λ (s : FileState). IsAtRest decode (record w { now = w.memory; pages = v }) s) (sym done)

@@ -11,7 +11,7 @@ pub data Purpose : Type 0 where
 
 -- Each phase but the first names what the last call that was done has done. A number of bytes of the log is written;
 -- the log is synced. The raised sector is written; it is synced, and a number of bytes of the image is in the file. The
--- pages are synced; the last sector is written.
+-- pages are synced, or a flush that changes none has synced its log; the last sector is written.
 pub data FlushPhase : Type 0 where
   AtRest : FlushPhase
   WritingLog : ℕ → FlushPhase

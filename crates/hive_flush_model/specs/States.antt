@@ -1,12 +1,12 @@
 -- What each phase of a flush or a repair says of the states of the two files on the disk.
-use Rattle.std.specs.Prelude.{◌≡◌, ⊤, ℕ, ◌+◌, ◌-◌, ◌/◌, ◌<◌, ◌≤◌, true, false, List, [], ◌∷◌, length, take, drop, slice_index}
+use Rattle.std.specs.Prelude.{◌≡◌, ◌⊎◌, ⊤, ℕ, ◌+◌, ◌-◌, ◌/◌, ◌<◌, ◌≤◌, true, false, List, [], ◌∷◌, length, take, drop, slice_index}
 use Rattle.disk_model.specs.FileState.{FileState, WrittenRange, Covers, at_rest}
 use Rattle.dirty_vector.specs.Pages.{Pages, is_dirty}
 use Rattle.dirt_log.specs.WholeLog.{IsCovered}
 use Rattle.dirt_log.specs.FileContents.{is_clean_file, SameWhereClean}
 use Rattle.hive_flush_model.specs.StoredTrees.{TreeDecoder, CleanPrimaryHolds}
 use Rattle.hive_flush_model.specs.Plans.{IsBehind, PlanFitsImage}
-use Rattle.hive_flush_model.specs.Phases.{FlushState, Hive, FlushPhase, FlushPhase.AtRest, FlushPhase.WritingLog, FlushPhase.LogSynced, FlushPhase.PrimaryMarkedDirty, FlushPhase.WritingPages, FlushPhase.PagesSynced, FlushPhase.HeaderWritten}
+use Rattle.hive_flush_model.specs.Phases.{Purpose, Purpose.Flush, Purpose.Repair, FlushState, Hive, FlushPhase, FlushPhase.AtRest, FlushPhase.WritingLog, FlushPhase.LogSynced, FlushPhase.PrimaryMarkedDirty, FlushPhase.WritingPages, FlushPhase.PagesSynced, FlushPhase.HeaderWritten}
 
 -- each range is this sector at the file's beginning
 abbrev pub AreAll : List ℕ → List WrittenRange → Type 0
@@ -87,17 +87,22 @@ pub record IsWritingPages {T : Type 0} (decode : TreeDecoder T) (work : FlushSta
   pub shows : Shows work.image n primary.seen
   pub encoding : HasLog work.plan.encoding log
 
+-- What was synced before the last sector is unclean. But a flush that changes no page leaves what was durable.
+abbrev pub IsBeforeHeader : {T : Type 0} → TreeDecoder T → Purpose → T × ℕ → List ℕ → Type 0
+IsBeforeHeader decode Flush now primary = (is_clean_file primary ≡ false) ⊎ CleanPrimaryHolds decode primary now
+IsBeforeHeader decode Repair now primary = is_clean_file primary ≡ false
+
 -- the whole image is synced; the last sector may be on its way
-pub record ArePagesSynced {T : Type 0} (decode : TreeDecoder T) (work : FlushState T) (primary log : FileState) : Type 0 where
+pub record ArePagesSynced {T : Type 0} (decode : TreeDecoder T) (work : FlushState T) (purpose : Purpose) (primary log : FileState) : Type 0 where
   pub ready : PlanFitsImage decode work.memory work.image work.pages work.plan
   pub sector : IsSectorOnWay primary.synced work.plan.final primary
-  pub unclean : is_clean_file primary.synced ≡ false
+  pub before : IsBeforeHeader decode purpose work.now primary.synced
   pub shows : Shows work.image (length work.image) primary.synced
   pub encoding : HasLog work.plan.encoding log
 
 -- the same, and a read gives the last sector
-pub record IsHeaderWritten {T : Type 0} (decode : TreeDecoder T) (work : FlushState T) (primary log : FileState) : Type 0 where
-  pub paged : ArePagesSynced decode work primary log
+pub record IsHeaderWritten {T : Type 0} (decode : TreeDecoder T) (work : FlushState T) (purpose : Purpose) (primary log : FileState) : Type 0 where
+  pub paged : ArePagesSynced decode work purpose primary log
   pub shown : take 512 primary.seen ≡ work.plan.final
 
 -- the two files are as a phase says
@@ -107,8 +112,8 @@ files_match_phase decode work (WritingLog n) primary log = IsWritingLog decode w
 files_match_phase decode work LogSynced primary log = IsLogSynced decode work primary log
 files_match_phase decode work PrimaryMarkedDirty primary log = IsPrimaryMarkedDirty decode work primary log
 files_match_phase decode work (WritingPages cause n) primary log = IsWritingPages decode work n primary log
-files_match_phase decode work (PagesSynced cause) primary log = ArePagesSynced decode work primary log
-files_match_phase decode work (HeaderWritten cause) primary log = IsHeaderWritten decode work primary log
+files_match_phase decode work (PagesSynced purpose) primary log = ArePagesSynced decode work purpose primary log
+files_match_phase decode work (HeaderWritten purpose) primary log = IsHeaderWritten decode work purpose primary log
 
 -- the primary file and the log are as the hive's phase says
 abbrev pub is_on : {T : Type 0} → TreeDecoder T → Hive T → FileState → FileState → Type 0

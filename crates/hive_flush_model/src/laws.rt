@@ -26,6 +26,7 @@ ghost use Rattle.dirty_vector.specs.Changes.{ChangesAreMarked};
 ghost use Rattle.hive_flush_model.specs.Plans.{marked_block, FlushPlan, PlanFitsImage, IsBehind, AreClean, AreDirty};
 ghost use Rattle.hive_flush_model.specs.Phases.{
   Purpose,
+  Purpose.Flush,
   Hive,
   FlushState,
   FlushPhase,
@@ -82,7 +83,8 @@ pub fn without_calls<T>()
         files_match_phase decode (record work { memory = memory; image = image; pages = pages }) AtRest p l }
 {}
 
-/// The calls on the log: a chunk is written after the last one, and the whole encoding is synced.
+/// The calls on the log: a chunk is written after the last one, and the whole encoding is synced. If no page is dirty,
+/// the last sector is next: the log repairs a torn one, and nothing else is to be written.
 pub fn log_calls<T>()
     ensures written { (decode : TreeDecoder T) (work : FlushState T) (n : ℕ) (chunk : List ℕ)
         (p l new : FileState) → files_match_phase decode work (WritingLog n) p l →
@@ -95,6 +97,10 @@ pub fn log_calls<T>()
     ensures synced { (decode : TreeDecoder T) (work : FlushState T) (p l new : FileState) →
         files_match_phase decode work (WritingLog (length work.plan.encoding)) p l →
         Syncs l new → files_match_phase decode work LogSynced p new }
+    ensures unchanged { (decode : TreeDecoder T) (work : FlushState T) (p l new : FileState) →
+        files_match_phase decode work (WritingLog (length work.plan.encoding)) p l →
+        AreClean work.pages 0 (length work.image) →
+        Syncs l new → files_match_phase decode work (PagesSynced Flush) p new }
 {}
 
 /// The calls on the first sector with the raised primary number. From its sync on the log decides.

@@ -1,5 +1,5 @@
 -- Calls as the code makes them, as the calls of a phase.
-use Rattle.std.proofs.Common.{◌≡◌, ℕ, zero, suc, Bool, ◌+◌, ◌-◌, ◌*◌, ◌/◌, ◌<◌, ◌≤◌, List, length, take, drop, arith, length-take, length-drop, sym, ap, ◌∙◌, subst}
+use Rattle.std.proofs.Common.{◌≡◌, ℕ, zero, suc, Bool, ◌+◌, ◌-◌, ◌*◌, ◌/◌, ◌%◌, ◌<◌, ◌≤◌, true, false, refl, List, length, take, drop, arith, length-take, length-drop, sym, ap, ◌∙◌, subst}
 use Rattle.std.specs.Prelude.{min, if◌then◌else◌}
 use Rattle.std.proofs.lemmas.Grind.{same_number_lists}
 use Rattle.std.proofs.lemmas.List.{get_or-take}
@@ -9,15 +9,16 @@ use Rattle.base_block.specs.declared.fields.SequenceNumber.{SequenceNumber}
 use Rattle.base_block.specs.Layout.{sector_of}
 use Rattle.base_block.specs.Numbers.{number_after}
 use Rattle.dirty_vector.specs.Marks.{marked_count}
-use Rattle.dirty_vector.specs.Pages.{Pages, is_dirty, NoneFrom, IsFirstRun}
+use Rattle.dirty_vector.specs.Pages.{Pages, is_dirty, dirty_count, NoneFrom, IsFirstRun}
 use Rattle.dirt_log.proofs.Replaced.{count_rises, dirty_counts}
 use Rattle.hive_flush_model.specs.StoredTrees.{TreeDecoder}
 use Rattle.hive_flush_model.specs.Plans.{AreClean, AreDirty}
-use Rattle.hive_flush_model.specs.Phases.{FlushPhase, FlushState}
+use Rattle.hive_flush_model.specs.Phases.{Purpose, Purpose.Flush, FlushPhase, FlushState}
 use Rattle.hive_flush_model.specs.States.{IsWritingLog, IsLogSynced, IsWritingPages, ArePagesSynced, files_match_phase}
-use Rattle.hive_flush_model.proofs.Moving.{log_written, log_failed, log_synced, page_written, page_failed, pages_synced}
+use Rattle.hive_flush_model.proofs.Moving.{log_written, log_failed, log_synced, log_synced_alone, page_written, page_failed, pages_synced}
 use Rattle.hive_flush_model.specs.Plans.{marked_block}
-use Rattle.hive_writer.specs.WriterSteps.{dirty_from}
+use Rattle.hive_flush_model.proofs.Leaving.{whole_pages}
+use Rattle.hive_writer.specs.WriterSteps.{calls_behind_log, dirty_from}
 
 -- the other file is as it was
 pub log_same : {T : Type 0} (decode : TreeDecoder T) (w : FlushState T) (phase : FlushPhase) (p old new : FileState) → new ≡ old → files_match_phase decode w phase p old → files_match_phase decode w phase p new
@@ -52,6 +53,18 @@ run_falls v from start end (suc page) run some le =
     let counted : marked_count (is_dirty v) (suc page) ≡ marked_count (is_dirty v) page + 1 = ap (λ (b : Bool). marked_count (is_dirty v) page + (if b then 1 else 0)) dirty in
     let there = dirty_counts v page dirty (omega (arith, le, run.within)) in
     omega (arith, counted, there, count_rises (is_dirty v) from page (omega (arith, run.after, some)))
+
+-- no page is counted: none is dirty up to the size
+none_counted : (v : Pages) → v.bins_size % 512 ≡ 0 → dirty_count v ≡ 0 → AreClean v 0 v.bins_size
+none_counted v whole none = λ i low high. by_page i high (is_dirty v (i / 512)) refl
+  where
+    by_page : (i : ℕ) → i < v.bins_size → (b : Bool) → is_dirty v (i / 512) ≡ b → is_dirty v (i / 512) ≡ false
+    by_page i high false e = e
+    by_page i high true e = absurd (omega (arith, none, dirty_counts v (i / 512) e (omega (arith, high, whole))))
+
+pub few_behind : (n : ℕ) → calls_behind_log n ≤ n + 5
+few_behind zero = omega arith
+few_behind (suc n) = omega arith
 
 -- ---- the log
 
@@ -97,6 +110,13 @@ module _ {T : Type 0} (decode : TreeDecoder T) (w : FlushState T) where
       let all : min (65536 * index) (length w.plan.encoding) ≡ length w.plan.encoding = omega (arith, le) in
       log_synced decode w p l new (subst (λ (n : ℕ). IsWritingLog decode w n p l) all on) done
 
+  pub alone_synced : (index : ℕ) (p l new : FileState) → length w.image ≡ w.pages.bins_size → dirty_count w.pages ≡ 0 → length w.plan.encoding ≤ 65536 * index
+      → IsWritingLog decode w (min (65536 * index) (length w.plan.encoding)) p l → Syncs l new → ArePagesSynced decode w Flush p new
+  alone_synced index p l new size none le on done =
+      let all : min (65536 * index) (length w.plan.encoding) ≡ length w.plan.encoding = omega (arith, le) in
+      let whole = whole_pages decode w.memory w.image w.pages w.plan on.ready in
+      log_synced_alone decode w p l new (subst (λ (n : ℕ). IsWritingLog decode w n p l) all on) (λ i low high. none_counted w.pages whole none i low (omega (arith, high, size))) done
+
   -- ---- the pages
 
   pub run_written : (from start end last : ℕ) (p l new : FileState) (bytes : List ℕ) → IsSound p → length w.image ≡ w.pages.bins_size → IsFirstRun w.pages from start end → start ≤ last → last ≤ end
@@ -119,5 +139,5 @@ module _ {T : Type 0} (decode : TreeDecoder T) (w : FlushState T) where
       let dirty : AreDirty w.pages (512 * start) (512 * start + count) = subst (AreDirty w.pages (512 * start)) (sym back) (dirty_run w.pages from start end last run le) in
       page_failed decode w (512 * from) (512 * start) count p l new on (omega (arith, run.after)) dirty (subst (λ (s : List ℕ). MayWrite (4096 + 512 * start) s p new) is part)
 
-  pub none_left : (from : ℕ) (p l new : FileState) → IsSound p → NoneFrom w.pages from → IsWritingPages decode w (512 * from) p l → Syncs p new → ArePagesSynced decode w new l
-  none_left from p l new sound none on done = pages_synced decode w (512 * from) p l new sound on (clean_from w.pages from (length w.image) none) done
+  pub none_left : (from : ℕ) (purpose : Purpose) (p l new : FileState) → IsSound p → NoneFrom w.pages from → IsWritingPages decode w (512 * from) p l → Syncs p new → ArePagesSynced decode w purpose new l
+  none_left from purpose p l new sound none on done = pages_synced decode w (512 * from) purpose p l new sound on (clean_from w.pages from (length w.image) none) done

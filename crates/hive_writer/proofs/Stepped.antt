@@ -156,7 +156,8 @@ begun_plan (stage.HeaderWritten p) old mid image pages b = ap (λ (n : HiveWrite
 next_flushes : (at next : FlushStage) → IsFlushing at → IsNext at next → IsFlushing next
 next_flushes stage.AtRest next f n = absurd n
 next_flushes (stage.WritingLog k) next f (inl e) = subst (λ (s : FlushStage). IsFlushing s) (sym e) tt
-next_flushes (stage.WritingLog k) next f (inr e) = subst (λ (s : FlushStage). IsFlushing s) (sym e) tt
+next_flushes (stage.WritingLog k) next f (inr (inl e)) = subst (λ (s : FlushStage). IsFlushing s) (sym e) tt
+next_flushes (stage.WritingLog k) next f (inr (inr e)) = subst (λ (s : FlushStage). IsFlushing s) (sym e) refl
 next_flushes stage.LogSynced next f e = subst (λ (s : FlushStage). IsFlushing s) (sym e) tt
 next_flushes stage.PrimaryMarkedDirty next f e = subst (λ (s : FlushStage). IsFlushing s) (sym e) refl
 next_flushes (stage.WritingPages p k) next f (inl e) = subst (λ (s : FlushStage). IsFlushing s) (sym e.1) f
@@ -226,7 +227,8 @@ module _ {T : Type 0} (now memory : T × ℕ) where
       → IfOk called (IsNext (stage.WritingLog 0)) → StepEndsAs called result old new
       → Says (HiveSays memory) result (settled now) (choice_at new.stage (durable_after result now memory) memory)
   first_says (Ok stage.AtRest) result old new e (inl q) s = absurd cc
-  first_says (Ok stage.AtRest) result old new e (inr q) s = absurd cc
+  first_says (Ok stage.AtRest) result old new e (inr (inl q)) s = absurd cc
+  first_says (Ok stage.AtRest) result old new e (inr (inr q)) s = absurd cc
   first_says (Ok (stage.WritingLog k)) result old new e next s =
       subst (λ (n : HiveWriter). Says (HiveSays memory) result (settled now) (choice_at n.stage (durable_after result now memory) memory)) (sym s.1)
       (subst (λ (r : Result Progress Refusal). Says (HiveSays memory) r (settled now) (choice_at (stage.WritingLog k) (durable_after r now memory) memory)) (sym s.0) (inl (refl, refl)))
@@ -234,13 +236,20 @@ module _ {T : Type 0} (now memory : T × ℕ) where
       subst (λ (n : HiveWriter). Says (HiveSays memory) result (settled now) (choice_at n.stage (durable_after result now memory) memory)) (sym s.1)
       (subst (λ (r : Result Progress Refusal). Says (HiveSays memory) r (settled now) (choice_at stage.LogSynced (durable_after r now memory) memory)) (sym s.0) (inl (refl, refl)))
   first_says (Ok stage.PrimaryMarkedDirty) result old new e (inl q) s = absurd cc
-  first_says (Ok stage.PrimaryMarkedDirty) result old new e (inr q) s = absurd cc
+  first_says (Ok stage.PrimaryMarkedDirty) result old new e (inr (inl q)) s = absurd cc
+  first_says (Ok stage.PrimaryMarkedDirty) result old new e (inr (inr q)) s = absurd cc
   first_says (Ok (stage.WritingPages p k)) result old new e (inl q) s = absurd cc
-  first_says (Ok (stage.WritingPages p k)) result old new e (inr q) s = absurd cc
+  first_says (Ok (stage.WritingPages p k)) result old new e (inr (inl q)) s = absurd cc
+  first_says (Ok (stage.WritingPages p k)) result old new e (inr (inr q)) s = absurd cc
   first_says (Ok (stage.PagesSynced p)) result old new e (inl q) s = absurd cc
-  first_says (Ok (stage.PagesSynced p)) result old new e (inr q) s = absurd cc
+  first_says (Ok (stage.PagesSynced p)) result old new e (inr (inl q)) s = absurd cc
+  first_says (Ok (stage.PagesSynced p)) result old new e (inr (inr q)) s =
+      subst (λ (n : HiveWriter). Says (HiveSays memory) result (settled now) (choice_at n.stage (durable_after result now memory) memory)) (sym s.1)
+      (subst (λ (r : Result Progress Refusal). Says (HiveSays memory) r (settled now) (choice_at (stage.PagesSynced p) (durable_after r now memory) memory)) (sym s.0)
+      (inl (refl, flying (stage.PagesSynced p) (next_flushes (stage.WritingLog 0) (stage.PagesSynced p) tt (inr (inr q))) (λ r. absurd cc))))
   first_says (Ok (stage.HeaderWritten p)) result old new e (inl q) s = absurd cc
-  first_says (Ok (stage.HeaderWritten p)) result old new e (inr q) s = absurd cc
+  first_says (Ok (stage.HeaderWritten p)) result old new e (inr (inl q)) s = absurd cc
+  first_says (Ok (stage.HeaderWritten p)) result old new e (inr (inr q)) s = absurd cc
   first_says (Err why) result old new e next s =
       subst (λ (n : HiveWriter). Says (HiveSays memory) result (settled now) (choice_at n.stage (durable_after result now memory) memory)) (sym s.1)
       (subst (λ (r : Result Progress Refusal). Says (HiveSays memory) r (settled now) (choice_at old.stage (durable_after r now memory) memory)) (sym s.0)

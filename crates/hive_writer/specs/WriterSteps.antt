@@ -1,5 +1,5 @@
 -- A hive's writer as the work and the phase of a flush or a repair.
-use Rattle.std.specs.Prelude.{◌≡◌, ◌⊎◌, ⊤, ℕ, ◌+◌, ◌-◌, ◌*◌, ◌/◌, ◌<◌, min, true, false, List, length, Result, Ok, Err, MatchResult}
+use Rattle.std.specs.Prelude.{◌≡◌, ◌⊎◌, ⊤, ℕ, zero, suc, ◌+◌, ◌-◌, ◌*◌, ◌/◌, ◌<◌, min, true, false, List, length, Result, Ok, Err, MatchResult}
 use Rattle.refusals.specs.declared.refusal.Refusal.{Refusal}
 use Rattle.refusals.specs.declared.refusal.Refusal.TheVariants.{DiskFault}
 use Rattle.disk_model.specs.declared.progress.Progress.{Progress}
@@ -95,10 +95,10 @@ CallLeadsTo {T = T} decode plan image pages hive at result before after =
     → MatchResult result (λ next. FilesMatchStage decode (work_of plan image (dirty_in next pages others) (durable_in next now memory) memory) hive next after × PrimaryIsSyncedAt hive next after)
     (λ _. FilesMatchStage decode (work_of plan image pages now memory) hive at after)
 
--- which stage follows one: as many chunks and pages as there are
+-- which stage follows one: as many chunks and pages as there are. After the log comes the last sector, if no page is dirty
 abbrev pub IsNext : FlushStage → FlushStage → Type 0
 IsNext stage.AtRest next = ⊥
-IsNext (stage.WritingLog chunks) next = (next ≡ stage.WritingLog (chunks + 1)) ⊎ (next ≡ stage.LogSynced)
+IsNext (stage.WritingLog chunks) next = (next ≡ stage.WritingLog (chunks + 1)) ⊎ ((next ≡ stage.LogSynced) ⊎ (next ≡ stage.PagesSynced purpose.Flush))
 IsNext stage.LogSynced next = next ≡ stage.PrimaryMarkedDirty
 IsNext stage.PrimaryMarkedDirty next = next ≡ stage.WritingPages purpose.Flush 0
 IsNext (stage.WritingPages purpose page) next = ((after : ℕ) × (next ≡ stage.WritingPages purpose after)) ⊎ (next ≡ stage.PagesSynced purpose)
@@ -133,12 +133,18 @@ dirty_from pages page = dirty_count pages - marked_count (is_dirty pages) page
 abbrev pub chunk_count : ℕ → ℕ
 chunk_count total = (total + (CHUNK_BYTES - 1)) / CHUNK_BYTES
 
+-- How many calls a flush makes after the sync of its log, at most, for a number of dirty pages. They are the raised
+-- sector and its sync, a write for each page and their sync, the last sector and its sync. Without a page they are the
+-- last two.
+abbrev pub calls_behind_log : ℕ → ℕ
+calls_behind_log zero = 2
+calls_behind_log (suc n) = suc n + 5
+
 -- How many calls are left until a flush or a repair is done, at most, for a log of a number of bytes. They are its
--- chunks and its sync, the raised sector and its sync. Then a write for each dirty page and their sync, the last sector
--- and its sync. For a quiet hive it is a whole flush.
+-- chunks and its sync, and those after it. For a quiet hive it is a whole flush.
 abbrev pub calls_left : ℕ → Pages → FlushStage → ℕ
-calls_left total pages stage.AtRest = chunk_count total + dirty_count pages + 6
-calls_left total pages (stage.WritingLog chunks) = chunk_count total - chunks + dirty_count pages + 6
+calls_left total pages stage.AtRest = chunk_count total + 1 + calls_behind_log (dirty_count pages)
+calls_left total pages (stage.WritingLog chunks) = chunk_count total - chunks + 1 + calls_behind_log (dirty_count pages)
 calls_left total pages stage.LogSynced = dirty_count pages + 5
 calls_left total pages stage.PrimaryMarkedDirty = dirty_count pages + 4
 calls_left total pages (stage.WritingPages purpose page) = dirty_from pages page + 3

@@ -57,21 +57,23 @@ impl HiveWriter {
         }
     }
 
-    // the sync of the log, after its last chunk
+    // the sync of the log, after its last chunk: if no page is dirty, the last sector is next
     pub(crate) fn sync_log<D: Disk, T>(
         &self,
         disk: &mut D,
         index: u32,
+        pages: &DirtyVector,
     ) -> Result<FlushStage, Failed>
-        ensures leads { D.faithful disk.new →
-            (decode : TreeDecoder T) (image : List ℕ) (pages : Pages) →
-            length (plan_of self.now image pages).encoding ≤ CHUNK_BYTES * index →
-            CallLeadsTo decode (plan_of self.now image pages) image pages self.now.hive
+        ensures leads { D.faithful disk.new → (decode : TreeDecoder T) (image : List ℕ) →
+            length image ≡ pages.now.bins_size →
+            length (plan_of self.now image pages.now).encoding ≤ CHUNK_BYTES * index →
+            CallLeadsTo decode (plan_of self.now image pages.now) image pages.now self.now.hive
             (stage.WritingLog index) result
             (D.state_at disk.old (D.clock disk.old)) (D.state_at disk.new (D.clock disk.new)) }
-        ensures next { IfOk result (λ next. next ≡ stage.LogSynced) }
-        ensures falls { (total : ℕ) (pages : Pages) →
-            IfOk result (CallsDecrease total pages (stage.WritingLog index)) }
+        ensures next { IfOk result (λ next. (next ≡ stage.LogSynced) ⊎
+            (next ≡ stage.PagesSynced purpose.Flush)) }
+        ensures falls { (total : ℕ) →
+            IfOk result (CallsDecrease total pages.now (stage.WritingLog index)) }
         ensures call { OneCall (IsFileOfHive self.now.hive) (D.state_at disk.old) (D.state_at disk.new)
             (D.clock disk.old) (D.clock disk.new) }
         ensures chunks { D.faithful disk.new → KeepsWritesShort (D.state_at disk.old)
@@ -80,6 +82,7 @@ impl HiveWriter {
         ensures faithful { D.faithful disk.new → D.faithful disk.old }
     {
         match sync_file(disk, self.hive, HiveFileKind::Log) {
+            Ok(()) if pages.count() == 0 => Ok(FlushStage::PagesSynced(Purpose::Flush)),
             Ok(()) => Ok(FlushStage::LogSynced),
             Err(failed) => Err(failed),
         }
@@ -100,7 +103,7 @@ impl HiveWriter {
             (stage.WritingLog index) result
             (D.state_at disk.old (D.clock disk.old)) (D.state_at disk.new (D.clock disk.new)) }
         ensures next { IfOk result (λ next. (next ≡ stage.WritingLog (index + 1)) ⊎
-            (next ≡ stage.LogSynced)) }
+            ((next ≡ stage.LogSynced) ⊎ (next ≡ stage.PagesSynced purpose.Flush))) }
         ensures falls { IfOk result (CallsDecrease (length
             (plan_of self.now image.now pages.now).encoding) pages.now (stage.WritingLog index)) }
         ensures call { OneCall (IsFileOfHive self.now.hive) (D.state_at disk.old) (D.state_at disk.new)
@@ -113,7 +116,7 @@ impl HiveWriter {
         let mut buffer = [0; CHUNK_BYTES];
         let count = write_steps(image, pages, &self.block).chunk(index, &mut buffer);
         if count == 0 {
-            self.sync_log::<D, T>(disk, index)
+            self.sync_log::<D, T>(disk, index, pages)
         } else {
             self.write_log_chunk::<D, T>(disk, index, image, pages, &buffer[..count])
         }

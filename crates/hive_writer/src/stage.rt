@@ -22,7 +22,7 @@ pub enum FlushStage {
     PrimaryMarkedDirty,
     /// It is synced, and each dirty page before this one is written.
     WritingPages(Purpose, usize),
-    /// The pages are synced.
+    /// The pages are synced, or the log in a flush that changes none.
     PagesSynced(Purpose),
     /// The last first sector is written.
     HeaderWritten(Purpose),

@@ -5,5 +5,5 @@ pub returns : goal.returns
 returns g c = record {
   written = λ decode w n a m p l new mark sound on from within clean dirty done. page_written decode w n a m p l new sound on from within clean dirty done;
   failed = λ decode w n a m p l new mark on from dirty part. page_failed decode w n a m p l new on from dirty part;
-  synced = λ decode w n p l new mark sound on clean done. pages_synced decode w n p l new sound on clean done;
+  synced = λ decode w n p l new mark sound on clean done. pages_synced decode w n mark p l new sound on clean done;
 }

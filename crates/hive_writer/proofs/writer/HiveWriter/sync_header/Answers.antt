@@ -15,7 +15,7 @@ returns-in-Ok-clause-leads g c = λ faithful decode plan image pages ends now me
     let p2 = g.D.Disk.state_at c.sync_file.new.disk (g.D.Disk.clock c.sync_file.new.disk) (primary_file hive) in
     let l2 = g.D.Disk.state_at c.sync_file.new.disk (g.D.Disk.clock c.sync_file.new.disk) (log_file hive) in
     let sound = g.met.D.Disk.sound c.args.disk.now (g.D.Disk.clock c.args.disk.now) (primary_file hive) (c.sync_file.ensures.faithful faithful) (omega arith) in
-    let quiet = final_synced decode w others p l p2 sound on size (c.in-Ok.ensures.done faithful) in (
+    let quiet = final_synced decode w others (purpose_in c.args.purpose) p l p2 sound on size (c.in-Ok.ensures.done faithful) in (
       record { rest = quiet.rest; clean = quiet.clean; behind = quiet.behind },
       tt,
     )

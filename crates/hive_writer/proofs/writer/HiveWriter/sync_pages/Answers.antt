@@ -15,7 +15,7 @@ returns-in-Ok-clause-leads g c = λ faithful decode plan image pages ends none n
     let p2 = g.D.Disk.state_at c.sync_file.new.disk (g.D.Disk.clock c.sync_file.new.disk) (primary_file hive) in
     let l2 = g.D.Disk.state_at c.sync_file.new.disk (g.D.Disk.clock c.sync_file.new.disk) (log_file hive) in
     let sound = g.met.D.Disk.sound c.args.disk.now (g.D.Disk.clock c.args.disk.now) (primary_file hive) (c.sync_file.ensures.faithful faithful) (omega arith) in (
-      log_same decode w (PagesSynced (purpose_in c.args.purpose)) p2 l l2 c.sync_file.ensures.other (none_left decode w c.args.from p l p2 sound none on (c.in-Ok.ensures.done faithful)),
+      log_same decode w (PagesSynced (purpose_in c.args.purpose)) p2 l l2 c.sync_file.ensures.other (none_left decode w c.args.from (purpose_in c.args.purpose) p l p2 sound none on (c.in-Ok.ensures.done faithful)),
       (let e = c.in-Ok.ensures.done faithful in e ∙ ap at_rest (sym (ap (λ (s : FileState). s.synced) e))),
     )
 

@@ -17,7 +17,7 @@ returns-in-Ok-clause-leads g c = λ faithful decode plan image pages ends now me
     let l2 = g.D.Disk.state_at c.write_file.new.disk (g.D.Disk.clock c.write_file.new.disk) (log_file hive) in
     let sound = g.met.D.Disk.sound c.args.disk.now (g.D.Disk.clock c.args.disk.now) (primary_file hive) (c.write_file.ensures.faithful faithful) (omega arith) in
     let done = subst (λ (s : List ℕ). Writes 0 s p p2) (c.write.ensures.encoding ∙ sym ends.final) (c.in-Ok.ensures.done faithful) in (
-      log_same decode w (HeaderWritten (purpose_in c.args.purpose)) p2 l l2 c.write_file.ensures.other (final_written decode w p l p2 sound on done),
+      log_same decode w (HeaderWritten (purpose_in c.args.purpose)) p2 l l2 c.write_file.ensures.other (final_written decode w (purpose_in c.args.purpose) p l p2 sound on done),
       tt,
     )
 
@@ -31,4 +31,4 @@ returns-in-Err-clause-leads g c = λ faithful decode plan image pages ends now m
     let l2 = g.D.Disk.state_at c.write_file.new.disk (g.D.Disk.clock c.write_file.new.disk) (log_file hive) in
     let sound = g.met.D.Disk.sound c.args.disk.now (g.D.Disk.clock c.args.disk.now) (primary_file hive) (c.write_file.ensures.faithful faithful) (omega arith) in
     let part = subst (λ (s : List ℕ). MayWrite 0 s p p2) (c.write.ensures.encoding ∙ sym ends.final) (c.in-Err.ensures.failed faithful) in
-    log_same decode w (PagesSynced (purpose_in c.args.purpose)) p2 l l2 c.write_file.ensures.other (final_failed decode w p l p2 sound on part)
+    log_same decode w (PagesSynced (purpose_in c.args.purpose)) p2 l l2 c.write_file.ensures.other (final_failed decode w (purpose_in c.args.purpose) p l p2 sound on part)

@@ -9,4 +9,4 @@ returns-then-count-eq0-clause-leads g c = λ faithful decode.
     let n = 65536 * c.args.index in
     let size : c.chunk-count.result ≡ length (take 65536 (drop n encoding)) = c.chunk-count.ensures.count ∙ ap (λ (t : List ℕ). length (take 65536 (drop n t))) c.write_steps.ensures.encoding in
     let all : length encoding ≤ n = omega (arith, size, c.if-count-eq0.true, length-take 65536 (drop n encoding), length-drop n encoding) in
-    c.sync_log.ensures.leads faithful decode c.args.image.now c.args.pages.now all
+    c.sync_log.ensures.leads faithful decode c.args.image.now c.requires.size all
