@@ -52,6 +52,7 @@ impl Extension {
     }
 
     /// Deletes a key without subkeys, at this moment.
+    #[inline(never)] // so that each level takes little stack
     pub(crate) fn delete(
         &mut self,
         alloc: Global,

@@ -80,6 +80,7 @@ fn remove_child(
 }
 
 // the path of the subkey of this name
+#[inline(never)] // so that each level takes little stack
 fn child_of(alloc: Global, path: &Path, name: &Name) -> Result<Path, Refusal>
     ensures made { IfOk result (IsChild path.now name.now) }
     ensures refused { IfErr result (λ why. (why ≡ NoMemory) ⊎ ChildRefused path.now name.now why) }

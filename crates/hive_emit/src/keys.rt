@@ -75,6 +75,7 @@ fn put_class(image: &mut Image, class: &[u8]) -> Result<u32, Refusal>
 }
 
 // puts the class, the values and the list of subkeys of a key whose subkeys have these cells
+#[inline(never)] // so that each level takes little stack
 fn put_own(
     alloc: Global,
     image: &mut Image,
@@ -146,6 +147,7 @@ fn key_node_fields(node: &Node, parent: u32, security: u32, own: &OwnCells) -> K
 }
 
 // fills a key's record into its cell
+#[inline(never)] // so that each level takes little stack
 fn fill_key(
     image: &mut Image,
     encoding: &mut Vec<u8>,

@@ -148,6 +148,7 @@ impl SecurityTable {
     }
 
     // counts a key
+    #[inline(never)] // so that each level takes little stack
     fn count_key(&mut self, alloc: Global, key: &Key) -> Result<(), AllocError>
         ensures counted { OnOk result (IsCounted self.new key.now) }
         ensures keeps { OnOk result (Keeps self.old self.new) }

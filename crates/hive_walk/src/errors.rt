@@ -80,6 +80,7 @@ fn collected(alloc: Global, path: &KeyPath<'_>) -> Result<Vec<Name>, AllocError>
 }
 
 /// The refusal of the key at an offset, to which this way leads.
+#[inline(never)] // so that each level takes little stack
 pub(crate) fn refused_at(alloc: Global, path: &KeyPath<'_>, at: u32, refusal: Refusal) -> ImageError
     ensures { IsFaultAt (names_on path.now) at refusal result }
 {

@@ -35,6 +35,7 @@ pub(crate) fn flags_for(alloc: Global, bytes: usize) -> Result<Flags, AllocError
 }
 
 // the name of the key at an offset, and its subkeys' offsets; `above` leads to the key that lists it
+#[inline(never)] // so that each level takes little stack
 fn read_key(
     alloc: Global,
     image: &Image,

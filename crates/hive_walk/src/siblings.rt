@@ -73,6 +73,7 @@ pub(crate) fn in_order(mut siblings: Vec<Sibling>) -> Vec<Sibling>
 }
 
 /// Whether each sibling has a name, and no two have the same. It may change their order.
+#[inline(never)] // so that each level takes little stack
 pub(crate) fn are_named(siblings: &mut [Sibling]) -> bool
     ensures named { result ≡ true → IsIn [] (sibling_names siblings.old) → ⊥ }
     ensures apart { result ≡ true → Once (sibling_names siblings.old) }

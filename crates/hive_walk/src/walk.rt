@@ -31,6 +31,7 @@ use refusals::limits::MOST_PATH_NAMES;
 use std::alloc::Global;
 
 // hands a sink the key at an offset, to which a path leads; the offsets of its subkeys
+#[inline(never)] // so that each level takes little stack
 fn take_key<S: KeySink>(
     alloc: Global,
     image: &Image,
@@ -86,6 +87,7 @@ fn listed_siblings(
 }
 
 // the same in the order of their names
+#[inline(never)] // so that each level takes little stack
 fn siblings_at(
     alloc: Global,
     image: &Image,

@@ -62,6 +62,7 @@ pub(crate) fn write_pair<W: Write>(
 }
 
 /// Writes units that are bytes, such as an ASCII text. In UTF-8 a byte past 0x7f is refused with `InvalidInput`.
+#[inline(never)] // so that each level takes little stack
 pub(crate) fn write_text<W: Write>(
     writer: &mut W,
     encoding: Encoding,

@@ -37,6 +37,7 @@ impl<W: Write> KeySink for JsonSink<'_, W> {
     type Error = io::Error;
 
     /// Prints the lines of a key. `Err` says that a write failed.
+    #[inline(never)] // so that each level takes little stack
     fn take(&mut self, path: &KeyPath<'_>, key: &Key) -> io::Result<()> {
         match utc_text(key.time()) {
             Some(text) => {

@@ -52,6 +52,7 @@ impl<W: Write> KeySink for RegSink<'_, W> {
 
     /// Prints the lines of a key. `Err` says that a write failed, or that in UTF-8 half of a pair of surrogates stands in
     /// a name.
+    #[inline(never)] // so that each level takes little stack
     fn take(&mut self, path: &KeyPath<'_>, key: &Key) -> io::Result<()> {
         write_key(self.writer, self.encoding, self.prefix, path, key)
     }

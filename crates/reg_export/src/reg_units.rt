@@ -13,6 +13,7 @@ use std::io;
 use std::io::Write;
 
 /// Writes units as they are.
+#[inline(never)] // so that each level takes little stack
 pub(crate) fn write_plain_units<W: Write>(
     writer: &mut W,
     encoding: Encoding,

@@ -31,6 +31,7 @@ pub(crate) fn write_path_field<W: Write>(writer: &mut W, path: &KeyPath<'_>) -> 
 
 /// Writes a name: its characters in UTF-8, but a control character, `%`, and half of a pair of surrogates as `%` and four
 /// hex digits; the empty name as `@`, and the name `@` as `%0040`.
+#[inline(never)] // so that each level takes little stack
 pub(crate) fn write_name_field<W: Write>(writer: &mut W, name: &[u16]) -> io::Result<()>
     ensures { OnOk result (Appends (W.contents writer.old) (W.contents writer.new)
         (name_field name.now)) }

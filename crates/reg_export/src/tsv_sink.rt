@@ -43,6 +43,7 @@ impl<W: Write> KeySink for TsvSink<'_, W> {
     type Error = io::Error;
 
     /// Prints the lines of a key. `Err` says that a write failed.
+    #[inline(never)] // so that each level takes little stack
     fn take(&mut self, path: &KeyPath<'_>, key: &Key) -> io::Result<()> {
         write_key(self.writer, self.hive, path, key)
     }

@@ -22,6 +22,7 @@ pub(crate) enum UnitForm {
 }
 
 /// Writes units.
+#[inline(never)] // so that each level takes little stack
 pub(crate) fn write_units<W: Write>(writer: &mut W, form: UnitForm, units: &[u16]) -> io::Result<()>
     ensures { OnOk result (Appends (W.contents writer.old) (W.contents writer.new)
         (flat_map (form_text form) units.now)) }

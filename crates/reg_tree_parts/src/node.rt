@@ -239,6 +239,7 @@ impl Node {
     }
 
     // the key with this subkey in place of one of its name, and the same row
+    #[inline(never)] // so that each level takes little stack
     pub(crate) fn with_subkey(&self, alloc: Global, subkey: Node) -> Result<Node, AllocError>
         requires node { IsNode subkey }
         ensures here { IfOk result (λ made. row_at made [] ≡ row_at self.now []) }

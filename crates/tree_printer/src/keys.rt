@@ -38,6 +38,7 @@ impl<W: Write> KeySink for KeyLines<'_, W> {
 
     type Error = io::Error;
 
+    #[inline(never)] // so that each level takes little stack
     fn take(&mut self, path: &KeyPath<'_>, key: &Key) -> io::Result<()> {
         write_key(self.writer, self.hive, path, key)
     }

@@ -20,6 +20,7 @@ impl NodeEdit for Op {
 
     ghost Refuses = { refuses };
 
+    #[inline(never)] // so that each level takes little stack
     fn edit(
         &self,
         alloc: Global,

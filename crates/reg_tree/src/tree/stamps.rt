@@ -23,6 +23,7 @@ impl NodeEdit for Stamp {
 
     ghost Refuses = { λ stamp moment key missing why. why ≡ NoMemory };
 
+    #[inline(never)] // so that each level takes little stack
     fn edit(
         &self,
         _alloc: Global,
