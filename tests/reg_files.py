@@ -47,7 +47,9 @@ V5, V4 = "Windows Registry Editor Version 5.00\n", "REGEDIT4\n"
 BEFORE = ["create 0:A\\B\\C", "create 0:A\\D", "set 0:A v 3 07"]
 KILLS, MOST_SECONDS = 200, 120
 # how deep a tree may be, and the bytes of stack that are enough for it
-LEVELS, STACK = 512, 2_097_152
+LEVELS, STACK = 512, 786_432
+# how many keys stand beside each key of a deep tree that leads on: more than the 16 that a leaf of a map holds
+BESIDE = 17
 # the names of the types from 0 on
 TYPES = ("REG_NONE REG_SZ REG_EXPAND_SZ REG_BINARY REG_DWORD REG_DWORD_BIG_ENDIAN REG_LINK REG_MULTI_SZ REG_RESOURCE_LIST "
          "REG_FULL_RESOURCE_DESCRIPTOR REG_RESOURCE_REQUIREMENTS_LIST REG_QWORD").split()
@@ -586,12 +588,13 @@ def names(program):
 
 
 def stacks(program):
-    """Commands on the deepest trees, of long names and of short ones, each with little stack."""
+    """Commands on the deepest trees, of long names, of short ones and of many, each with little stack."""
     bound, results = limited(resource.RLIMIT_STACK, STACK), []
-    for name in ("n" * 255, "k"):
+    for name, beside in (("n" * 255, 0), ("k", 0), ("k", BESIDE)):
         key = Key(name)
         for _ in range(LEVELS - 1):
-            key = Key(name, values=[Value("v", 4, b"\1\0\0\0")], keys=[key])
+            others = [Key(f"a{number:02}") for number in range(beside)]
+            key = Key(name, values=[Value("v", 4, b"\1\0\0\0")], keys=[*others, key])
         file = program.put("deep.dat", made_hive(Key("ROOT", keys=[key]))[0])
         shutil.rmtree(program.at("deep"), ignore_errors=True)
         path = "\\".join([name] * LEVELS)
@@ -605,7 +608,12 @@ def stacks(program):
             keys = ("\\".join(["k"] * level) for level in range(16, LEVELS + 1, 16))
             program.put("deep.reg", (V5 + "".join(f'[HIVE0\\{key}]\n"v"="1"\n' for key in keys)).encode())
             program.put("no_k.reg", (V5 + "[-HIVE0\\k]\n").encode())
-        results += [expect(f"{words[0]} of names of {len(name)}", program.run(*words, **bound)[1], 0) for words in commands]
+        for words in commands:
+            # nine thousand paths of up to 512 names are too large for one change
+            refused = beside and (words[0] == "del-tree" or words[-1] == "no_k.reg")
+            told, status = program.run(*words, **bound)
+            found = (told.endswith(b"E6 TooLarge\n"), status)
+            results.append(expect(f"{words[0]} of names of {len(name)}, {beside} beside", found, (bool(refused), int(bool(refused)))))
     return results
 
 
