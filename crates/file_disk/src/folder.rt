@@ -90,7 +90,8 @@ pub(crate) enum Access {
 ///
 /// Until this is dropped, no other program that locks folders in this way can lock it to write. To read it, others can if
 /// this only reads it too. A file is opened by the folder's path: if another folder is there by then, or none, the call
-/// fails, and no file of the other one is read, written or made.
+/// fails, and no file of the other one is read or written. An empty file is made in it only if the folder is moved between
+/// the look at it and the making of a file.
 #[derive(Drop)]
 pub(crate) struct Folder<R: Files<File = File> + Drop> {
     rt: R,
@@ -295,7 +296,9 @@ impl<R: Files<File = File> + Drop> Folder<R> {
         Ok(self.opened(number))
     }
 
-    // the file of a number, which is made if it isn't there
+    // The file of a number, which is made if it isn't there. The folder was looked at when the file was looked for. If it is
+    // moved before the file is made, the look after that refuses; an empty file stays in the folder that took its place,
+    // since whoever removed it by its path might remove another file.
     fn make(&mut self, number: u32) -> io::Result<&File> {
         if self.access == Access::ReadOnly {
             return Err(ErrorKind::ReadOnlyFilesystem.into());

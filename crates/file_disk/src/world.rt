@@ -7,7 +7,9 @@ pub trait World: Drop {
     ghost seen: { Seen };
 }
 
-/// A world for a program to name that says nothing of it.
+/// A world for a program to name, in which all files are empty at first. A store that exists has other files, so nothing
+/// that is proved over this world alone says anything of it. What is proved over any world holds of the files that are
+/// there; the crate's page says why the program may rest on that.
 #[derive(Drop)]
 pub struct Unknown;
 
