@@ -1,4 +1,4 @@
 pub mod Later
-mod OpeningLives
+pub mod OpeningLives
 mod StepRuns
 mod WaitRuns
