@@ -1,26 +1,10 @@
--- The trees that are told before a change is accepted.
-use Rattle.std.proofs.Common.{◌≡◌, ◌∙◌, refl, sym, List, [], ◌∷◌, ◌++◌, Option, Some, None}
-use Rattle.std.specs.Prelude.{IfSome}
+-- The change that was told before it is accepted.
+use Rattle.std.proofs.Common.{◌≡◌, Option, Some, None}
 use Rattle.std.specs.Option.{option_map}
-use Rattle.reg_tree.specs.Maps.{TreeMap}
-use Rattle.reg_tree.specs.Judgement.{applied}
-use Rattle.reg_tree.specs.Sequences.{after_elements}
-use Rattle.reg_tree.specs.declared.element.Element.{Element}
 use Rattle.store_model.specs.Machine.{Machine}
-use Rattle.store_model.specs.declared.event.Event.{Event}
-use Rattle.transactions.specs.Prepared.{AcceptsJust, Predicts, change_and_trees}
+use Rattle.transactions.specs.Prepared.{AcceptsJust, change_and_trees}
 use Rattle.transactions.specs.declared.prepared.Next.{Next}
 use Rattle.ktm_calls.specs.Moments.{with_next}
-
--- one more change is applied to the trees after those before it
-after_one_more : (trees : List TreeMap) (elements : List Element) (element : Element) → after_elements trees (elements ++ element ∷ []) ≡ applied (after_elements trees elements) element.ops element.moment
-after_one_more trees [] element = refl
-after_one_more trees (x ∷ xs) element = after_one_more (applied trees x.ops x.moment) xs element
-
-pub coming : (m : Machine) (e : Event) (next : Option Next) → Predicts m e (option_map change_and_trees next)
-    → IfSome next (λ n. n.trees ≡ after_elements m.opened (m.accepted ++ n.change.value ∷ []))
-coming m e None p = tt
-coming m e (Some n) p = p.1 ∙ sym (after_one_more m.opened m.accepted n.change.value)
 
 -- just the change that was told is accepted
 pub accepts_next : (old new : Machine) (next : Option Next) → AcceptsJust (option_map change_and_trees next) old new → new.accepted ≡ with_next old.accepted next
