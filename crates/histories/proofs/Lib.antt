@@ -1,0 +1,4 @@
+pub mod Chains
+pub mod Adding
+pub mod Leading
+pub mod Lives

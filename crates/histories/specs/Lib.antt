@@ -1,0 +1,4 @@
+pub mod Points
+pub mod Histories
+pub mod Leaving
+pub mod Book

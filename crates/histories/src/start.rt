@@ -1,0 +1,44 @@
+//! Where a history begins.
+use published_trees::Origin;
+use std::marker::Brand;
+
+/// Where a history begins: its book, and the store before its first event. It names one history, so that what was seen of
+/// two has two types. Each call of a program may choose it.
+pub trait Start: Origin {
+    ghost use Rattle.std.specs.Prelude.{ℕ};
+    ghost use Rattle.logbook.specs.Pages.{Book};
+    ghost use Rattle.commit_journal.specs.Store.{Store};
+    ghost use Rattle.store_model.specs.Machine.{Machine};
+    ghost use Rattle.histories.specs.Points.{Point};
+
+    /// The book of the history.
+    ghost history: { Book };
+
+    /// The store before the first event.
+    ghost start: { Point };
+
+    /// The store whose files are on the device.
+    ghost store: { Store };
+
+    /// Whether the device is faithful, as far as the start.
+    ghost faithful: { Type 0 };
+
+    /// Whatever a crash at a moment leaves is a prefix of a machine's changes, as it is known at the start.
+    ghost safe: { ℕ → Machine → Type 0 };
+}
+
+impl Start for Brand {
+    ghost use Rattle.std.specs.Prelude.{[]};
+    ghost use Rattle.commit_journal.specs.declared.store_layout.Layout.TheVariants.{HivesAlone};
+    ghost use Rattle.histories.specs.Points.{no_point};
+
+    ghost history = { record { number = 0; log_name = 0; cells_name = 0 } };
+
+    ghost start = { no_point 0 };
+
+    ghost store = { record { id = []; hives = 0; layout = HivesAlone } };
+
+    ghost faithful = { Unit {0} };
+
+    ghost safe = { λ _ _. Unit {0} };
+}
