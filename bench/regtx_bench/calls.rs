@@ -2,13 +2,14 @@
 //!
 //! The promises of the calls themselves would be stated at each step of a caller, though none here relies on them.
 use crate::trouble::Trouble;
-use ktm_calls::{Key, Registry, Session, StoreEngine};
-use published_trees::Origin;
+use histories::Start;
+use ktm_calls::{Key, Registry, Session};
 use refusals::Refusal;
 use reg_names::{Name, Path};
 use reg_tree::{Data, Value};
 use std::alloc::Global;
 use std::sync::Wait;
+use store_engine::StoreEngine;
 use store_model::Tx;
 use uuid::Uuid;
 
@@ -16,7 +17,7 @@ use uuid::Uuid;
 const KIND: u32 = 3;
 
 /// A registry, as its caller on one thread calls it.
-pub struct Calls<'a, E: StoreEngine, O: Origin, R: Wait> {
+pub struct Calls<'a, E: StoreEngine, O: Start, R: Wait> {
     /// The runtime.
     pub rt: &'a R,
     /// Where keys and names are made.
@@ -25,7 +26,7 @@ pub struct Calls<'a, E: StoreEngine, O: Origin, R: Wait> {
     pub registry: &'a Registry<E, O>,
 }
 
-impl<'a, E: StoreEngine, O: Origin, R: Wait> Drop for Calls<'a, E, O, R> {
+impl<'a, E: StoreEngine, O: Start, R: Wait> Drop for Calls<'a, E, O, R> {
     fn drop(self) {
         let Calls {
             rt: _,
@@ -44,7 +45,7 @@ pub fn key(alloc: Global, hive: u8, text: &[u8]) -> Result<Key, Refusal> {
     Ok(Key::new(hive, Path::parse(alloc, units.as_slice())?))
 }
 
-impl<'a, E: StoreEngine, O: Origin, R: Wait> Calls<'a, E, O, R> {
+impl<'a, E: StoreEngine, O: Start, R: Wait> Calls<'a, E, O, R> {
     /// Opens a session.
     pub fn start(&self) -> Result<Session<O>, Trouble> {
         match self.registry.session(self.rt) {

@@ -4,16 +4,17 @@ use crate::rounds::{LETTERS, TURNS, round_at, thread_key, value_name};
 use crate::store::HIVES;
 use crate::trouble::Trouble;
 use crate::words::MOST_THREADS;
-use ktm_calls::{Session, StoreEngine};
-use published_trees::Origin;
+use histories::Start;
+use ktm_calls::Session;
 use std::sync::Wait;
+use store_engine::StoreEngine;
 
 // the values that a round sets
 const PLACES: usize = 4;
 
 /// Prints the rounds of each thread's values: a line `THREAD TURN ROUND ROUND ROUND ROUND` for each turn of which there
 /// is a value, with `-` for one that is missing.
-pub fn print_rounds<E: StoreEngine, O: Origin, R: Print + Wait>(
+pub fn print_rounds<E: StoreEngine, O: Start, R: Print + Wait>(
     calls: &Calls<'_, E, O, R>,
 ) -> Result<(), Trouble> {
     let mut session = calls.start()?;
@@ -29,7 +30,7 @@ pub fn print_rounds<E: StoreEngine, O: Origin, R: Print + Wait>(
 }
 
 // the rounds of the values that a round of a turn sets
-fn rounds_of<E: StoreEngine, O: Origin, R: Wait>(
+fn rounds_of<E: StoreEngine, O: Start, R: Wait>(
     calls: &Calls<'_, E, O, R>,
     session: &mut Session<O>,
     thread: usize,

@@ -7,8 +7,8 @@ use crate::tally::Tally;
 use crate::trouble::Trouble;
 use crate::words::Plan;
 use flusher::{OpenGate, Worker, run_beside, run_workers};
-use ktm_calls::{Key, Registry, Session, StoreEngine};
-use published_trees::Origin;
+use histories::Start;
+use ktm_calls::{Key, Registry, Session};
 use refusals::Refusal;
 use std::alloc::Global;
 use std::io;
@@ -17,6 +17,7 @@ use std::sync::atomic::{AtomicU64, Ordering};
 use std::sync::{Mutex, Wait};
 use std::thread::Threads;
 use std::time::{Clock, Duration, Instant};
+use store_engine::StoreEngine;
 
 /// Whether changes are moved into the hives while threads commit.
 #[derive(Clone, Copy)]
@@ -54,7 +55,7 @@ struct Spent {
 /// Commits of so many threads, and prints how long they took.
 pub fn measure_commits<
     E: StoreEngine + Send,
-    O: Origin + Send + Sync,
+    O: Start + Send + Sync,
     R: Print + Clock + Wait + Threads + Sync,
 >(
     calls: &Calls<'_, E, O, R>,
@@ -77,7 +78,7 @@ pub fn measure_commits<
 /// Commits of so many threads, with a flusher beside. Each is told once it is acknowledged.
 pub fn tell_commits<
     E: StoreEngine + Send,
-    O: Origin + Send + Sync,
+    O: Start + Send + Sync,
     R: Print + Clock + Wait + Threads + Sync,
 >(calls: &Calls<'_, E, O, R>, plan: Plan) -> Result<(), Trouble> {
     create_keys(calls, plan.threads)?;
@@ -123,7 +124,7 @@ fn micros(nanos: u64) -> f64 {
 // how long the threads take with a flusher beside, which then flushes all
 fn commit_beside<
     E: StoreEngine + Send,
-    O: Origin + Send + Sync,
+    O: Start + Send + Sync,
     R: Print + Clock + Wait + Threads + Sync,
 >(
     rt: &R,
@@ -145,7 +146,7 @@ fn commit_beside<
 // how long the threads take
 fn commit_timed<
     E: StoreEngine + Send,
-    O: Origin + Send + Sync,
+    O: Start + Send + Sync,
     R: Print + Clock + Wait + Threads + Sync,
 >(
     rt: &R,
@@ -164,7 +165,7 @@ fn commit_timed<
     })
 }
 
-impl<E: StoreEngine, O: Origin, R: Print + Clock + Wait> Worker<E, O, R> for Committer {
+impl<E: StoreEngine, O: Start, R: Print + Clock + Wait> Worker<E, O, R> for Committer {
     fn work(&self, rt: &R, registry: &Registry<E, O>, index: usize) {
         let calls = Calls {
             rt,
@@ -199,7 +200,7 @@ impl Committer {
     }
 
     // the commits of one thread, in a session of its own
-    fn commit_all<E: StoreEngine, O: Origin, R: Print + Clock + Wait>(
+    fn commit_all<E: StoreEngine, O: Start, R: Print + Clock + Wait>(
         &self,
         calls: &Calls<'_, E, O, R>,
         thread: usize,
@@ -225,7 +226,7 @@ impl Committer {
 }
 
 // the last round of a thread that has these keys; 0 if it has made none
-fn last_round<E: StoreEngine, O: Origin, R: Wait>(
+fn last_round<E: StoreEngine, O: Start, R: Wait>(
     calls: &Calls<'_, E, O, R>,
     session: &mut Session<O>,
     keys: &[Key],
@@ -243,7 +244,7 @@ fn last_round<E: StoreEngine, O: Origin, R: Wait>(
 }
 
 // a transaction that sets the values of a round: the number of its change, once it is durable
-fn commit_round<E: StoreEngine, O: Origin, R: Wait>(
+fn commit_round<E: StoreEngine, O: Start, R: Wait>(
     calls: &Calls<'_, E, O, R>,
     session: &mut Session<O>,
     keys: &mut [Key],

@@ -9,8 +9,8 @@ use crate::tally::Tally;
 use crate::trouble::Trouble;
 use crate::words::Plan;
 use flusher::{Worker, run_workers};
-use ktm_calls::{Key, Registry, Session, StoreEngine};
-use published_trees::Origin;
+use histories::Start;
+use ktm_calls::{Key, Registry, Session};
 use refusals::Refusal;
 use reg_tree::Data;
 use std::alloc::Global;
@@ -19,6 +19,7 @@ use std::sync::atomic::{AtomicU64, Ordering};
 use std::sync::{Mutex, Wait};
 use std::thread::Threads;
 use std::time::{Clock, Duration, Instant};
+use store_engine::StoreEngine;
 
 // the keys that are read, and the values of each
 const KEYS: u32 = 10_000;
@@ -61,7 +62,7 @@ struct Measured {
 /// Reads of so many threads, and prints how long they took.
 pub fn measure_reads<
     E: StoreEngine + Send,
-    O: Origin + Send + Sync,
+    O: Start + Send + Sync,
     R: Print + Clock + Wait + Threads + Sync,
 >(calls: &Calls<'_, E, O, R>, plan: Plan, writing: Writing) -> Result<(), Trouble> {
     let keys = filled(calls)?;
@@ -97,7 +98,7 @@ fn print_reads<R: Print>(rt: &R, plan: Plan, measured: Measured) -> io::Result<(
 }
 
 // lets the threads read
-fn read_timed<E: StoreEngine + Send, O: Origin + Send + Sync, R: Clock + Wait + Threads + Sync>(
+fn read_timed<E: StoreEngine + Send, O: Start + Send + Sync, R: Clock + Wait + Threads + Sync>(
     rt: &R,
     registry: &Registry<E, O>,
     reader: Reader,
@@ -126,7 +127,7 @@ fn read_timed<E: StoreEngine + Send, O: Origin + Send + Sync, R: Clock + Wait + 
     })
 }
 
-impl<E: StoreEngine, O: Origin, R: Clock + Wait> Worker<E, O, R> for Reader {
+impl<E: StoreEngine, O: Start, R: Clock + Wait> Worker<E, O, R> for Reader {
     fn work(&self, rt: &R, registry: &Registry<E, O>, index: usize) {
         let calls = Calls {
             rt,
@@ -147,7 +148,7 @@ impl<E: StoreEngine, O: Origin, R: Clock + Wait> Worker<E, O, R> for Reader {
 
 impl Reader {
     // the reads of one thread, in a session of its own
-    fn read_all<E: StoreEngine, O: Origin, R: Clock + Wait>(
+    fn read_all<E: StoreEngine, O: Start, R: Clock + Wait>(
         &self,
         calls: &Calls<'_, E, O, R>,
         thread: usize,
@@ -169,7 +170,7 @@ impl Reader {
     }
 
     // writes while others read
-    fn write_meanwhile<E: StoreEngine, O: Origin, R: Wait>(
+    fn write_meanwhile<E: StoreEngine, O: Start, R: Wait>(
         &self,
         calls: &Calls<'_, E, O, R>,
     ) -> Result<(), Trouble> {
@@ -213,7 +214,7 @@ fn value_name(chance: u64) -> [u8; 2] {
 }
 
 // the keys with their values, which are made first
-fn filled<E: StoreEngine, O: Origin, R: Wait>(
+fn filled<E: StoreEngine, O: Start, R: Wait>(
     calls: &Calls<'_, E, O, R>,
 ) -> Result<Vec<Key>, Trouble> {
     let mut keys = Vec::new(calls.alloc);
@@ -230,7 +231,7 @@ fn filled<E: StoreEngine, O: Origin, R: Wait>(
 }
 
 // creates some keys with their values, in one transaction
-fn fill<E: StoreEngine, O: Origin, R: Wait>(
+fn fill<E: StoreEngine, O: Start, R: Wait>(
     calls: &Calls<'_, E, O, R>,
     session: &mut Session<O>,
     keys: &[Key],

@@ -5,12 +5,13 @@
 use crate::calls::{Calls, key};
 use crate::store::HIVES;
 use crate::trouble::Trouble;
-use ktm_calls::{Key, Session, StoreEngine};
-use published_trees::Origin;
+use histories::Start;
+use ktm_calls::{Key, Session};
 use refusals::Refusal;
 use reg_tree::Data;
 use std::alloc::Global;
 use std::sync::Wait;
+use store_engine::StoreEngine;
 
 /// How many rounds have values of their own names.
 pub const TURNS: u8 = 4;
@@ -55,7 +56,7 @@ pub fn round_of(data: &Data) -> Option<u64> {
 }
 
 /// Creates the keys of so many threads, and makes them durable.
-pub fn create_keys<E: StoreEngine, O: Origin, R: Wait>(
+pub fn create_keys<E: StoreEngine, O: Start, R: Wait>(
     calls: &Calls<'_, E, O, R>,
     threads: usize,
 ) -> Result<(), Trouble> {
@@ -74,7 +75,7 @@ pub fn create_keys<E: StoreEngine, O: Origin, R: Wait>(
 /// The round of which a value of a thread is; none if there is no such value.
 ///
 /// `Torn` if its data are of no round.
-pub fn round_at<E: StoreEngine, O: Origin, R: Wait>(
+pub fn round_at<E: StoreEngine, O: Start, R: Wait>(
     calls: &Calls<'_, E, O, R>,
     session: &mut Session<O>,
     key: &Key,

@@ -8,14 +8,16 @@ use crate::store::opened_store;
 use crate::trouble::Trouble;
 use crate::words::Work;
 use disk_model::Disk;
-use ktm_calls::{Ended, Registry, StoreEngine};
-use published_trees::{ChangeCount, Origin, SeenChanges};
+use histories::{EventCount, Start};
+use ktm_calls::{Ended, Registry};
+use published_trees::{ChangeCount, SeenChanges};
 use std::alloc::Global;
 use std::marker::Brand;
 use std::sync::Wait;
 use std::sync::atomic::AtomicU64;
 use std::thread::Threads;
 use std::time::Clock;
+use store_engine::StoreEngine;
 
 /// Opens the store that is on a disk, or makes it if that is wanted, and does a work over it.
 ///
@@ -34,7 +36,7 @@ pub fn measure_store<D: Disk + Send + Drop, R: Print + Clock + Wait + Threads + 
 
 // shares an engine by a registry, and does a work over it
 fn measure_shared<
-    O: Origin + Send + Sync,
+    O: Start + Send + Sync,
     E: StoreEngine + Send + Drop,
     R: Print + Clock + Wait + Threads + Sync,
 >(
@@ -46,22 +48,22 @@ fn measure_shared<
     work: Work,
     syncs: &AtomicU64,
 ) -> Result<(), Trouble> {
-    let registry = match Registry::<E, O>::new(alloc, rt, engine, count, seen) {
+    let registry = match Registry::<E, O>::new(alloc, rt, engine, EventCount::open(), count, seen) {
         Ok(registry) => registry,
         Err((why, _engine)) => return Err(Trouble::Refused(why)),
     };
     let done = measure_on(rt, alloc, &registry, work, syncs);
     let Ended {
         engine: _,
+        events: _,
         durable: _,
-        strangers: _,
     } = registry.end(rt, Vec::new(alloc), Vec::new(alloc));
     done
 }
 
 // the work
 fn measure_on<
-    O: Origin + Send + Sync,
+    O: Start + Send + Sync,
     E: StoreEngine + Send,
     R: Print + Clock + Wait + Threads + Sync,
 >(

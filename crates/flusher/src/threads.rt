@@ -6,10 +6,11 @@ ghost use Rattle.ktm_calls.specs.Waiting.{IsFailedStep};
 
 use crate::gate::{Gate, RoomGate};
 use crate::turns::{run_flusher, try_run_flusher};
-use ktm_calls::{Denied, Registry, Stopped, StoreEngine, Told};
-use published_trees::Origin;
+use histories::Start;
+use ktm_calls::{Denied, Registry, Stopped, Told};
 use std::sync::Wait;
 use std::thread::{self, Threads};
+use store_engine::StoreEngine;
 
 /// Runs a flusher on a thread of its own while `work` runs on the caller's, and tells it to stop after that. Ends when
 /// both have.
@@ -17,7 +18,7 @@ use std::thread::{self, Threads};
 /// If no thread can be made, the flusher runs after the work.
 pub fn run_beside<
     E: StoreEngine + Send,
-    O: Origin + Send + Sync,
+    O: Start + Send + Sync,
     G: Gate + Sync,
     R: Threads + Wait + Sync,
     T,
@@ -42,7 +43,7 @@ pub fn run_beside<
 /// The same with a flusher that begins once so many bytes of the journal's room are used, and at the end.
 pub fn run_beside_from<
     E: StoreEngine + Send,
-    O: Origin + Send + Sync,
+    O: Start + Send + Sync,
     R: Threads + Wait + Sync,
     T,
     F: FnOnce() -> T,
@@ -67,7 +68,7 @@ pub fn run_beside_from<
 /// for which there is no memory ends.
 pub fn try_run_beside<
     E: StoreEngine + Send,
-    O: Origin + Send + Sync,
+    O: Start + Send + Sync,
     G: Gate + Sync,
     R: Threads + Wait + Sync,
     T,
@@ -93,7 +94,7 @@ pub fn try_run_beside<
 }
 
 /// What each of several threads does with a registry.
-pub trait Worker<E: StoreEngine, O: Origin, R: Wait> {
+pub trait Worker<E: StoreEngine, O: Start, R: Wait> {
     /// The work of the thread of this index.
     fn work(&self, rt: &R, registry: &Registry<E, O>, index: usize);
 }
@@ -103,7 +104,7 @@ pub trait Worker<E: StoreEngine, O: Origin, R: Wait> {
 /// What no thread can be made for runs on the caller's, and the threads after it begin when it has ended.
 pub fn run_workers<
     E: StoreEngine + Send,
-    O: Origin + Send + Sync,
+    O: Start + Send + Sync,
     W: Worker<E, O, R> + Sync,
     R: Threads + Wait + Sync,
 >(rt: &R, registry: &Registry<E, O>, worker: &W, count: usize) {

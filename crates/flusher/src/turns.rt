@@ -4,14 +4,15 @@ ghost use Rattle.ktm_calls.specs.Denials.{IsTurnDenied};
 ghost use Rattle.ktm_calls.specs.Waiting.{IsFailedStep};
 
 use crate::gate::Gate;
-use ktm_calls::{Denied, Registry, Stopped, StoreEngine, Told, Turn};
-use published_trees::Origin;
+use histories::Start;
+use ktm_calls::{Denied, Registry, Stopped, Told, Turn};
 use std::sync::Wait;
+use store_engine::StoreEngine;
 use store_model::Reply;
 
 /// Takes turns until it was told to stop and has nothing left to do, or a step is refused since the device failed. A
 /// step for which there is no memory is made again.
-pub fn run_flusher<E: StoreEngine, O: Origin, G: Gate, R: Wait>(
+pub fn run_flusher<E: StoreEngine, O: Start, G: Gate, R: Wait>(
     rt: &R,
     registry: &Registry<E, O>,
     gate: &G,
@@ -29,7 +30,7 @@ pub fn run_flusher<E: StoreEngine, O: Origin, G: Gate, R: Wait>(
 }
 
 /// The same, but a step for which there is no memory ends it, too.
-pub fn try_run_flusher<E: StoreEngine, O: Origin, G: Gate, R: Wait>(
+pub fn try_run_flusher<E: StoreEngine, O: Start, G: Gate, R: Wait>(
     rt: &R,
     registry: &Registry<E, O>,
     gate: &G,

@@ -1,15 +1,15 @@
 -- What a refused call tells.
-use Rattle.std.specs.Prelude.{◌≡◌, ℕ, ◌⊎◌, true, List, [], Option, Some, None, ⊤}
+use Rattle.std.specs.Prelude.{◌≡◌, ℕ, ◌⊎◌, true, List, Option, Some, None, ⊤}
 use Rattle.refusals.specs.declared.refusal.Refusal.{Refusal}
 use Rattle.refusals.specs.declared.refusal.Refusal.TheVariants.{NoMemory}
 use Rattle.reg_tree.specs.Maps.{TreeMap}
-use Rattle.reg_tree.specs.declared.element.Element.{Element}
 use Rattle.store_model.specs.declared.event.Event.{Event}
 use Rattle.store_model.specs.declared.event.Event.TheVariants as event
 use Rattle.store_model.specs.declared.event.Reply.{Reply}
 use Rattle.store_model.specs.declared.event.Reply.TheVariants as reply
+use Rattle.histories.specs.Points.{Point}
 use Rattle.ktm_calls.specs.Kinds.{Told}
-use Rattle.ktm_calls.specs.Moments.{NumberedList, Tells}
+use Rattle.ktm_calls.specs.Moments.{NumberedSight, SeesMore, Sight, Tells}
 use Rattle.ktm_calls.specs.Waiting.{WaitFails, IsFailedStep, is_step_kind}
 use Rattle.ktm_calls.specs.declared.locked.OpenResult.{OpenResult}
 use Rattle.ktm_calls.specs.declared.locked.OpenResult.TheVariants as opening
@@ -32,23 +32,23 @@ Denies told denied.NoMemory = ⊥
 Denies told (denied.Told same) = (same ≡ told) × IsRefusal told.reply
 
 -- there was no memory; or this event was refused
-abbrev pub IsDenied : List TreeMap → ℕ → ℕ → List Element → List Element → Event → Denied → Type 0
-IsDenied trees number hives was is event denied.NoMemory = ⊤
-IsDenied trees number hives was is event (denied.Told told) = Tells trees number hives was is event told × IsRefusal told.reply
+abbrev pub IsDenied : Point → List TreeMap → ℕ → ℕ → Sight → Sight → Event → Denied → Type 0
+IsDenied start trees number hives was is event denied.NoMemory = ⊤
+IsDenied start trees number hives was is event (denied.Told told) = Tells start trees number hives was is event told × IsRefusal told.reply
 
--- The session was opened: all that was accepted by then is what it has seen.
-abbrev pub IsOpened : List TreeMap → ℕ → ℕ → NumberedList → Told → Type 0
-IsOpened trees number hives session told = Tells trees number hives [] session.list (event.StartSession session.number) told × ¬ (IsRefusal told.reply)
+-- The session was opened, behind what was seen before: all that was accepted by then is what it has seen.
+abbrev pub IsOpened : Point → List TreeMap → ℕ → ℕ → Sight → NumberedSight → Told → Type 0
+IsOpened start trees number hives was session told = Tells start trees number hives was session.seen (event.StartSession session.number) told × SeesMore was session.seen × ¬ (IsRefusal told.reply)
 
 -- a session was not opened: there was no memory, or its event was refused
-abbrev pub IsNotOpened : List TreeMap → ℕ → ℕ → Denied → Type 0
-IsNotOpened trees number hives why = (session : ℕ) × (is : List Element) × IsDenied trees number hives [] is (event.StartSession session) why
+abbrev pub IsNotOpened : Point → List TreeMap → ℕ → ℕ → Sight → Denied → Type 0
+IsNotOpened start trees number hives was why = (session : ℕ) × (is : Sight) × IsDenied start trees number hives was is (event.StartSession session) why
 
 -- what became of a session that was to be opened
-abbrev pub OpensOrNot : {O : Type 0} → List TreeMap → ℕ → ℕ → OpenResult O → Type 0
-OpensOrNot trees number hives (opening.Session session told) = IsOpened trees number hives session told
-OpensOrNot trees number hives (opening.Refused told) = (session : ℕ) × (is : List Element) × Tells trees number hives [] is (event.StartSession session) told × IsRefusal told.reply
-OpensOrNot trees number hives opening.NoMemory = ⊤
+abbrev pub OpensOrNot : {O : Type 0} → Point → List TreeMap → ℕ → ℕ → Sight → OpenResult O → Type 0
+OpensOrNot start trees number hives was (opening.Session session told) = IsOpened start trees number hives was session told
+OpensOrNot start trees number hives was (opening.Refused told) = (session : ℕ) × (is : Sight) × Tells start trees number hives was is (event.StartSession session) told × IsRefusal told.reply
+OpensOrNot start trees number hives was opening.NoMemory = ⊤
 
 -- what was waited for was refused since the device failed, or there was no memory for a step of the journal
 abbrev pub IsWaitDenied : ℕ → Denied → Type 0
@@ -56,9 +56,9 @@ IsWaitDenied number denied.NoMemory = ⊤
 IsWaitDenied number (denied.Told told) = WaitFails number told
 
 -- The call's own event was refused; or it was answered, and the wait for what it answered was refused.
-abbrev pub IsCommitDenied : List TreeMap → ℕ → ℕ → List Element → Event → Denied → Type 0
-IsCommitDenied trees number hives was event why =
-    ((is : List Element) × IsDenied trees number hives was is event why) ⊎ ((awaited : ℕ) × IsWaitDenied awaited why)
+abbrev pub IsCommitDenied : Point → List TreeMap → ℕ → ℕ → Sight → Event → Denied → Type 0
+IsCommitDenied start trees number hives was event why =
+    ((is : Sight) × IsDenied start trees number hives was is event why) ⊎ ((awaited : ℕ) × IsWaitDenied awaited why)
 
 abbrev pub IsStepOrStop : Turn → Type 0
 IsStepOrStop (turn.Step told) = is_step_kind told.kind ≡ true

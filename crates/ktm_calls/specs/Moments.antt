@@ -1,7 +1,8 @@
 -- The moment under the lock at which an event was answered.
-use Rattle.std.specs.Prelude.{◌≡◌, ℕ, List, [], ◌∷◌, ◌++◌, Option, Some, None, refl, ⊤}
-use Rattle.std.specs.Coded.{Coded, code_by, coded×, coded_ℕ}
+use Rattle.std.specs.Prelude.{◌≡◌, ◌≤◌, ◌⊎◌, ℕ, List, [], ◌∷◌, ◌++◌, Option, Some, None, refl, ⊤}
+use Rattle.std.specs.Coded.{Coded, code_by, coded×, coded_ℕ, coded_list}
 use mathlib.Core.List.{IsPrefix}
+use Rattle.refusals.specs.declared.refusal.Refusal.TheVariants.{NoMemory}
 use Rattle.reg_tree.specs.Maps.{TreeMap}
 use Rattle.reg_tree.specs.declared.element.Element.{Element}
 use Rattle.store_model.specs.Machine.{Machine}
@@ -11,15 +12,34 @@ use Rattle.store_model.specs.declared.event.Reply.{Reply}
 use Rattle.store_model.specs.declared.event.Reply.TheVariants as reply
 use Rattle.transactions.specs.declared.prepared.Next.{Next}
 use Rattle.published_trees.specs.Lists.{list_code}
+use Rattle.histories.specs.Histories.{end_of}
+use Rattle.histories.specs.Points.{HistoryEntry, Point, entry_code, entry_of}
 use Rattle.ktm_calls.specs.Kinds.{Told, kind_of}
 
--- a number and a list of changes: a session with what it has seen, or a receipt with the list that it carries
-pub record NumberedList : Type 0 where
-  pub number : ℕ
+-- what was seen of a registry: a beginning of the changes that it accepted, and of its history
+pub record Sight : Type 0 where
   pub list : List Element
+  pub history : List HistoryEntry
 
-abbrev pub numbered_code : Coded NumberedList
-numbered_code = code_by (ℕ × List Element) (coded× coded_ℕ list_code) (λ m. (m.number, m.list)) (λ p. record { number = p.0; list = p.1 }) (λ _. refl)
+abbrev pub sight_code : Coded Sight
+sight_code = code_by (List Element × List HistoryEntry) (coded× list_code (coded_list entry_code)) (λ s. (s.list, s.history)) (λ p. record { list = p.0; history = p.1 }) (λ _. refl)
+
+-- nothing was seen
+abbrev pub no_sight : Sight
+no_sight = record { list = []; history = [] }
+
+-- what was seen before is a beginning of what is seen then
+pub record SeesMore (was is : Sight) : Type 0 where
+  pub list : IsPrefix was.list is.list
+  pub history : IsPrefix was.history is.history
+
+-- a number and what was seen: a session; or a receipt with what it carries
+pub record NumberedSight : Type 0 where
+  pub number : ℕ
+  pub seen : Sight
+
+abbrev pub numbered_code : Coded NumberedSight
+numbered_code = code_by (ℕ × Sight) (coded× coded_ℕ sight_code) (λ m. (m.number, m.seen)) (λ p. record { number = p.0; seen = p.1 }) (λ _. refl)
 
 -- A machine is the store's that was opened on these trees after the change of this number. Its calls may name this many
 -- hives.
@@ -38,19 +58,31 @@ pub record IsAnswered (trees : List TreeMap) (number hives : ℕ) (was is : List
   pub seen : IsPrefix was old.accepted
   pub list : new.accepted ≡ is
 
--- what is told of the event: its kind, and the reply that it was answered
-pub record Tells (trees : List TreeMap) (number hives : ℕ) (was is : List Element) (event : Event) (told : Told) : Type 0 where
-  pub kind : told.kind ≡ kind_of event
-  pub answered : IsAnswered trees number hives was is event told.reply
+-- The event stands in the history with this reply, as the last one that is seen of it then. What was seen before is a
+-- beginning of what was before the event. The machines are those before and after it.
+pub record StandsLast (start : Point) (was : List HistoryEntry) (event : Event) (reply : Reply) (old new : Machine) (is : List HistoryEntry) : Type 0 where
+  pub past : List HistoryEntry
+  pub after : Point
+  pub seen : IsPrefix was past
+  pub there : is ≡ past ++ entry_of event reply after ∷ []
+  pub old_is : (end_of start past).machine ≡ old
+  pub new_is : after.machine ≡ new
 
--- The event was answered with a number, and then waited for: the receipt has that number, and all that was accepted by
--- then.
-pub record TellsDurably (trees : List TreeMap) (number hives : ℕ) (was is : List Element) (event : Event) (receipt : NumberedList) (told : Told) : Type 0 where
-  pub mid : List Element
-  pub own : Tells trees number hives was mid event told
-  pub later : IsPrefix mid is
+-- What is told of the event: its kind, and the reply that it was answered. It stands in the history that begins here.
+pub record Tells (start : Point) (trees : List TreeMap) (number hives : ℕ) (was is : Sight) (event : Event) (told : Told) : Type 0 where
+  pub kind : told.kind ≡ kind_of event
+  pub answered : IsAnswered trees number hives was.list is.list event told.reply
+  pub stands : StandsLast start was.history event told.reply answered.old answered.new is.history
+
+-- The event was answered with a number, and then waited for: the receipt has that number, and all that was seen by then,
+-- in which it is durable.
+pub record TellsDurably (start : Point) (trees : List TreeMap) (number hives : ℕ) (was is : Sight) (event : Event) (receipt : NumberedSight) (told : Told) : Type 0 where
+  pub mid : Sight
+  pub own : Tells start trees number hives was mid event told
+  pub later : SeesMore mid is
   pub awaited : told.reply ≡ reply.Awaits receipt.number
-  pub list : receipt.list ≡ is
+  pub carries : receipt.seen ≡ is
+  pub durable : receipt.number ≤ (end_of start is.history).machine.durable
 
 -- an event that is answered with a number to wait for, or refused
 abbrev pub AwaitsOrRefused : Reply → Type 0
@@ -65,3 +97,8 @@ IsAwaited event = (old new : Machine) (answer : Reply) → Step old event answer
 abbrev pub with_next : List Element → Option Next → List Element
 with_next list None = list
 with_next list (Some next) = list ++ next.change.value ∷ []
+
+-- Nothing was put to the engine. Or the event was, which had no memory, and is the last one of the history; the engine is
+-- at this moment then.
+abbrev pub AddsAtMost : List HistoryEntry → Event → Point → List HistoryEntry → Type 0
+AddsAtMost was event now is = (is ≡ was) ⊎ (is ≡ was ++ entry_of event (reply.Refused NoMemory) now ∷ [])

@@ -1,7 +1,6 @@
 -- What becomes of the holds of those who wait for a change, and of the flusher.
-use Rattle.std.specs.Prelude.{◌≡◌, ℕ, ◌<◌, ◌+◌, ◌⊎◌, Bool, true, false, List, length, ⊤}
+use Rattle.std.specs.Prelude.{◌≡◌, ℕ, ◌<◌, ◌+◌, ◌⊎◌, Bool, true, false, length, ⊤}
 use Rattle.refusals.specs.declared.refusal.Refusal.TheVariants.{DiskFault, Faulted}
-use Rattle.reg_tree.specs.declared.element.Element.{Element}
 use Rattle.store_model.specs.Machine.{Machine}
 use Rattle.store_model.specs.declared.event.Event.{Event}
 use Rattle.store_model.specs.declared.event.Event.TheVariants as event
@@ -10,6 +9,7 @@ use Rattle.store_model.specs.declared.event.Reply.TheVariants as reply
 use Rattle.ktm_calls.specs.declared.event_kind.EventKind.{EventKind}
 use Rattle.ktm_calls.specs.declared.event_kind.EventKind.TheVariants as kind
 use Rattle.ktm_calls.specs.Kinds.{Told}
+use Rattle.ktm_calls.specs.Moments.{Sight}
 use Rattle.ktm_calls.specs.declared.waiting.WaitResult.{WaitResult}
 use Rattle.ktm_calls.specs.declared.waiting.WaitResult.TheVariants as waited
 use Rattle.ktm_calls.specs.declared.waiting.CheckpointResult.{CheckpointResult}
@@ -26,12 +26,12 @@ HasFailed _ = ⊥
 abbrev pub WaitFails : ℕ → Told → Type 0
 WaitFails number told = ((told.kind ≡ kind.Acked number) ⊎ (told.kind ≡ kind.JournalStep)) × HasFailed told.reply
 
--- a receipt has the number that was asked for, and the whole list
-abbrev pub EndsWait : {O : Type 0} → ℕ → List Element → WaitResult O → Type 0
-EndsWait number list (waited.Again mode) = ⊤
-EndsWait number list (waited.Done receipt) = receipt ≡ record { number = number; list = list }
-EndsWait number list (waited.Refused told) = WaitFails number told
-EndsWait number list waited.NoMemory = ⊤
+-- a receipt has the number that was asked for, and all that is seen
+abbrev pub EndsWait : {O : Type 0} → ℕ → Sight → WaitResult O → Type 0
+EndsWait number seen (waited.Again mode) = ⊤
+EndsWait number seen (waited.Done receipt) = receipt ≡ record { number = number; seen = seen }
+EndsWait number seen (waited.Refused told) = WaitFails number told
+EndsWait number seen waited.NoMemory = ⊤
 
 -- the kinds of the flusher's events
 abbrev pub is_step_kind : EventKind → Bool
@@ -57,7 +57,7 @@ SteppedOrFailed _ = ⊥
 abbrev pub EndsCheckpoint : {O : Type 0} → ℕ → CheckpointResult O → Type 0
 EndsCheckpoint number (checkpoint.Step told) = (is_step_kind told.kind ≡ true) × SteppedOrFailed told.reply
 EndsCheckpoint number checkpoint.NoMemory = ⊤
-EndsCheckpoint number (checkpoint.Done receipt) = receipt.number ≡ number + length receipt.list
+EndsCheckpoint number (checkpoint.Done receipt) = receipt.number ≡ number + length receipt.seen.list
 
 abbrev pub IsTurn : TurnResult → Type 0
 IsTurn (turned.Step told) = (is_step_kind told.kind ≡ true) × SteppedOrFailed told.reply

@@ -1,11 +1,10 @@
 //! Writes: by themselves, or in the transaction of a key. Each is one event, in one hold.
 ghost use Rattle.std.specs.Prelude.{◌≡◌, ◌+◌, ◌≤◌, length, IfOk, IfErr, None, Some};
-ghost use mathlib.Core.List.{IsPrefix};
 ghost use Rattle.reg_tree.specs.declared.op.Op.TheVariants as op;
 ghost use Rattle.store_model.specs.declared.event.Event.TheVariants as event;
 ghost use Rattle.ktm_calls.specs.Calls.{Disposes, IsDeniedAlone, StandsAlone, write_event};
 ghost use Rattle.ktm_calls.specs.Answers.{WriteStands};
-ghost use Rattle.ktm_calls.specs.Moments.{Tells, TellsDurably};
+ghost use Rattle.ktm_calls.specs.Moments.{SeesMore, Tells, TellsDurably};
 ghost use Rattle.ktm_calls.specs.Denials.{IsCommitDenied, IsDenied, IsRefusal};
 
 use crate::key::Key;
@@ -13,15 +12,15 @@ use crate::locked::Told;
 use crate::receipt::Receipt;
 use crate::registry::{Denied, Disposition, Registry};
 use crate::session::Session;
-use crate::store_engine::StoreEngine;
 use crate::waiting::MemoryPolicy;
-use published_trees::Origin;
+use histories::Start;
 use reg_names::ValueName;
 use reg_tree::{Data, Op};
 use std::sync::Wait;
+use store_engine::StoreEngine;
 use store_model::{Event, Reply, Tx};
 
-impl<E: StoreEngine, O: Origin> Registry<E, O> {
+impl<E: StoreEngine, O: Start> Registry<E, O> {
     /// Creates a key, with the missing keys above it, or opens it if it is there. Through a key of a transaction it is
     /// created in that.
     pub fn reg_create_key<R: Wait>(
@@ -31,17 +30,17 @@ impl<E: StoreEngine, O: Origin> Registry<E, O> {
         key: &Key,
         moment: u64,
     ) -> Result<(Disposition, Told), Denied>
-        ensures seen { IsPrefix session.old.list session.new.list }
+        ensures seen { SeesMore session.old.seen session.new.seen }
         ensures number { session.new.number ≡ session.old.number }
-        ensures told { IfOk result (λ r. Tells O.trees O.number O.hives session.old.list session.new.list
+        ensures told { IfOk result (λ r. Tells O.start O.trees O.number O.hives session.old.seen session.new.seen
             (write_event session.old.number key.now.tx moment (op.CreateKey key.now.hive key.now.path)) r.1) }
         ensures granted { IfOk result (λ r. ¬ (IsRefusal r.1.reply)) }
-        ensures stands { IfOk result (λ r. StandsAlone O.trees O.number O.hives session.new.list key.now.tx moment
+        ensures stands { IfOk result (λ r. StandsAlone O.trees O.number O.hives session.new.seen.list key.now.tx moment
             (op.CreateKey key.now.hive key.now.path) r.1.reply) }
         ensures disposition { IfOk result (λ r. Disposes r.0 r.1.reply) }
-        ensures denied { IfErr result (IsDenied O.trees O.number O.hives session.old.list session.new.list
+        ensures denied { IfErr result (IsDenied O.start O.trees O.number O.hives session.old.seen session.new.seen
             (write_event session.old.number key.now.tx moment (op.CreateKey key.now.hive key.now.path))) }
-        ensures refused { IfErr result (IsDeniedAlone O.trees O.number O.hives session.new.list key.now.tx moment
+        ensures refused { IfErr result (IsDeniedAlone O.trees O.number O.hives session.new.seen.list key.now.tx moment
             (op.CreateKey key.now.hive key.now.path)) }
     {
         self.create_key(rt, session, key, key.tx, moment)
@@ -56,17 +55,17 @@ impl<E: StoreEngine, O: Origin> Registry<E, O> {
         key: &Key,
         moment: u64,
     ) -> Result<(Disposition, Told), Denied>
-        ensures seen { IsPrefix session.old.list session.new.list }
+        ensures seen { SeesMore session.old.seen session.new.seen }
         ensures number { session.new.number ≡ session.old.number }
-        ensures told { IfOk result (λ r. Tells O.trees O.number O.hives session.old.list session.new.list
+        ensures told { IfOk result (λ r. Tells O.start O.trees O.number O.hives session.old.seen session.new.seen
             (write_event session.old.number (Some tx) moment (op.CreateKey key.now.hive key.now.path)) r.1) }
         ensures granted { IfOk result (λ r. ¬ (IsRefusal r.1.reply)) }
-        ensures stands { IfOk result (λ r. StandsAlone O.trees O.number O.hives session.new.list (Some tx) moment
+        ensures stands { IfOk result (λ r. StandsAlone O.trees O.number O.hives session.new.seen.list (Some tx) moment
             (op.CreateKey key.now.hive key.now.path) r.1.reply) }
         ensures disposition { IfOk result (λ r. Disposes r.0 r.1.reply) }
-        ensures denied { IfErr result (IsDenied O.trees O.number O.hives session.old.list session.new.list
+        ensures denied { IfErr result (IsDenied O.start O.trees O.number O.hives session.old.seen session.new.seen
             (write_event session.old.number (Some tx) moment (op.CreateKey key.now.hive key.now.path))) }
-        ensures refused { IfErr result (IsDeniedAlone O.trees O.number O.hives session.new.list (Some tx) moment
+        ensures refused { IfErr result (IsDeniedAlone O.trees O.number O.hives session.new.seen.list (Some tx) moment
             (op.CreateKey key.now.hive key.now.path)) }
     {
         self.create_key(rt, session, key, Some(tx), moment)
@@ -80,16 +79,16 @@ impl<E: StoreEngine, O: Origin> Registry<E, O> {
         key: &Key,
         moment: u64,
     ) -> Result<Told, Denied>
-        ensures seen { IsPrefix session.old.list session.new.list }
+        ensures seen { SeesMore session.old.seen session.new.seen }
         ensures number { session.new.number ≡ session.old.number }
-        ensures told { IfOk result (λ t. Tells O.trees O.number O.hives session.old.list session.new.list
+        ensures told { IfOk result (λ t. Tells O.start O.trees O.number O.hives session.old.seen session.new.seen
             (write_event session.old.number key.now.tx moment (op.DeleteKey key.now.hive key.now.path)) t) }
         ensures granted { IfOk result (λ t. ¬ (IsRefusal t.reply)) }
-        ensures stands { IfOk result (λ t. StandsAlone O.trees O.number O.hives session.new.list key.now.tx moment
+        ensures stands { IfOk result (λ t. StandsAlone O.trees O.number O.hives session.new.seen.list key.now.tx moment
             (op.DeleteKey key.now.hive key.now.path) t.reply) }
-        ensures denied { IfErr result (IsDenied O.trees O.number O.hives session.old.list session.new.list
+        ensures denied { IfErr result (IsDenied O.start O.trees O.number O.hives session.old.seen session.new.seen
             (write_event session.old.number key.now.tx moment (op.DeleteKey key.now.hive key.now.path))) }
-        ensures refused { IfErr result (IsDeniedAlone O.trees O.number O.hives session.new.list key.now.tx moment
+        ensures refused { IfErr result (IsDeniedAlone O.trees O.number O.hives session.new.seen.list key.now.tx moment
             (op.DeleteKey key.now.hive key.now.path)) }
     {
         self.delete_key(rt, session, key, key.tx, moment)
@@ -104,16 +103,16 @@ impl<E: StoreEngine, O: Origin> Registry<E, O> {
         key: &Key,
         moment: u64,
     ) -> Result<Told, Denied>
-        ensures seen { IsPrefix session.old.list session.new.list }
+        ensures seen { SeesMore session.old.seen session.new.seen }
         ensures number { session.new.number ≡ session.old.number }
-        ensures told { IfOk result (λ t. Tells O.trees O.number O.hives session.old.list session.new.list
+        ensures told { IfOk result (λ t. Tells O.start O.trees O.number O.hives session.old.seen session.new.seen
             (write_event session.old.number (Some tx) moment (op.DeleteKey key.now.hive key.now.path)) t) }
         ensures granted { IfOk result (λ t. ¬ (IsRefusal t.reply)) }
-        ensures stands { IfOk result (λ t. StandsAlone O.trees O.number O.hives session.new.list (Some tx) moment
+        ensures stands { IfOk result (λ t. StandsAlone O.trees O.number O.hives session.new.seen.list (Some tx) moment
             (op.DeleteKey key.now.hive key.now.path) t.reply) }
-        ensures denied { IfErr result (IsDenied O.trees O.number O.hives session.old.list session.new.list
+        ensures denied { IfErr result (IsDenied O.start O.trees O.number O.hives session.old.seen session.new.seen
             (write_event session.old.number (Some tx) moment (op.DeleteKey key.now.hive key.now.path))) }
-        ensures refused { IfErr result (IsDeniedAlone O.trees O.number O.hives session.new.list (Some tx) moment
+        ensures refused { IfErr result (IsDeniedAlone O.trees O.number O.hives session.new.seen.list (Some tx) moment
             (op.DeleteKey key.now.hive key.now.path)) }
     {
         self.delete_key(rt, session, key, Some(tx), moment)
@@ -132,16 +131,16 @@ impl<E: StoreEngine, O: Origin> Registry<E, O> {
         data: Data,
         moment: u64,
     ) -> Result<Told, Denied>
-        ensures seen { IsPrefix session.old.list session.new.list }
+        ensures seen { SeesMore session.old.seen session.new.seen }
         ensures number { session.new.number ≡ session.old.number }
-        ensures told { IfOk result (λ t. Tells O.trees O.number O.hives session.old.list session.new.list
+        ensures told { IfOk result (λ t. Tells O.start O.trees O.number O.hives session.old.seen session.new.seen
             (write_event session.old.number key.now.tx moment (op.SetValue key.now.hive key.now.path name kind «data»)) t) }
         ensures granted { IfOk result (λ t. ¬ (IsRefusal t.reply)) }
-        ensures stands { IfOk result (λ t. StandsAlone O.trees O.number O.hives session.new.list key.now.tx moment
+        ensures stands { IfOk result (λ t. StandsAlone O.trees O.number O.hives session.new.seen.list key.now.tx moment
             (op.SetValue key.now.hive key.now.path name kind «data») t.reply) }
-        ensures denied { IfErr result (IsDenied O.trees O.number O.hives session.old.list session.new.list
+        ensures denied { IfErr result (IsDenied O.start O.trees O.number O.hives session.old.seen session.new.seen
             (write_event session.old.number key.now.tx moment (op.SetValue key.now.hive key.now.path name kind «data»))) }
-        ensures refused { IfErr result (IsDeniedAlone O.trees O.number O.hives session.new.list key.now.tx moment
+        ensures refused { IfErr result (IsDeniedAlone O.trees O.number O.hives session.new.seen.list key.now.tx moment
             (op.SetValue key.now.hive key.now.path name kind «data»)) }
     {
         let op = Op::SetValue {
@@ -164,16 +163,16 @@ impl<E: StoreEngine, O: Origin> Registry<E, O> {
         name: ValueName,
         moment: u64,
     ) -> Result<Told, Denied>
-        ensures seen { IsPrefix session.old.list session.new.list }
+        ensures seen { SeesMore session.old.seen session.new.seen }
         ensures number { session.new.number ≡ session.old.number }
-        ensures told { IfOk result (λ t. Tells O.trees O.number O.hives session.old.list session.new.list
+        ensures told { IfOk result (λ t. Tells O.start O.trees O.number O.hives session.old.seen session.new.seen
             (write_event session.old.number key.now.tx moment (op.DeleteValue key.now.hive key.now.path name)) t) }
         ensures granted { IfOk result (λ t. ¬ (IsRefusal t.reply)) }
-        ensures stands { IfOk result (λ t. StandsAlone O.trees O.number O.hives session.new.list key.now.tx moment
+        ensures stands { IfOk result (λ t. StandsAlone O.trees O.number O.hives session.new.seen.list key.now.tx moment
             (op.DeleteValue key.now.hive key.now.path name) t.reply) }
-        ensures denied { IfErr result (IsDenied O.trees O.number O.hives session.old.list session.new.list
+        ensures denied { IfErr result (IsDenied O.start O.trees O.number O.hives session.old.seen session.new.seen
             (write_event session.old.number key.now.tx moment (op.DeleteValue key.now.hive key.now.path name))) }
-        ensures refused { IfErr result (IsDeniedAlone O.trees O.number O.hives session.new.list key.now.tx moment
+        ensures refused { IfErr result (IsDeniedAlone O.trees O.number O.hives session.new.seen.list key.now.tx moment
             (op.DeleteValue key.now.hive key.now.path name)) }
     {
         let op = Op::DeleteValue {
@@ -194,17 +193,17 @@ impl<E: StoreEngine, O: Origin> Registry<E, O> {
         tx: Option<Tx>,
         moment: u64,
     ) -> Result<(Disposition, Told), Denied>
-        ensures seen { IsPrefix session.old.list session.new.list }
+        ensures seen { SeesMore session.old.seen session.new.seen }
         ensures number { session.new.number ≡ session.old.number }
-        ensures told { IfOk result (λ r. Tells O.trees O.number O.hives session.old.list session.new.list
+        ensures told { IfOk result (λ r. Tells O.start O.trees O.number O.hives session.old.seen session.new.seen
             (write_event session.old.number tx moment (op.CreateKey key.now.hive key.now.path)) r.1) }
         ensures granted { IfOk result (λ r. ¬ (IsRefusal r.1.reply)) }
-        ensures stands { IfOk result (λ r. StandsAlone O.trees O.number O.hives session.new.list tx moment
+        ensures stands { IfOk result (λ r. StandsAlone O.trees O.number O.hives session.new.seen.list tx moment
             (op.CreateKey key.now.hive key.now.path) r.1.reply) }
         ensures disposition { IfOk result (λ r. Disposes r.0 r.1.reply) }
-        ensures denied { IfErr result (IsDenied O.trees O.number O.hives session.old.list session.new.list
+        ensures denied { IfErr result (IsDenied O.start O.trees O.number O.hives session.old.seen session.new.seen
             (write_event session.old.number tx moment (op.CreateKey key.now.hive key.now.path))) }
-        ensures refused { IfErr result (IsDeniedAlone O.trees O.number O.hives session.new.list tx moment
+        ensures refused { IfErr result (IsDeniedAlone O.trees O.number O.hives session.new.seen.list tx moment
             (op.CreateKey key.now.hive key.now.path)) }
     {
         let op = Op::CreateKey {
@@ -225,16 +224,16 @@ impl<E: StoreEngine, O: Origin> Registry<E, O> {
         tx: Option<Tx>,
         moment: u64,
     ) -> Result<Told, Denied>
-        ensures seen { IsPrefix session.old.list session.new.list }
+        ensures seen { SeesMore session.old.seen session.new.seen }
         ensures number { session.new.number ≡ session.old.number }
-        ensures told { IfOk result (λ t. Tells O.trees O.number O.hives session.old.list session.new.list
+        ensures told { IfOk result (λ t. Tells O.start O.trees O.number O.hives session.old.seen session.new.seen
             (write_event session.old.number tx moment (op.DeleteKey key.now.hive key.now.path)) t) }
         ensures granted { IfOk result (λ t. ¬ (IsRefusal t.reply)) }
-        ensures stands { IfOk result (λ t. StandsAlone O.trees O.number O.hives session.new.list tx moment
+        ensures stands { IfOk result (λ t. StandsAlone O.trees O.number O.hives session.new.seen.list tx moment
             (op.DeleteKey key.now.hive key.now.path) t.reply) }
-        ensures denied { IfErr result (IsDenied O.trees O.number O.hives session.old.list session.new.list
+        ensures denied { IfErr result (IsDenied O.start O.trees O.number O.hives session.old.seen session.new.seen
             (write_event session.old.number tx moment (op.DeleteKey key.now.hive key.now.path))) }
-        ensures refused { IfErr result (IsDeniedAlone O.trees O.number O.hives session.new.list tx moment
+        ensures refused { IfErr result (IsDeniedAlone O.trees O.number O.hives session.new.seen.list tx moment
             (op.DeleteKey key.now.hive key.now.path)) }
     {
         let op = Op::DeleteKey {
@@ -253,16 +252,16 @@ impl<E: StoreEngine, O: Origin> Registry<E, O> {
         moment: u64,
         op: Op,
     ) -> Result<Told, Denied>
-        ensures seen { IsPrefix session.old.list session.new.list }
+        ensures seen { SeesMore session.old.seen session.new.seen }
         ensures number { session.new.number ≡ session.old.number }
-        ensures told { IfOk result (λ t. Tells O.trees O.number O.hives session.old.list session.new.list
+        ensures told { IfOk result (λ t. Tells O.start O.trees O.number O.hives session.old.seen session.new.seen
             (write_event session.old.number tx moment op) t) }
         ensures granted { IfOk result (λ t. ¬ (IsRefusal t.reply)) }
-        ensures stands { IfOk result (λ t. StandsAlone O.trees O.number O.hives session.new.list tx moment
+        ensures stands { IfOk result (λ t. StandsAlone O.trees O.number O.hives session.new.seen.list tx moment
             op t.reply) }
-        ensures denied { IfErr result (IsDenied O.trees O.number O.hives session.old.list session.new.list
+        ensures denied { IfErr result (IsDenied O.start O.trees O.number O.hives session.old.seen session.new.seen
             (write_event session.old.number tx moment op)) }
-        ensures refused { IfErr result (IsDeniedAlone O.trees O.number O.hives session.new.list tx moment
+        ensures refused { IfErr result (IsDeniedAlone O.trees O.number O.hives session.new.seen.list tx moment
             op) }
     {
         match tx {
@@ -291,16 +290,16 @@ impl<E: StoreEngine, O: Origin> Registry<E, O> {
         moment: u64,
         op: Op,
     ) -> Result<Told, Denied>
-        ensures seen { IsPrefix session.old.list session.new.list }
+        ensures seen { SeesMore session.old.seen session.new.seen }
         ensures number { session.new.number ≡ session.old.number }
-        ensures told { IfOk result (λ t. Tells O.trees O.number O.hives session.old.list session.new.list
+        ensures told { IfOk result (λ t. Tells O.start O.trees O.number O.hives session.old.seen session.new.seen
             (event.Write session.old.number moment op) t) }
         ensures granted { IfOk result (λ t. ¬ (IsRefusal t.reply)) }
         ensures stands { IfOk result (λ t.
-            WriteStands O.trees O.number O.hives session.new.list moment op t.reply) }
-        ensures denied { IfErr result (IsDenied O.trees O.number O.hives session.old.list session.new.list
+            WriteStands O.trees O.number O.hives session.new.seen.list moment op t.reply) }
+        ensures denied { IfErr result (IsDenied O.start O.trees O.number O.hives session.old.seen session.new.seen
             (event.Write session.old.number moment op)) }
-        ensures refused { IfErr result (IsDeniedAlone O.trees O.number O.hives session.new.list None moment op) }
+        ensures refused { IfErr result (IsDeniedAlone O.trees O.number O.hives session.new.seen.list None moment op) }
     {
         let event = Event::Write {
             session: session.number(),
@@ -321,12 +320,12 @@ impl<E: StoreEngine, O: Origin> Registry<E, O> {
         session: &mut Session<O>,
         _key: &Key,
     ) -> Result<(Receipt<O>, Told), Denied>
-        ensures seen { IsPrefix session.old.list session.new.list }
+        ensures seen { SeesMore session.old.seen session.new.seen }
         ensures number { session.new.number ≡ session.old.number }
-        ensures told { IfOk result (λ r. TellsDurably O.trees O.number O.hives session.old.list session.new.list
+        ensures told { IfOk result (λ r. TellsDurably O.start O.trees O.number O.hives session.old.seen session.new.seen
             event.FlushAsk r.0 r.1) }
-        ensures all { IfOk result (λ r. O.number + length session.old.list ≤ r.0.number) }
-        ensures denied { IfErr result (IsCommitDenied O.trees O.number O.hives session.old.list event.FlushAsk) }
+        ensures all { IfOk result (λ r. O.number + length session.old.seen.list ≤ r.0.number) }
+        ensures denied { IfErr result (IsCommitDenied O.start O.trees O.number O.hives session.old.seen event.FlushAsk) }
     {
         let answer = self.serve_durably(rt, session, Event::FlushAsk, MemoryPolicy::GiveUp)?;
         Ok(answer)

@@ -5,13 +5,14 @@
 
 mod calls;
 mod event_kind;
+mod holding;
 mod key;
 pub mod laws;
 mod locked;
 mod receipt;
 mod registry;
 mod session;
-mod store_engine;
+mod sight;
 mod tx_calls;
 mod waiting;
 
@@ -21,4 +22,4 @@ pub use locked::{Locked, Told};
 pub use receipt::{Receipt, Stopped};
 pub use registry::{Denied, Disposition, Ended, Registry, Turn};
 pub use session::Session;
-pub use store_engine::StoreEngine;
+pub use sight::Sight;

@@ -1,29 +1,32 @@
 //! What is under the lock, and the work of one hold.
-ghost use Rattle.std.specs.Prelude.{◌≡◌, ◌⊎◌, ◌+◌, ◌<◌, ◌≤◌, ◌^◌, ◌++◌, ◌∷◌, [], length, true, false, IfErr, IfOk, IfSome, OnErr, OnOk};
-ghost use Rattle.reg_tree.specs.Sequences.{after_elements};
+ghost use Rattle.std.specs.Prelude.{◌≡◌, ◌⊎◌, ◌+◌, ◌≤◌, ◌^◌, ◌++◌, ◌∷◌, [], ℕ, length, true, false, IfErr, IfOk, OnErr};
 ghost use mathlib.Core.List.{IsPrefix};
 ghost use Rattle.published_trees.specs.declared.rule.TheConstants.{MOST_READERS};
 ghost use Rattle.refusals.specs.declared.refusal.Refusal.TheVariants.{NoMemory, NoSeat};
-ghost use Rattle.store_model.specs.Machine.{last_number};
+ghost use Rattle.store_model.specs.Machine.{Machine};
 ghost use Rattle.store_model.specs.Steps.{Step, is_fold, may_accept};
 ghost use Rattle.store_model.specs.declared.event.Event.TheVariants as event;
 ghost use Rattle.store_model.specs.declared.event.Reply.TheVariants as reply;
+ghost use Rattle.histories.specs.Histories.{LeadsTo};
+ghost use Rattle.histories.specs.Points.{entry_of, point_of};
 ghost use Rattle.ktm_calls.specs.Denials.{OpensOrNot, refusal_in};
 ghost use Rattle.ktm_calls.specs.Kinds.{kind_of};
-ghost use Rattle.ktm_calls.specs.Moments.{IsOf, Tells, with_next};
+ghost use Rattle.ktm_calls.specs.Moments.{AddsAtMost, IsOf, SeesMore, Tells};
 ghost use Rattle.ktm_calls.specs.OpenSessions.{AreBelow, OpensBelow};
 
 use crate::event_kind::{EventKind, may_accept};
+use crate::holding::{accept_event, put_event};
 use crate::session::Session;
-use crate::store_engine::StoreEngine;
-use published_trees::{ChangeCount, MOST_READERS, Origin, Publication, SeenChanges, TreesReader};
+use crate::sight::Sight;
+use histories::{EventCount, Start};
+use published_trees::{ChangeCount, MOST_READERS, Publication, SeenChanges, TreesReader};
 use refusals::Refusal;
 use std::alloc::Global;
 use std::marker::Model;
-use std::sync::{Arc, Wait};
+use std::sync::Wait;
+use store_engine::StoreEngine;
 use store_model::laws::{no_memory_changes_nothing, openings_stay, others_accept_nothing};
 use store_model::{Event, Reply};
-use transactions::Next;
 
 /// What one event asked, and what it was answered. [`Locked::hold`] alone makes one.
 pub struct Told {
@@ -82,15 +85,18 @@ impl Told {
     }
 }
 
-/// What is under the lock: the engine, and the list of the changes that it accepted with the trees that readers see.
+/// What is under the lock: the engine, its history, and the list of the changes that it accepted with the trees that
+/// readers see.
 ///
-/// Whenever the lock is free the list is the engine's history, and what is published is the trees at its opening with
-/// that list applied.
+/// Whenever the lock is free the history leads from the start to the engine of now, the list is of the changes accepted
+/// in it, and what is published is the trees at its opening with that list applied.
 ///
 /// No fold happens under the lock: the trees and the number of the opening are those that the registry was made with.
-pub struct Locked<E: StoreEngine, O: Origin> {
+pub struct Locked<E: StoreEngine, O: Start> {
     alloc: Global,
     engine: E,
+    // each event that was put to the engine
+    events: EventCount,
     publication: Publication<O>,
     // a reader for each session that may be opened; a session's number is its reader's place
     readers: Vec<Option<TreesReader<O>>>,
@@ -103,8 +109,10 @@ pub struct Locked<E: StoreEngine, O: Origin> {
     session_bound: u64,
 }
 
-impl<E: StoreEngine, O: Origin> Model for Locked<E, O> {
+impl<E: StoreEngine, O: Start> Model for Locked<E, O> {
     ghost use Rattle.std.specs.Prelude.{◌≡◌, ◌≤◌, ◌^◌};
+    ghost use Rattle.histories.specs.Histories.{LeadsTo};
+    ghost use Rattle.histories.specs.Points.{point_of};
     ghost use Rattle.ktm_calls.specs.Held.{Held, held_code};
     ghost use Rattle.ktm_calls.specs.Moments.{IsOf};
     ghost use Rattle.ktm_calls.specs.OpenSessions.{AreBelow};
@@ -113,9 +121,13 @@ impl<E: StoreEngine, O: Origin> Model for Locked<E, O> {
 
     ghost coded = { held_code E.code };
 
-    ghost view = { λ l. record { engine = l.engine; stopped = l.stopped } };
+    ghost view = { λ l. record { engine = l.engine; history = l.events.log; stopped = l.stopped } };
 
     ghost invariant = { λ l. record {
+      book : l.events.book ≡ O.history;
+      store : E.store l.engine ≡ O.store;
+      leads : LeadsTo O.start O.safe O.faithful (E.safe l.engine) (E.faithful l.engine) l.events.log
+          (point_of (E.machine l.engine) (E.clock l.engine) (E.failures l.engine));
       owner : IsOf O.trees O.number O.hives (E.machine l.engine);
       list : l.publication ≡ (E.machine l.engine).accepted;
       sessions : AreBelow l.session_bound (E.machine l.engine);
@@ -123,9 +135,9 @@ impl<E: StoreEngine, O: Origin> Model for Locked<E, O> {
     } };
 }
 
-impl<E: StoreEngine, O: Origin> Locked<E, O> {
-    /// One event, but no fold, which is what one hold of the lock does. A change that it accepts is in the list, and its
-    /// trees are published.
+impl<E: StoreEngine, O: Start> Locked<E, O> {
+    /// One event, but no fold, which is what one hold of the lock does. It is the last one of the history then. A change
+    /// that it accepts is in the list, and its trees are published.
     ///
     /// Refused with `NoMemory` alone; nothing has changed then.
     pub fn hold<R: Wait>(&mut self, rt: &R, event: Event) -> Result<Told, Refusal>
@@ -136,10 +148,11 @@ impl<E: StoreEngine, O: Origin> Locked<E, O> {
         ensures fed { IfOk result (λ t. ¬ (t.reply ≡ reply.Refused NoMemory)) }
         ensures refused { IfErr result (λ why. why ≡ NoMemory) }
         ensures unchanged { OnErr result (E.machine self.new.engine ≡ E.machine self.old.engine) }
-        ensures before { E.faithful self.new.engine →
-            E.safe self.new.engine (E.clock self.old.engine) (E.machine self.old.engine) }
-        ensures after { E.faithful self.new.engine →
-            E.safe self.new.engine (E.clock self.new.engine) (E.machine self.new.engine) }
+        ensures history { IfOk result (λ t. self.new.history ≡ self.old.history ++ entry_of event t.reply
+            (point_of (E.machine self.new.engine) (E.clock self.new.engine) (E.failures self.new.engine)) ∷ []) }
+        ensures lacked { OnErr result (AddsAtMost self.old.history event
+            (point_of (E.machine self.new.engine) (E.clock self.new.engine) (E.failures self.new.engine))
+            self.new.history) }
         ensures call { (E.clock self.old.engine ≤ E.clock self.new.engine)
             × (E.clock self.new.engine ≤ E.clock self.old.engine + 1) }
         ensures stopped { self.new.stopped ≡ self.old.stopped }
@@ -147,12 +160,12 @@ impl<E: StoreEngine, O: Origin> Locked<E, O> {
         if may_accept(&event) {
             self.accept(rt, event)
         } else {
-            self.make(event)
+            self.make(rt, event)
         }
     }
 
     // an event that accepts nothing
-    fn make(&mut self, event: Event) -> Result<Told, Refusal>
+    fn make<R: Wait>(&mut self, rt: &R, event: Event) -> Result<Told, Refusal>
         requires calm { may_accept event ≡ false }
         requires no_fold { is_fold event ≡ false }
         ensures kind { IfOk result (λ t. t.kind ≡ kind_of event) }
@@ -161,10 +174,11 @@ impl<E: StoreEngine, O: Origin> Locked<E, O> {
         ensures fed { IfOk result (λ t. ¬ (t.reply ≡ reply.Refused NoMemory)) }
         ensures refused { IfErr result (λ why. why ≡ NoMemory) }
         ensures unchanged { OnErr result (E.machine self.new.engine ≡ E.machine self.old.engine) }
-        ensures before { E.faithful self.new.engine →
-            E.safe self.new.engine (E.clock self.old.engine) (E.machine self.old.engine) }
-        ensures after { E.faithful self.new.engine →
-            E.safe self.new.engine (E.clock self.new.engine) (E.machine self.new.engine) }
+        ensures history { IfOk result (λ t. self.new.history ≡ self.old.history ++ entry_of event t.reply
+            (point_of (E.machine self.new.engine) (E.clock self.new.engine) (E.failures self.new.engine)) ∷ []) }
+        ensures lacked { OnErr result (AddsAtMost self.old.history event
+            (point_of (E.machine self.new.engine) (E.clock self.new.engine) (E.failures self.new.engine))
+            self.new.history) }
         ensures call { (E.clock self.old.engine ≤ E.clock self.new.engine)
             × (E.clock self.new.engine ≤ E.clock self.old.engine + 1) }
         ensures stopped { self.new.stopped ≡ self.old.stopped }
@@ -174,7 +188,7 @@ impl<E: StoreEngine, O: Origin> Locked<E, O> {
         no_memory_changes_nothing();
         let kind = EventKind::of(&event);
         self.session_bound = bound_with(self.session_bound, &event);
-        let reply = self.engine.event(event);
+        let reply = put_event::<E, O, R>(rt, &mut self.engine, &mut self.events, event);
         if let Reply::Refused {
             refusal: Refusal::NoMemory,
         } = reply
@@ -195,10 +209,11 @@ impl<E: StoreEngine, O: Origin> Locked<E, O> {
         ensures fed { IfOk result (λ t. ¬ (t.reply ≡ reply.Refused NoMemory)) }
         ensures refused { IfErr result (λ why. why ≡ NoMemory) }
         ensures unchanged { OnErr result (E.machine self.new.engine ≡ E.machine self.old.engine) }
-        ensures before { E.faithful self.new.engine →
-            E.safe self.new.engine (E.clock self.old.engine) (E.machine self.old.engine) }
-        ensures after { E.faithful self.new.engine →
-            E.safe self.new.engine (E.clock self.new.engine) (E.machine self.new.engine) }
+        ensures history { IfOk result (λ t. self.new.history ≡ self.old.history ++ entry_of event t.reply
+            (point_of (E.machine self.new.engine) (E.clock self.new.engine) (E.failures self.new.engine)) ∷ []) }
+        ensures lacked { OnErr result (AddsAtMost self.old.history event
+            (point_of (E.machine self.new.engine) (E.clock self.new.engine) (E.failures self.new.engine))
+            self.new.history) }
         ensures call { (E.clock self.old.engine ≤ E.clock self.new.engine)
             × (E.clock self.new.engine ≤ E.clock self.old.engine + 1) }
         ensures stopped { self.new.stopped ≡ self.old.stopped }
@@ -206,20 +221,43 @@ impl<E: StoreEngine, O: Origin> Locked<E, O> {
         openings_stay();
         self.engine.stays_within();
         let kind = EventKind::of(&event);
-        let engine = &mut self.engine;
-        let reply = carry_out::<E, O, R>(rt, self.alloc, engine, &mut self.publication, event)?;
+        let reply = accept_event::<E, O, R>(
+            rt,
+            self.alloc,
+            &mut self.engine,
+            &mut self.events,
+            &mut self.publication,
+            event,
+        )?;
         Ok(Told { kind, reply })
     }
 
-    /// What was seen of the list: all of it, which is the engine's history.
-    pub fn seen(&self) -> SeenChanges
+    /// What is seen under the lock: all of the list, which is what the engine accepted, and all of the history.
+    pub fn sight(&self) -> Sight<O>
         ensures owner { IsOf O.trees O.number O.hives (E.machine self.now.engine) }
-        ensures list { result ≡ record { book = O.book; list = (E.machine self.now.engine).accepted } }
+        ensures whole { result ≡ record {
+          list = (E.machine self.now.engine).accepted;
+          history = self.now.history;
+        } }
         ensures durable { (E.machine self.now.engine).durable
             ≤ O.number + length (E.machine self.now.engine).accepted }
     {
         self.engine.stays_within();
-        self.publication.seen()
+        Sight::new(self.publication.seen(), self.events.all().again())
+    }
+
+    /// Brings what was seen to all that is seen under the lock, which it begins.
+    pub(crate) fn show<R: Wait>(&self, rt: &R, mine: &mut Sight<O>)
+        ensures more { SeesMore mine.old mine.new }
+        ensures owner { IsOf O.trees O.number O.hives (E.machine self.now.engine) }
+        ensures whole { mine.new ≡ record {
+          list = (E.machine self.now.engine).accepted;
+          history = self.now.history;
+        } }
+    {
+        let all = self.sight();
+        catch_up(rt, &mut mine.changes, &all.changes);
+        self.events.show(rt, &mut mine.events);
     }
 
     /// The number up to which changes are durable.
@@ -229,20 +267,20 @@ impl<E: StoreEngine, O: Origin> Locked<E, O> {
         self.engine.durable()
     }
 
-    /// One event of a session, which has seen the whole list before and after it.
+    /// One event of one who has seen some of the list and of the history, and has seen all of both before and after it.
     pub(crate) fn serve<R: Wait>(
         &mut self,
         rt: &R,
-        mine: &mut SeenChanges,
+        mine: &mut Sight<O>,
         event: Event,
     ) -> Result<Told, Refusal>
         requires no_fold { is_fold event ≡ false }
-        requires book { mine.old.book ≡ O.book }
-        ensures book { mine.new.book ≡ O.book }
-        ensures seen { IsPrefix mine.old.list mine.new.list }
-        ensures list { mine.new.list ≡ (E.machine self.new.engine).accepted }
-        ensures told { IfOk result (λ t. Tells O.trees O.number O.hives
-            mine.old.list mine.new.list event t) }
+        ensures seen { SeesMore mine.old mine.new }
+        ensures whole { mine.new ≡ record {
+          list = (E.machine self.new.engine).accepted;
+          history = self.new.history;
+        } }
+        ensures told { IfOk result (λ t. Tells O.start O.trees O.number O.hives mine.old mine.new event t) }
         ensures step { IfOk result (λ t.
             Step (E.machine self.old.engine) event t.reply (E.machine self.new.engine)) }
         ensures fed { IfOk result (λ t. ¬ (t.reply ≡ reply.Refused NoMemory)) }
@@ -251,9 +289,10 @@ impl<E: StoreEngine, O: Origin> Locked<E, O> {
             × (E.clock self.new.engine ≤ E.clock self.old.engine + 1) }
         ensures stopped { self.new.stopped ≡ self.old.stopped }
     {
-        catch_up(rt, mine, &self.seen());
+        self.keeps_history(); // for the prover
+        self.show(rt, mine);
         let told = self.hold(rt, event);
-        catch_up(rt, mine, &self.seen());
+        self.show(rt, mine);
         let told = told?;
         Ok(told)
     }
@@ -279,59 +318,7 @@ fn bound_with(bound: u64, event: &Event) -> u64
     }
 }
 
-// an event that may accept a change: it is prepared, its change is in the list with its trees published, and then it is
-// finished
-fn carry_out<E: StoreEngine, O: Origin, R: Wait>(
-    rt: &R,
-    alloc: Global,
-    engine: &mut E,
-    publication: &mut Publication<O>,
-    event: Event,
-) -> Result<Reply, Refusal>
-    requires accepts { may_accept event ≡ true }
-    requires opened { (E.machine engine.old).opened ≡ O.trees }
-    requires list { publication.old ≡ (E.machine engine.old).accepted }
-    requires room { length publication.old < u64.MAX }
-    ensures list { publication.new ≡ (E.machine engine.new).accepted }
-    ensures step { IfOk result (λ answer. Step (E.machine engine.old) event answer (E.machine engine.new)) }
-    ensures fed { IfOk result (λ answer. ¬ (answer ≡ reply.Refused NoMemory)) }
-    ensures refused { IfErr result (λ why. why ≡ NoMemory) }
-    ensures unchanged { OnErr result (E.machine engine.new ≡ E.machine engine.old) }
-    ensures before { E.faithful engine.new →
-        E.safe engine.new (E.clock engine.old) (E.machine engine.old) }
-    ensures after { E.faithful engine.new →
-        E.safe engine.new (E.clock engine.new) (E.machine engine.new) }
-    ensures call { E.clock engine.new ≡ E.clock engine.old }
-{
-    let prepared = engine.prepare(event);
-    engine.keeps_a_prefix();
-    let next = prepared?;
-    publish_next::<O, R>(rt, alloc, publication, next)?;
-    Ok(engine.finish())
-}
-
-// the change that comes is in the list, and the trees after it are published
-fn publish_next<O: Origin, R: Wait>(
-    rt: &R,
-    alloc: Global,
-    publication: &mut Publication<O>,
-    next: Option<Next>,
-) -> Result<(), Refusal>
-    requires room { length publication.old < u64.MAX }
-    requires trees { IfSome next (λ n. n.trees
-        ≡ after_elements O.trees (publication.old ++ n.change.value ∷ [])) }
-    ensures added { OnOk result (publication.new ≡ with_next publication.old next) }
-    ensures unchanged { OnErr result (publication.new ≡ publication.old) }
-    ensures refused { IfErr result (λ why. why ≡ NoMemory) }
-{
-    if let Some(Next { trees, change }) = next {
-        let shared = Arc::new(alloc, trees)?;
-        publication.publish(rt, shared, &change);
-    }
-    Ok(())
-}
-
-// brings what a session has seen to the whole list, which it begins
+// brings what was seen of the list to all of it, which it begins
 fn catch_up<R: Wait>(rt: &R, mine: &mut SeenChanges, all: &SeenChanges)
     requires book { mine.old.book ≡ all.now.book }
     ensures whole { mine.new ≡ all.now }
@@ -348,7 +335,7 @@ fn catch_up<R: Wait>(rt: &R, mine: &mut SeenChanges, all: &SeenChanges)
 
 /// What became of a session that was to be opened.
 #[derive(Drop)]
-pub enum OpenResult<O: Origin> {
+pub enum OpenResult<O: Start> {
     /// It is open.
     Session(Session<O>, Told),
     /// It was refused.
@@ -357,25 +344,32 @@ pub enum OpenResult<O: Origin> {
     NoMemory,
 }
 
-impl<E: StoreEngine, O: Origin> Locked<E, O> {
-    /// Takes over an engine that was just opened, with a list to which nothing was added. All that readers need is made
-    /// here.
+impl<E: StoreEngine, O: Start> Locked<E, O> {
+    /// Takes over an engine that was just opened, with a history and a list to which nothing was added. All that readers
+    /// need is made here.
     ///
     /// Refused with `NoMemory`, or with `NoSeat` if the library denies a reader; the engine comes back then.
     pub fn open<R: Wait>(
         alloc: Global,
         rt: &R,
         engine: E,
+        events: EventCount,
         count: ChangeCount,
         seen: SeenChanges,
     ) -> Result<Locked<E, O>, (Refusal, E)>
         requires book { (count ≡ O.book) × (seen ≡ record { book = O.book; list = [] }) }
+        requires events { events ≡ record { book = O.history; log = [] } }
+        requires store { E.store engine ≡ O.store }
+        requires start { point_of (E.machine engine) (E.clock engine) (E.failures engine) ≡ O.start }
+        requires faithful { E.faithful engine → O.faithful }
+        requires safe { (moment : ℕ) (machine : Machine) → O.safe moment machine → E.safe engine moment machine }
         requires engine { IsOf O.trees O.number O.hives (E.machine engine)
             × ((E.machine engine).accepted ≡ []) × ((E.machine engine).sessions ≡ []) }
-        ensures same { IfOk result (λ l. (l.engine ≡ engine) × (l.stopped ≡ false)) }
+        ensures same { IfOk result (λ l. l ≡ record { engine = engine; history = []; stopped = false }) }
         ensures refused { IfErr result (λ back.
             ((back.0 ≡ NoMemory) ⊎ (back.0 ≡ NoSeat)) × (back.1 ≡ engine)) }
     {
+        engine.keeps_a_prefix(); // for the prover
         let Ok(trees) = engine.trees().try_clone(alloc) else {
             return Err((Refusal::NoMemory, engine));
         };
@@ -383,6 +377,7 @@ impl<E: StoreEngine, O: Origin> Locked<E, O> {
             Ok((publication, readers)) => Ok(Locked {
                 alloc,
                 engine,
+                events,
                 publication,
                 readers,
                 stopped: false,
@@ -404,13 +399,14 @@ impl<E: StoreEngine, O: Origin> Locked<E, O> {
         }
     }
 
-    /// Opens a session, whose number is its reader's place. If all readers are out, the engine is asked with the number
-    /// of none, and refuses.
-    pub(crate) fn start_session<R: Wait>(&mut self, rt: &R) -> OpenResult<O>
-        ensures { OpensOrNot O.trees O.number O.hives result }
+    /// Opens a session that has seen more than this, whose number is its reader's place. If all readers are out, the
+    /// engine is asked with the number of none, and refuses.
+    pub(crate) fn start_session<R: Wait>(&mut self, rt: &R, mine: Sight<O>) -> OpenResult<O>
+        ensures { OpensOrNot O.start O.trees O.number O.hives mine result }
     {
+        let mut mine = mine;
         let (number, reader) = take_reader(&mut self.readers);
-        let answer = self.tell(rt, Event::StartSession { session: number });
+        let answer = self.serve(rt, &mut mine, Event::StartSession { session: number });
         let Ok(told) = answer else {
             self.give_back(number, reader);
             return OpenResult::NoMemory;
@@ -420,10 +416,7 @@ impl<E: StoreEngine, O: Origin> Locked<E, O> {
             return OpenResult::Refused(told);
         }
         let hives = self.hives();
-        OpenResult::Session(
-            Session::new(self.alloc, number, reader, self.seen(), hives),
-            told,
-        )
+        OpenResult::Session(Session::new(self.alloc, number, reader, mine, hives), told)
     }
 
     /// Ends a session. Its reader is there again, also if the event is refused.
@@ -432,22 +425,14 @@ impl<E: StoreEngine, O: Origin> Locked<E, O> {
         rt: &R,
         number: u32,
         reader: Option<TreesReader<O>>,
+        mine: &mut Sight<O>,
     ) -> Result<Told, Refusal>
-        ensures told { IfOk result (λ t. Tells O.trees O.number O.hives []
-            (E.machine self.new.engine).accepted (event.EndSession number) t) }
+        ensures seen { SeesMore mine.old mine.new }
+        ensures told { IfOk result (λ t. Tells O.start O.trees O.number O.hives mine.old mine.new
+            (event.EndSession number) t) }
     {
         self.give_back(number, reader);
-        self.tell(rt, Event::EndSession { session: number })
-    }
-
-    // one event, of nobody who has seen anything
-    fn tell<R: Wait>(&mut self, rt: &R, event: Event) -> Result<Told, Refusal>
-        requires no_fold { is_fold event ≡ false }
-        ensures told { IfOk result (λ t. Tells O.trees O.number O.hives []
-            (E.machine self.new.engine).accepted event t) }
-    {
-        let told = self.hold(rt, event)?;
-        self.is_of_registry();
+        let told = self.serve(rt, mine, Event::EndSession { session: number })?;
         Ok(told)
     }
 
@@ -459,14 +444,20 @@ impl<E: StoreEngine, O: Origin> Locked<E, O> {
         let _ = &self.alloc; // for the prover
     }
 
-    /// The engine, without the lock. Each session that is open in it is ended, whoever has it.
-    pub(crate) fn close<R: Wait>(self, rt: &R) -> E
-        ensures owner { IsOf O.trees O.number O.hives (E.machine result) }
-        ensures sessions { (E.machine result).sessions ≡ [] }
+    /// The engine and its whole history, without the lock. Each session that is open in it is ended, whoever has it.
+    pub(crate) fn close<R: Wait>(self, rt: &R) -> (E, EventCount)
+        ensures list { (E.machine result.0).accepted ≡ (E.machine self.engine).accepted }
+        ensures owner { IsOf O.trees O.number O.hives (E.machine result.0) }
+        ensures sessions { (E.machine result.0).sessions ≡ [] }
+        ensures store { E.store result.0 ≡ O.store }
+        ensures book { result.1.book ≡ O.history }
+        ensures leads { LeadsTo O.start O.safe O.faithful (E.safe result.0) (E.faithful result.0) result.1.log
+            (point_of (E.machine result.0) (E.clock result.0) (E.failures result.0)) }
     {
         let Locked {
             alloc: _,
             mut engine,
+            mut events,
             publication,
             readers: _,
             stopped: _,
@@ -474,18 +465,27 @@ impl<E: StoreEngine, O: Origin> Locked<E, O> {
             last_flushed: _,
             session_bound,
         } = self;
-        end_sessions::<E, O>(&mut engine, session_bound);
+        end_sessions::<E, O, R>(rt, &mut engine, &mut events, session_bound);
         publication.close(rt);
-        engine
+        (engine, events)
     }
 
-    /// A session that isn't open, whose number none has that is.
-    pub(crate) fn closed_session(&self) -> Session<O>
-        ensures number { result.number ≡ MOST_READERS }
-        ensures list { result.list ≡ (E.machine self.now.engine).accepted }
+    /// A law: the history leads from the start to the engine of now.
+    pub fn keeps_history(&self)
+        ensures { LeadsTo O.start O.safe O.faithful (E.safe self.now.engine) (E.faithful self.now.engine)
+            self.now.history
+            (point_of (E.machine self.now.engine) (E.clock self.now.engine) (E.failures self.now.engine)) }
+    {
+        // what the type keeps is known once a field is read
+        let _ = &self.alloc; // for the prover
+    }
+
+    /// A session that isn't open and has seen this, whose number none has that is.
+    pub(crate) fn closed_session(&self, mine: Sight<O>) -> Session<O>
+        ensures { result ≡ record { number = MOST_READERS; seen = mine } }
     {
         let hives = self.hives();
-        Session::new(self.alloc, MOST_READERS as u32, None, self.seen(), hives)
+        Session::new(self.alloc, MOST_READERS as u32, None, mine, hives)
     }
 
     /// The engine.
@@ -540,23 +540,35 @@ impl<E: StoreEngine, O: Origin> Locked<E, O> {
 }
 
 // ends each session of an engine, whose numbers are below `bound`
-fn end_sessions<E: StoreEngine, O: Origin>(engine: &mut E, bound: u64)
+fn end_sessions<E: StoreEngine, O: Start, R: Wait>(
+    rt: &R,
+    engine: &mut E,
+    events: &mut EventCount,
+    bound: u64,
+)
     requires owner { IsOf O.trees O.number O.hives (E.machine engine.old) }
     requires below { AreBelow bound (E.machine engine.old) }
     requires most { bound ≤ 2 ^ 32 }
+    requires leads { LeadsTo O.start O.safe O.faithful (E.safe engine.old) (E.faithful engine.old) events.old.log
+        (point_of (E.machine engine.old) (E.clock engine.old) (E.failures engine.old)) }
+    ensures store { E.store engine.new ≡ E.store engine.old }
     ensures owner { IsOf O.trees O.number O.hives (E.machine engine.new) }
     ensures sessions { (E.machine engine.new).sessions ≡ [] }
+    ensures list { (E.machine engine.new).accepted ≡ (E.machine engine.old).accepted }
+    ensures book { events.new.book ≡ events.old.book }
+    ensures leads { LeadsTo O.start O.safe O.faithful (E.safe engine.new) (E.faithful engine.new) events.new.log
+        (point_of (E.machine engine.new) (E.clock engine.new) (E.failures engine.new)) }
 {
     openings_stay();
+    others_accept_nothing();
     for number in 0..bound {
-        let _ = engine.event(Event::EndSession {
-            session: number as u32,
-        });
+        let session = number as u32;
+        let _ = put_event::<E, O, R>(rt, engine, events, Event::EndSession { session });
     }
 }
 
 // the first reader that is there, and its place; if all are out, the place of none
-fn take_reader<O: Origin>(
+fn take_reader<O: Start>(
     readers: &mut Vec<Option<TreesReader<O>>>,
 ) -> (u32, Option<TreesReader<O>>) {
     for place in 0..MOST_READERS {

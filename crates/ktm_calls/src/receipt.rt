@@ -1,70 +1,86 @@
 //! Receipts: of changes that are durable, and of a flusher that has nothing left to do.
 ghost use Rattle.std.specs.Prelude.{◌≡◌, ◌≤◌, ◌+◌, true, length};
 ghost use Rattle.store_model.specs.Machine.{last_number};
+ghost use Rattle.histories.specs.Histories.{IsHistory, end_of};
 
 use crate::locked::Locked;
-use crate::store_engine::StoreEngine;
-use published_trees::{Origin, SeenChanges};
-use std::marker::{Model, PhantomData};
+use crate::sight::Sight;
+use histories::{EventCount, Start};
+use std::marker::Model;
+use std::sync::Wait;
+use store_engine::StoreEngine;
 
-/// That the change of a number is durable, and with it each earlier one. It carries the list of changes as it was then:
-/// a session that learns it has seen that list.
-pub struct Receipt<O: Origin> {
+/// That the change of a number is durable, and with it each earlier one. It carries the list of changes and the history as
+/// they were then: a session that learns it has seen them.
+pub struct Receipt<O: Start> {
     number: u64,
-    seen: SeenChanges,
-    of: PhantomData<O>,
+    seen: Sight<O>,
 }
 
-impl<O: Origin> Drop for Receipt<O> {
+impl<O: Start> Drop for Receipt<O> {
     // one drop for all that own one, whose proofs see no more of it than that
     fn drop(self) {
-        let Receipt {
-            number: _,
-            seen: _,
-            of: _,
-        } = self;
+        let Receipt { number: _, seen: _ } = self;
     }
 }
 
-impl<O: Origin> Model for Receipt<O> {
+impl<O: Start> Model for Receipt<O> {
     ghost use Rattle.std.specs.Prelude.{◌≡◌, ◌≤◌, ◌+◌, length};
-    ghost use Rattle.ktm_calls.specs.Moments.{NumberedList, numbered_code};
+    ghost use Rattle.histories.specs.Histories.{end_of};
+    ghost use Rattle.ktm_calls.specs.Moments.{NumberedSight, numbered_code};
 
-    ghost Value = { NumberedList };
+    ghost Value = { NumberedSight };
 
     ghost coded = { numbered_code };
 
-    ghost view = { λ r. record { number = r.number; list = r.seen.list } };
+    ghost view = { λ r. record { number = r.number; seen = r.seen } };
 
-    ghost invariant = { λ r. (r.seen.book ≡ O.book) × (r.number ≤ O.number + length r.seen.list) };
+    ghost invariant = { λ r. record {
+      within : r.number ≤ O.number + length r.seen.list;
+      durable : r.number ≤ (end_of O.start r.seen.history).machine.durable;
+    } };
 }
 
-impl<O: Origin> Receipt<O> {
+impl<O: Start> Receipt<O> {
     /// A receipt of a number that is durable: its one maker.
     pub fn of<E: StoreEngine>(locked: &Locked<E, O>, number: u64) -> Receipt<O>
         requires durable { number ≤ (E.machine locked.now.engine).durable }
-        ensures { result ≡ record { number = number; list = (E.machine locked.now.engine).accepted } }
+        ensures { result ≡ record {
+          number = number;
+          seen = record { list = (E.machine locked.now.engine).accepted; history = locked.now.history };
+        } }
     {
+        locked.keeps_history(); // for the prover
         Receipt {
             number,
-            seen: locked.seen(),
-            of: PhantomData,
+            seen: locked.sight(),
         }
     }
 
     /// The number; 0 for a transaction without operations.
     pub fn number(&self) -> u64
         ensures number { result ≡ self.now.number }
-        ensures within { self.now.number ≤ O.number + length self.now.list }
+        ensures within { self.now.number ≤ O.number + length self.now.seen.list }
+        ensures durable { self.now.number ≤ (end_of O.start self.now.seen.history).machine.durable }
     {
         self.number
     }
 
-    pub(crate) fn seen(&self) -> &SeenChanges
-        ensures book { result.now.book ≡ O.book }
-        ensures list { result.now.list ≡ self.now.list }
+    /// What it carries: what was seen as it was made.
+    pub fn sight(&self) -> &Sight<O>
+        ensures { result.now ≡ self.now.seen }
     {
         &self.seen
+    }
+
+    // that its change is durable in a history that has all that was seen
+    pub(crate) fn stays_durable<R: Wait>(&self, rt: &R, events: &EventCount)
+        requires book { events.now.book ≡ O.history }
+        requires run { IsHistory O.start events.now.log }
+        ensures { self.now.number ≤ (end_of O.start events.now.log).machine.durable }
+    {
+        let mut all = self.seen.events.again();
+        events.show(rt, &mut all);
     }
 }
 
@@ -81,7 +97,7 @@ impl Drop for Stopped {
 
 impl Stopped {
     /// That it is so: its one maker.
-    pub fn of<E: StoreEngine, O: Origin>(locked: &Locked<E, O>) -> Stopped
+    pub fn of<E: StoreEngine, O: Start>(locked: &Locked<E, O>) -> Stopped
         requires told { locked.now.stopped ≡ true }
         requires durable { (E.machine locked.now.engine).durable
             ≡ last_number (E.machine locked.now.engine) }

@@ -1,30 +1,34 @@
 //! The registry: one lock, and what threads do with it. Each guard is let go by `MutexGuard::unlock`, on each path.
-ghost use Rattle.std.specs.Prelude.{◌≡◌, ◌⊎◌, ◌≤◌, ◌+◌, filter, nat_lt, [], List, false, true, length, IfOk, IfErr};
-ghost use Rattle.reg_tree.specs.declared.element.Element.{Element};
+ghost use Rattle.std.specs.Prelude.{◌≡◌, ◌⊎◌, ◌≤◌, ◌+◌, ℕ, [], Some, slice_get, false, true, length, IfOk, IfErr};
 ghost use mathlib.Core.List.{IsPrefix};
 ghost use Rattle.published_trees.specs.declared.rule.TheConstants.{MOST_READERS};
 ghost use Rattle.refusals.specs.declared.refusal.Refusal.TheVariants.{NoMemory, NoSeat};
+ghost use Rattle.store_model.specs.Machine.{Machine};
 ghost use Rattle.store_model.specs.Steps.{is_fold};
 ghost use Rattle.store_model.specs.declared.event.Event.TheVariants as event;
 ghost use Rattle.store_model.specs.declared.event.Reply.TheVariants as reply;
+ghost use Rattle.histories.specs.Histories.{IsHistory, LeadsTo, end_of};
+ghost use Rattle.histories.specs.Points.{point_of};
 ghost use Rattle.ktm_calls.specs.Waiting.{SteppedOrFailed, is_step_kind};
-ghost use Rattle.ktm_calls.specs.Moments.{IsAwaited, IsOf, Tells, TellsDurably};
-ghost use Rattle.ktm_calls.specs.Denials.{Denies, IsCommitDenied, IsDenied, IsNotOpened, IsOpened, IsRefusal, IsStepOrStop, IsTurnDenied, IsWaitDenied, denial_of};
+ghost use Rattle.ktm_calls.specs.Moments.{IsAwaited, IsOf, NumberedSight, SeesMore, Sight as AnySight, Tells, TellsDurably};
+ghost use Rattle.ktm_calls.specs.Denials.{Denies, IsCommitDenied, IsDenied, IsNotOpened, IsOpened, IsRefusal, IsStepOrStop, IsTurnDenied, IsWaitDenied, OpensOrNot, denial_of};
 
 use crate::event_kind::may_accept;
 use crate::locked::{Locked, OpenResult, Told};
 use crate::receipt::{Receipt, Stopped};
 use crate::session::Session;
-use crate::store_engine::StoreEngine;
+use crate::sight::Sight;
 use crate::waiting::{CheckpointResult, MemoryPolicy, TurnResult, WaitMode, WaitResult};
 use disk_model::Progress;
-use published_trees::{ChangeCount, MOST_READERS, Origin, SeenChanges};
+use histories::{EventCount, SeenEvents, Start};
+use published_trees::{ChangeCount, MOST_READERS, SeenChanges};
 use refusals::Refusal;
 use refusals::limits::MOST_JOURNAL_BYTES;
 use std::alloc::{AllocError, Global};
 use std::sync::atomic::{AtomicU64, Ordering};
 use std::sync::{Condvar, Mutex, MutexGuard, Wait};
 use std::thread;
+use store_engine::StoreEngine;
 use store_model::{Event, Reply};
 
 // at how many used bytes of the journal's room it is freed before a change is accepted
@@ -98,20 +102,20 @@ pub enum Turn {
 }
 
 /// What is left of a registry.
-pub struct Ended<E: StoreEngine, O: Origin> {
+pub struct Ended<E: StoreEngine> {
     /// The engine.
     pub engine: E,
+    /// The whole history, which led to it.
+    pub events: SeenEvents,
     /// The number up to which changes are durable.
     pub durable: u64,
-    /// The receipts of greater numbers. There are none but of another registry.
-    pub strangers: Vec<Receipt<O>>,
 }
 
 /// What threads share.
 ///
 /// No fold happens inside a registry: what its promises say is of the trees and the numbers that it was made with. To
 /// fold the history, end the registry, put `Event::Fold` to the engine, and make the next registry over it.
-pub struct Registry<E: StoreEngine, O: Origin> {
+pub struct Registry<E: StoreEngine, O: Start> {
     lock: Mutex<Locked<E, O>>,
     // wakes those that wait for a change
     durable: Condvar,
@@ -122,24 +126,30 @@ pub struct Registry<E: StoreEngine, O: Origin> {
     last_batch: AtomicU64,
 }
 
-impl<E: StoreEngine, O: Origin> Registry<E, O> {
-    /// Shares an engine that was just opened, with a list of changes to which nothing was added.
+impl<E: StoreEngine, O: Start> Registry<E, O> {
+    /// Shares an engine that was just opened, with a history and a list of changes to which nothing was added.
     ///
     /// Refused with `NoMemory`, or with `NoSeat` if the library of readers denies one; the engine comes back then.
     pub fn new<R: Wait>(
         alloc: Global,
         rt: &R,
         engine: E,
+        events: EventCount,
         count: ChangeCount,
         seen: SeenChanges,
     ) -> Result<Registry<E, O>, (Refusal, E)>
         requires book { (count ≡ O.book) × (seen ≡ record { book = O.book; list = [] }) }
+        requires events { events ≡ record { book = O.history; log = [] } }
+        requires store { E.store engine ≡ O.store }
+        requires start { point_of (E.machine engine) (E.clock engine) (E.failures engine) ≡ O.start }
+        requires faithful { E.faithful engine → O.faithful }
+        requires safe { (moment : ℕ) (machine : Machine) → O.safe moment machine → E.safe engine moment machine }
         requires engine { IsOf O.trees O.number O.hives (E.machine engine)
             × ((E.machine engine).accepted ≡ []) × ((E.machine engine).sessions ≡ []) }
         ensures refused { IfErr result (λ back.
             ((back.0 ≡ NoMemory) ⊎ (back.0 ≡ NoSeat)) × (back.1 ≡ engine)) }
     {
-        let locked = Locked::<E, O>::open(alloc, rt, engine, count, seen)?;
+        let locked = Locked::<E, O>::open(alloc, rt, engine, events, count, seen)?;
         Ok(Registry {
             lock: Mutex::new(locked),
             durable: Condvar::new(),
@@ -151,53 +161,86 @@ impl<E: StoreEngine, O: Origin> Registry<E, O> {
 
     /// Opens a session. Refused as its event: `Faulted`, or `NoSeat` if 32 are open.
     pub fn session<R: Wait>(&self, rt: &R) -> Result<(Session<O>, Told), Denied>
-        ensures opened { IfOk result (λ made. IsOpened O.trees O.number O.hives made.0 made.1) }
-        ensures denied { IfErr result (IsNotOpened O.trees O.number O.hives) }
+        ensures opened { IfOk result (λ made. (was : AnySight)
+            × IsOpened O.start O.trees O.number O.hives was made.0 made.1) }
+        ensures denied { IfErr result (λ why. (was : AnySight)
+            × IsNotOpened O.start O.trees O.number O.hives was why) }
     {
         let mut guard = self.lock.lock(rt);
-        let opened = (&mut *guard).start_session(rt);
+        let all = (&*guard).sight();
+        let opened = (&mut *guard).start_session(rt, all);
         let _ = MutexGuard::unlock(guard);
-        match opened {
-            OpenResult::Session(session, told) => Ok((session, told)),
-            OpenResult::Refused(told) => Err(Denied::Told(told)),
-            OpenResult::NoMemory => Err(Denied::NoMemory),
-        }
+        open_result(opened)
+    }
+
+    /// The same after what was seen, such as by another session of the caller's. The session has seen that, too.
+    pub fn session_after<R: Wait>(
+        &self,
+        rt: &R,
+        seen: &Sight<O>,
+    ) -> Result<(Session<O>, Told), Denied>
+        ensures opened { IfOk result (λ made. IsOpened O.start O.trees O.number O.hives seen.now made.0 made.1) }
+        ensures denied { IfErr result (IsNotOpened O.start O.trees O.number O.hives seen.now) }
+    {
+        let mut guard = self.lock.lock(rt);
+        let opened = (&mut *guard).start_session(rt, seen.again());
+        let _ = MutexGuard::unlock(guard);
+        open_result(opened)
     }
 
     /// Ends a session, with all of its transactions. It is gone also if that is refused.
     pub fn end_session<R: Wait>(&self, rt: &R, session: Session<O>) -> Result<Told, Denied>
-        ensures told { IfOk result (λ t. (is : List Element)
-            × Tells O.trees O.number O.hives [] is (event.EndSession session.number) t) }
+        ensures told { IfOk result (λ t. (is : AnySight)
+            × Tells O.start O.trees O.number O.hives session.seen is (event.EndSession session.number) t) }
         ensures granted { IfOk result (λ t. ¬ (IsRefusal t.reply)) }
-        ensures denied { IfErr result (λ why. (is : List Element)
-            × IsDenied O.trees O.number O.hives [] is (event.EndSession session.number) why) }
+        ensures denied { IfErr result (λ why. (is : AnySight)
+            × IsDenied O.start O.trees O.number O.hives session.seen is (event.EndSession session.number) why) }
     {
-        let (number, reader) = session.into_parts();
+        let (answer, _seen) = self.leave_session(rt, session);
+        answer
+    }
+
+    /// The same, with what the session has seen then.
+    pub fn leave_session<R: Wait>(
+        &self,
+        rt: &R,
+        session: Session<O>,
+    ) -> (Result<Told, Denied>, Sight<O>)
+        ensures seen { SeesMore session.seen result.1 }
+        ensures told { IfOk result.0 (λ t. Tells O.start O.trees O.number O.hives session.seen result.1
+            (event.EndSession session.number) t) }
+        ensures granted { IfOk result.0 (λ t. ¬ (IsRefusal t.reply)) }
+        ensures denied { IfErr result.0 (IsDenied O.start O.trees O.number O.hives session.seen result.1
+            (event.EndSession session.number)) }
+    {
+        let (number, reader, seen) = session.into_parts();
+        let mut seen = seen;
         let mut guard = self.lock.lock(rt);
-        let answer = (&mut *guard).end_session(rt, number, reader);
+        let answer = (&mut *guard).end_session(rt, number, reader, &mut seen);
         let _ = MutexGuard::unlock(guard);
         match answer {
-            Ok(told) => judged(told),
-            Err(_) => Err(Denied::NoMemory),
+            Ok(told) => (judged(told), seen),
+            Err(_) => (Err(Denied::NoMemory), seen),
         }
     }
 
-    /// Ends the registry and each session, also those that were not handed in, and hands the engine back. Of the
-    /// receipts those come back whose change is not durable in it.
+    /// Ends the registry and each session, and hands the engine back. One history leads to it from the start: at each
+    /// moment of it, a crash leaves a prefix of the machine's changes of then. The change of each receipt is durable in it,
+    /// and what was seen begins the changes accepted, and the history.
     ///
     /// If all that was accepted is durable, `Event::Fold` folds the history then, and [`Registry::new`] may take the
     /// engine again, as [`crate::laws`] says.
-    pub fn end<R: Wait>(
-        self,
-        rt: &R,
-        sessions: Vec<Session<O>>,
-        receipts: Vec<Receipt<O>>,
-    ) -> Ended<E, O>
+    pub fn end<R: Wait>(self, rt: &R, sights: Vec<Sight<O>>, receipts: Vec<Receipt<O>>) -> Ended<E>
         ensures owner { IsOf O.trees O.number O.hives (E.machine result.engine) }
-        ensures sessions { (E.machine result.engine).sessions ≡ [] }
+        ensures closed { (E.machine result.engine).sessions ≡ [] }
         ensures durable { result.durable ≡ (E.machine result.engine).durable }
-        ensures strangers { result.strangers.items
-            ≡ filter (λ r. nat_lt result.durable r.number) receipts.items }
+        ensures store { E.store result.engine ≡ O.store }
+        ensures history { LeadsTo O.start O.safe O.faithful (E.safe result.engine) (E.faithful result.engine)
+            result.events.log
+            (point_of (E.machine result.engine) (E.clock result.engine) (E.failures result.engine)) }
+        ensures receipts { (i : ℕ) (r : NumberedSight) → slice_get receipts.items i ≡ Some r → r.number ≤ result.durable }
+        ensures seen { (i : ℕ) (s : AnySight) → slice_get sights.items i ≡ Some s →
+            IsPrefix s.list (E.machine result.engine).accepted × IsPrefix s.history result.events.log }
     {
         let Registry {
             lock,
@@ -206,14 +249,16 @@ impl<E: StoreEngine, O: Origin> Registry<E, O> {
             waiting: _,
             last_batch: _,
         } = self;
-        drop(sessions);
-        let engine = lock.into_inner().close(rt);
+        let locked = lock.into_inner();
+        begin_list(rt, &locked, &sights); // for the prover
+        let (engine, events) = locked.close(rt);
+        begin_history::<O, R>(rt, &events, &sights); // for the prover
+        are_durable(rt, &events, &receipts); // for the prover
         let durable = engine.durable();
-        let strangers = above(receipts, durable);
         Ended {
             engine,
+            events: events.all().again(),
             durable,
-            strangers,
         }
     }
 
@@ -225,13 +270,13 @@ impl<E: StoreEngine, O: Origin> Registry<E, O> {
         event: Event,
     ) -> Result<Told, Denied>
         requires no_fold { is_fold event ≡ false }
-        ensures seen { IsPrefix session.old.list session.new.list }
+        ensures seen { SeesMore session.old.seen session.new.seen }
         ensures number { session.new.number ≡ session.old.number }
         ensures told { IfOk result (λ t.
-            Tells O.trees O.number O.hives session.old.list session.new.list event t) }
+            Tells O.start O.trees O.number O.hives session.old.seen session.new.seen event t) }
         ensures granted { IfOk result (λ t. ¬ (IsRefusal t.reply)) }
         ensures denied { IfErr result (λ why.
-            IsDenied O.trees O.number O.hives session.old.list session.new.list event why) }
+            IsDenied O.start O.trees O.number O.hives session.old.seen session.new.seen event why) }
     {
         let mut guard = self.lock_for(rt, &event);
         let answer = (&mut *guard).serve(rt, &mut session.seen, event);
@@ -296,11 +341,11 @@ impl<E: StoreEngine, O: Origin> Registry<E, O> {
     ) -> Result<(Receipt<O>, Told), Denied>
         requires awaited { IsAwaited event }
         requires no_fold { is_fold event ≡ false }
-        ensures seen { IsPrefix session.old.list session.new.list }
+        ensures seen { SeesMore session.old.seen session.new.seen }
         ensures number { session.new.number ≡ session.old.number }
-        ensures told { IfOk result (λ r. TellsDurably O.trees O.number O.hives
-            session.old.list session.new.list event r.0 r.1) }
-        ensures denied { IfErr result (IsCommitDenied O.trees O.number O.hives session.old.list event) }
+        ensures told { IfOk result (λ r. TellsDurably O.start O.trees O.number O.hives
+            session.old.seen session.new.seen event r.0 r.1) }
+        ensures denied { IfErr result (IsCommitDenied O.start O.trees O.number O.hives session.old.seen event) }
     {
         let mut guard = self.lock_for(rt, &event);
         let answer = (&mut *guard).serve(rt, &mut session.seen, event);
@@ -313,6 +358,7 @@ impl<E: StoreEngine, O: Origin> Registry<E, O> {
             return Err(Denied::Told(told));
         };
         let receipt = self.wait_durable(rt, &mut session.seen, *awaited, guard, policy)?;
+        let _ = receipt.number(); // for the prover
         Ok((receipt, told))
     }
 
@@ -322,15 +368,13 @@ impl<E: StoreEngine, O: Origin> Registry<E, O> {
     fn wait_durable<'a, R: Wait>(
         &'a self,
         rt: &R,
-        mine: &mut SeenChanges,
+        mine: &mut Sight<O>,
         number: u64,
         held: MutexGuard<'a, Locked<E, O>>,
         policy: MemoryPolicy,
     ) -> Result<Receipt<O>, Denied>
-        requires book { mine.old.book ≡ O.book }
-        ensures book { mine.new.book ≡ O.book }
-        ensures seen { IsPrefix mine.old.list mine.new.list }
-        ensures receipt { IfOk result (λ r. (r.number ≡ number) × (r.list ≡ mine.new.list)) }
+        ensures seen { SeesMore mine.old mine.new }
+        ensures receipt { IfOk result (λ r. r ≡ record { number = number; seen = mine.new }) }
         ensures denied { IfErr result (IsWaitDenied number) }
     {
         let mut guard = held;
@@ -398,7 +442,7 @@ impl<E: StoreEngine, O: Origin> Registry<E, O> {
     ///
     /// Refused with the first step that is refused, or with `NoMemory`.
     pub fn checkpoint<R: Wait>(&self, rt: &R) -> Result<Receipt<O>, Denied>
-        ensures all { IfOk result (λ r. r.number ≡ O.number + length r.list) }
+        ensures all { IfOk result (λ r. r.number ≡ O.number + length r.seen.list) }
         ensures denied { IfErr result IsTurnDenied }
     {
         for _ in rt.forever() {
@@ -442,7 +486,17 @@ impl<E: StoreEngine, O: Origin> Registry<E, O> {
         ensures { result.number ≡ MOST_READERS }
     {
         let guard = self.lock.lock(rt);
-        let session = (&*guard).closed_session();
+        let session = (&*guard).closed_session((&*guard).sight());
+        let _ = MutexGuard::unlock(guard);
+        session
+    }
+
+    /// The same that has seen this, such as what the session before it had seen.
+    pub fn closed_session_after<R: Wait>(&self, rt: &R, seen: &Sight<O>) -> Session<O>
+        ensures { result ≡ record { number = MOST_READERS; seen = seen.now } }
+    {
+        let guard = self.lock.lock(rt);
+        let session = (&*guard).closed_session(seen.again());
         let _ = MutexGuard::unlock(guard);
         session
     }
@@ -485,7 +539,7 @@ impl<E: StoreEngine, O: Origin> Registry<E, O> {
     }
 }
 
-impl<E: StoreEngine, O: Origin> Registry<E, O> {
+impl<E: StoreEngine, O: Start> Registry<E, O> {
     // those that wait for a change are woken unless a step has more to do
     fn stepped(&self, told: Told) -> Result<Turn, Denied>
         requires step { is_step_kind told.kind ≡ true }
@@ -507,6 +561,20 @@ impl<E: StoreEngine, O: Origin> Registry<E, O> {
     }
 }
 
+// what is answered of a session that was to be opened
+fn open_result<O: Start>(opened: OpenResult<O>) -> Result<(Session<O>, Told), Denied>
+    ensures opened { IfOk result (λ made. (was : AnySight) → OpensOrNot O.start O.trees O.number O.hives was opened →
+        IsOpened O.start O.trees O.number O.hives was made.0 made.1) }
+    ensures denied { IfErr result (λ why. (was : AnySight) → OpensOrNot O.start O.trees O.number O.hives was opened →
+        IsNotOpened O.start O.trees O.number O.hives was why) }
+{
+    match opened {
+        OpenResult::Session(session, told) => Ok((session, told)),
+        OpenResult::Refused(told) => Err(Denied::Told(told)),
+        OpenResult::NoMemory => Err(Denied::NoMemory),
+    }
+}
+
 // a refusal is a denial
 fn judged(told: Told) -> Result<Told, Denied>
     ensures ok { IfOk result (λ t. t ≡ told) }
@@ -519,11 +587,40 @@ fn judged(told: Told) -> Result<Told, Denied>
     Ok(told)
 }
 
-// the receipts of numbers above this one
-fn above<O: Origin>(receipts: Vec<Receipt<O>>, durable: u64) -> Vec<Receipt<O>>
-    ensures { result.items ≡ filter (λ r. nat_lt durable r.number) receipts.items }
+// each receipt is of a change that is durable
+fn are_durable<O: Start, R: Wait>(rt: &R, events: &EventCount, receipts: &Vec<Receipt<O>>)
+    requires book { events.now.book ≡ O.history }
+    requires run { IsHistory O.start events.now.log }
+    ensures { (i : ℕ) (r : NumberedSight) → slice_get receipts.now.items i ≡ Some r →
+        r.number ≤ (end_of O.start events.now.log).machine.durable }
 {
-    let mut strangers = receipts;
-    strangers.retain(|r| r.number() > durable);
-    strangers
+    for i in 0..receipts.len() {
+        receipts[i].stays_durable(rt, events);
+    }
+}
+
+// what was seen of the list begins it
+fn begin_list<E: StoreEngine, O: Start, R: Wait>(
+    rt: &R,
+    locked: &Locked<E, O>,
+    sights: &Vec<Sight<O>>,
+)
+    ensures { (i : ℕ) (s : AnySight) → slice_get sights.now.items i ≡ Some s →
+        IsPrefix s.list (E.machine locked.now.engine).accepted }
+{
+    for i in 0..sights.len() {
+        let mut seen = sights[i].again();
+        locked.show(rt, &mut seen);
+    }
+}
+
+// what was seen of the history begins it
+fn begin_history<O: Start, R: Wait>(rt: &R, events: &EventCount, sights: &Vec<Sight<O>>)
+    requires book { events.now.book ≡ O.history }
+    ensures { (i : ℕ) (s : AnySight) → slice_get sights.now.items i ≡ Some s → IsPrefix s.history events.now.log }
+{
+    for i in 0..sights.len() {
+        let mut seen = sights[i].events.again();
+        events.show(rt, &mut seen);
+    }
 }

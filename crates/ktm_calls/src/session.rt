@@ -6,13 +6,16 @@ ghost use Rattle.reg_tree.specs.Sequences.{after_elements};
 ghost use Rattle.store_model.specs.Machine.{read_refusal};
 ghost use Rattle.store_model.specs.declared.event.Question.TheVariants as question;
 ghost use Rattle.store_model.specs.declared.event.ReadResult.TheVariants as found;
+ghost use Rattle.ktm_calls.specs.Moments.{SeesMore};
 ghost use Rattle.ktm_calls.specs.Outcomes.{HasNoOutcome, HasOutcome};
 ghost use Rattle.ktm_calls.specs.Reads.{read_within};
 
 use crate::key::Key;
 use crate::receipt::Receipt;
+use crate::sight::Sight;
 use commit_outcomes::number_in;
-use published_trees::{Entered, Origin, SeenChanges, TreesReader, TreesSnapshot};
+use histories::Start;
+use published_trees::{Entered, SeenChanges, TreesReader, TreesSnapshot};
 use refusals::Refusal;
 use reg_names::{Name, ValueName};
 use reg_tree::{Info, Trees, Value};
@@ -21,21 +24,21 @@ use std::marker::Model;
 use store_model::{Question, ReadResult, look_up};
 use uuid::Uuid;
 
-/// A session: the reader by which it reads, and the list of the changes that it has seen. Its later reads have all that
-/// it saw, wrote or learnt.
+/// A session: the reader by which it reads, and what it has seen of the changes and of the history. Its later reads have
+/// all that it saw, wrote or learnt.
 ///
 /// A read looks at the trees that are published. It answers `NoSuchHandle` if the session has seen more than is
 /// published to it, or the registry has ended.
-pub struct Session<O: Origin> {
+pub struct Session<O: Start> {
     alloc: Global,
     number: u32,
     // how many hives calls may name
     hives: usize,
     reader: Option<TreesReader<O>>,
-    pub(crate) seen: SeenChanges,
+    pub(crate) seen: Sight<O>,
 }
 
-impl<O: Origin> Drop for Session<O> {
+impl<O: Start> Drop for Session<O> {
     // one drop for all that own one, whose proofs see no more of it than that
     fn drop(self) {
         let Session {
@@ -48,33 +51,29 @@ impl<O: Origin> Drop for Session<O> {
     }
 }
 
-impl<O: Origin> Model for Session<O> {
+impl<O: Start> Model for Session<O> {
     ghost use Rattle.std.specs.Prelude.{◌≡◌};
-    ghost use Rattle.ktm_calls.specs.Moments.{NumberedList, numbered_code};
+    ghost use Rattle.ktm_calls.specs.Moments.{NumberedSight, numbered_code};
 
-    ghost Value = { NumberedList };
+    ghost Value = { NumberedSight };
 
     ghost coded = { numbered_code };
 
-    ghost view = { λ s. record { number = s.number; list = s.seen.list } };
+    ghost view = { λ s. record { number = s.number; seen = s.seen } };
 
-    ghost invariant = { λ s. record {
-      book : s.seen.book ≡ O.book;
-      hives : s.hives ≡ O.hives;
-    } };
+    ghost invariant = { λ s. s.hives ≡ O.hives };
 }
 
-impl<O: Origin> Session<O> {
+impl<O: Start> Session<O> {
     pub(crate) fn new(
         alloc: Global,
         number: u32,
         reader: Option<TreesReader<O>>,
-        seen: SeenChanges,
+        seen: Sight<O>,
         hives: usize,
     ) -> Session<O>
-        requires book { seen.book ≡ O.book }
         requires hives { hives ≡ O.hives }
-        ensures { result ≡ record { number = number; list = seen.list } }
+        ensures { result ≡ record { number = number; seen = seen } }
     {
         Session {
             alloc,
@@ -99,37 +98,55 @@ impl<O: Origin> Session<O> {
         self.hives
     }
 
-    pub(crate) fn into_parts(self) -> (u32, Option<TreesReader<O>>)
-        ensures { result.0 ≡ self.number }
+    pub(crate) fn into_parts(self) -> (u32, Option<TreesReader<O>>, Sight<O>)
+        ensures number { result.0 ≡ self.number }
+        ensures seen { result.2 ≡ self.seen }
     {
         let Session {
             alloc: _,
             number,
             hives: _,
             reader,
-            seen: _,
+            seen,
         } = self;
-        (number, reader)
+        (number, reader, seen)
+    }
+
+    /// What it has seen.
+    pub fn sight(&self) -> &Sight<O>
+        ensures { result.now ≡ self.now.seen }
+    {
+        &self.seen
+    }
+
+    /// Takes in what was seen elsewhere, such as in another session.
+    pub fn see(&mut self, other: &Sight<O>)
+        ensures own { SeesMore self.old.seen self.new.seen }
+        ensures learnt { SeesMore other.now self.new.seen }
+        ensures number { self.new.number ≡ self.old.number }
+    {
+        self.seen.learn(other);
     }
 
     /// Takes in what a receipt carries: later reads have the changes of its list.
     pub fn learn(&mut self, receipt: &Receipt<O>)
-        ensures own { IsPrefix self.old.list self.new.list }
-        ensures learnt { IsPrefix receipt.now.list self.new.list }
+        ensures own { SeesMore self.old.seen self.new.seen }
+        ensures learnt { SeesMore receipt.now.seen self.new.seen }
         ensures number { self.new.number ≡ self.old.number }
     {
-        self.seen.learn(receipt.seen());
+        self.seen.learn(receipt.sight());
     }
 
     /// The answer to a question on a key. Refused with `NotFound` exactly if there is no such key or value, or calls name
     /// no such hive; with `NoMemory`; and with `NoSuchHandle`, as told above.
     pub fn look_up(&mut self, key: &Key, question: Question) -> Result<ReadResult, Refusal>
-        ensures later { IsPrefix self.old.list self.new.list }
+        ensures later { IsPrefix self.old.seen.list self.new.seen.list }
+        ensures history { self.new.seen.history ≡ self.old.seen.history }
         ensures number { self.new.number ≡ self.old.number }
-        ensures found { IfOk result (λ found. read_within O.hives (after_elements O.trees self.new.list)
+        ensures found { IfOk result (λ found. read_within O.hives (after_elements O.trees self.new.seen.list)
             key.now.hive key.now.path question ≡ Some found) }
         ensures refused { IfErr result (λ why. (why ≡ NoMemory) ⊎ (why ≡ NoSuchHandle)
-            ⊎ (read_refusal (read_within O.hives (after_elements O.trees self.new.list)
+            ⊎ (read_refusal (read_within O.hives (after_elements O.trees self.new.seen.list)
             key.now.hive key.now.path question) ≡ Some why)) }
     {
         let Some(reader) = self.reader.take() else {
@@ -140,7 +157,7 @@ impl<O: Origin> Session<O> {
                 let snapshot = reading.get();
                 let answer = look_up_in::<O>(
                     self.alloc,
-                    &mut self.seen,
+                    &mut self.seen.changes,
                     snapshot,
                     self.hives,
                     key,
@@ -158,12 +175,13 @@ impl<O: Origin> Session<O> {
 
     /// A value of a key, by its name. Refused as `look_up`.
     pub fn get_value(&mut self, key: &Key, name: ValueName) -> Result<Value, Refusal>
-        ensures later { IsPrefix self.old.list self.new.list }
+        ensures later { IsPrefix self.old.seen.list self.new.seen.list }
+        ensures history { self.new.seen.history ≡ self.old.seen.history }
         ensures number { self.new.number ≡ self.old.number }
-        ensures found { IfOk result (λ value. read_within O.hives (after_elements O.trees self.new.list)
+        ensures found { IfOk result (λ value. read_within O.hives (after_elements O.trees self.new.seen.list)
             key.now.hive key.now.path (question.ValueOf name) ≡ Some (found.Value value)) }
         ensures refused { IfErr result (λ why. (why ≡ NoMemory) ⊎ (why ≡ NoSuchHandle)
-            ⊎ (read_refusal (read_within O.hives (after_elements O.trees self.new.list)
+            ⊎ (read_refusal (read_within O.hives (after_elements O.trees self.new.seen.list)
             key.now.hive key.now.path (question.ValueOf name)) ≡ Some why)) }
     {
         match self.look_up(key, Question::ValueOf { name })? {
@@ -174,12 +192,13 @@ impl<O: Origin> Session<O> {
 
     /// The value of a key at an index, in the order of names. Refused as `look_up`.
     pub fn enum_value(&mut self, key: &Key, index: usize) -> Result<Value, Refusal>
-        ensures later { IsPrefix self.old.list self.new.list }
+        ensures later { IsPrefix self.old.seen.list self.new.seen.list }
+        ensures history { self.new.seen.history ≡ self.old.seen.history }
         ensures number { self.new.number ≡ self.old.number }
-        ensures found { IfOk result (λ value. read_within O.hives (after_elements O.trees self.new.list)
+        ensures found { IfOk result (λ value. read_within O.hives (after_elements O.trees self.new.seen.list)
             key.now.hive key.now.path (question.ValueAt index) ≡ Some (found.Value value)) }
         ensures refused { IfErr result (λ why. (why ≡ NoMemory) ⊎ (why ≡ NoSuchHandle)
-            ⊎ (read_refusal (read_within O.hives (after_elements O.trees self.new.list)
+            ⊎ (read_refusal (read_within O.hives (after_elements O.trees self.new.seen.list)
             key.now.hive key.now.path (question.ValueAt index)) ≡ Some why)) }
     {
         match self.look_up(key, Question::ValueAt { index })? {
@@ -190,12 +209,13 @@ impl<O: Origin> Session<O> {
 
     /// The name of the subkey of a key at an index, in the order of names. Refused as `look_up`.
     pub fn enum_key(&mut self, key: &Key, index: usize) -> Result<Name, Refusal>
-        ensures later { IsPrefix self.old.list self.new.list }
+        ensures later { IsPrefix self.old.seen.list self.new.seen.list }
+        ensures history { self.new.seen.history ≡ self.old.seen.history }
         ensures number { self.new.number ≡ self.old.number }
-        ensures found { IfOk result (λ name. read_within O.hives (after_elements O.trees self.new.list)
+        ensures found { IfOk result (λ name. read_within O.hives (after_elements O.trees self.new.seen.list)
             key.now.hive key.now.path (question.KeyAt index) ≡ Some (found.Key name)) }
         ensures refused { IfErr result (λ why. (why ≡ NoMemory) ⊎ (why ≡ NoSuchHandle)
-            ⊎ (read_refusal (read_within O.hives (after_elements O.trees self.new.list)
+            ⊎ (read_refusal (read_within O.hives (after_elements O.trees self.new.seen.list)
             key.now.hive key.now.path (question.KeyAt index)) ≡ Some why)) }
     {
         match self.look_up(key, Question::KeyAt { index })? {
@@ -206,12 +226,13 @@ impl<O: Origin> Session<O> {
 
     /// How many subkeys and values a key has, and its last written time. Refused as `look_up`.
     pub fn query_info(&mut self, key: &Key) -> Result<Info, Refusal>
-        ensures later { IsPrefix self.old.list self.new.list }
+        ensures later { IsPrefix self.old.seen.list self.new.seen.list }
+        ensures history { self.new.seen.history ≡ self.old.seen.history }
         ensures number { self.new.number ≡ self.old.number }
-        ensures found { IfOk result (λ info. read_within O.hives (after_elements O.trees self.new.list)
+        ensures found { IfOk result (λ info. read_within O.hives (after_elements O.trees self.new.seen.list)
             key.now.hive key.now.path question.InfoOf ≡ Some (found.Counts info)) }
         ensures refused { IfErr result (λ why. (why ≡ NoMemory) ⊎ (why ≡ NoSuchHandle)
-            ⊎ (read_refusal (read_within O.hives (after_elements O.trees self.new.list)
+            ⊎ (read_refusal (read_within O.hives (after_elements O.trees self.new.seen.list)
             key.now.hive key.now.path question.InfoOf) ≡ Some why)) }
     {
         match self.look_up(key, Question::InfoOf)? {
@@ -226,12 +247,13 @@ impl<O: Origin> Session<O> {
     /// Refused with `Unsupported` if the store keeps none; with `NotFound` if it has none of the unit; with `NoMemory`;
     /// and with `NoSuchHandle`, as told above.
     pub fn outcome_of(&mut self, unit: &Uuid) -> Result<u64, Refusal>
-        ensures later { IsPrefix self.old.list self.new.list }
+        ensures later { IsPrefix self.old.seen.list self.new.seen.list }
+        ensures history { self.new.seen.history ≡ self.old.seen.history }
         ensures number { self.new.number ≡ self.old.number }
         ensures found { IfOk result (λ number. HasOutcome O.hives
-            (after_elements O.trees self.new.list) unit.now number) }
+            (after_elements O.trees self.new.seen.list) unit.now number) }
         ensures refused { IfErr result (λ why. (why ≡ NoMemory) ⊎ (why ≡ NoSuchHandle)
-            ⊎ HasNoOutcome O.hives (after_elements O.trees self.new.list) unit.now why) }
+            ⊎ HasNoOutcome O.hives (after_elements O.trees self.new.seen.list) unit.now why) }
     {
         let Some(reader) = self.reader.take() else {
             return Err(Refusal::NoSuchHandle);
@@ -241,7 +263,7 @@ impl<O: Origin> Session<O> {
                 let snapshot = reading.get();
                 let answer = outcome_in::<O>(
                     self.alloc,
-                    &mut self.seen,
+                    &mut self.seen.changes,
                     snapshot,
                     self.hives,
                     unit,
@@ -273,7 +295,7 @@ fn take_in(mine: &mut SeenChanges, snapshot: &TreesSnapshot) -> Result<(), Refus
 }
 
 // the answer of what is published, whose list is taken in
-fn look_up_in<O: Origin>(
+fn look_up_in<O: Start>(
     alloc: Global,
     mine: &mut SeenChanges,
     snapshot: &TreesSnapshot,
@@ -300,7 +322,7 @@ fn look_up_in<O: Origin>(
 }
 
 // the outcome of a unit of work in what is published, whose list is taken in
-fn outcome_in<O: Origin>(
+fn outcome_in<O: Start>(
     alloc: Global,
     mine: &mut SeenChanges,
     snapshot: &TreesSnapshot,

@@ -1,11 +1,10 @@
 //! Transactions: each call is one event, in one hold; a commit then waits until its change is durable.
 ghost use Rattle.std.specs.Prelude.{◌≡◌, IfOk, IfErr};
-ghost use mathlib.Core.List.{IsPrefix};
 ghost use Rattle.store_model.specs.declared.event.Event.TheVariants as event;
 ghost use Rattle.store_model.specs.declared.event.Question.TheVariants as question;
 ghost use Rattle.store_model.specs.declared.event.Reply.TheVariants as reply;
 ghost use Rattle.ktm_calls.specs.Answers.{CommitStands};
-ghost use Rattle.ktm_calls.specs.Moments.{Tells, TellsDurably};
+ghost use Rattle.ktm_calls.specs.Moments.{SeesMore, Tells, TellsDurably};
 ghost use Rattle.ktm_calls.specs.Denials.{IsCommitDenied, IsDenied, IsRefusal};
 
 use crate::key::Key;
@@ -13,15 +12,15 @@ use crate::locked::Told;
 use crate::receipt::Receipt;
 use crate::registry::{Denied, Registry};
 use crate::session::Session;
-use crate::store_engine::StoreEngine;
 use crate::waiting::MemoryPolicy;
-use published_trees::Origin;
+use histories::Start;
 use reg_names::ValueName;
 use std::sync::Wait;
+use store_engine::StoreEngine;
 use store_model::{Event, Outcome, Question, Reply, Tx};
 use uuid::Uuid;
 
-impl<E: StoreEngine, O: Origin> Registry<E, O> {
+impl<E: StoreEngine, O: Start> Registry<E, O> {
     /// Begins a transaction, with a unit of work id.
     pub fn create_transaction<R: Wait>(
         &self,
@@ -29,13 +28,13 @@ impl<E: StoreEngine, O: Origin> Registry<E, O> {
         session: &mut Session<O>,
         id: Uuid,
     ) -> Result<(Tx, Told), Denied>
-        ensures seen { IsPrefix session.old.list session.new.list }
+        ensures seen { SeesMore session.old.seen session.new.seen }
         ensures number { session.new.number ≡ session.old.number }
-        ensures told { IfOk result (λ r. Tells O.trees O.number O.hives session.old.list session.new.list
+        ensures told { IfOk result (λ r. Tells O.start O.trees O.number O.hives session.old.seen session.new.seen
             (event.Begin session.old.number id) r.1) }
         ensures granted { IfOk result (λ r. ¬ (IsRefusal r.1.reply)) }
         ensures answer { IfOk result (λ r. r.1.reply ≡ reply.Begun r.0) }
-        ensures denied { IfErr result (IsDenied O.trees O.number O.hives session.old.list session.new.list
+        ensures denied { IfErr result (IsDenied O.start O.trees O.number O.hives session.old.seen session.new.seen
             (event.Begin session.old.number id)) }
     {
         let event = Event::Begin {
@@ -56,12 +55,12 @@ impl<E: StoreEngine, O: Origin> Registry<E, O> {
         session: &mut Session<O>,
         tx: Tx,
     ) -> Result<Told, Denied>
-        ensures seen { IsPrefix session.old.list session.new.list }
+        ensures seen { SeesMore session.old.seen session.new.seen }
         ensures number { session.new.number ≡ session.old.number }
-        ensures told { IfOk result (λ t. Tells O.trees O.number O.hives session.old.list session.new.list
+        ensures told { IfOk result (λ t. Tells O.start O.trees O.number O.hives session.old.seen session.new.seen
             (event.Rollback session.old.number tx) t) }
         ensures granted { IfOk result (λ t. ¬ (IsRefusal t.reply)) }
-        ensures denied { IfErr result (IsDenied O.trees O.number O.hives session.old.list session.new.list
+        ensures denied { IfErr result (IsDenied O.start O.trees O.number O.hives session.old.seen session.new.seen
             (event.Rollback session.old.number tx)) }
     {
         let event = Event::Rollback {
@@ -78,12 +77,12 @@ impl<E: StoreEngine, O: Origin> Registry<E, O> {
         session: &mut Session<O>,
         tx: Tx,
     ) -> Result<Told, Denied>
-        ensures seen { IsPrefix session.old.list session.new.list }
+        ensures seen { SeesMore session.old.seen session.new.seen }
         ensures number { session.new.number ≡ session.old.number }
-        ensures told { IfOk result (λ t. Tells O.trees O.number O.hives session.old.list session.new.list
+        ensures told { IfOk result (λ t. Tells O.start O.trees O.number O.hives session.old.seen session.new.seen
             (event.Close session.old.number tx) t) }
         ensures granted { IfOk result (λ t. ¬ (IsRefusal t.reply)) }
-        ensures denied { IfErr result (IsDenied O.trees O.number O.hives session.old.list session.new.list
+        ensures denied { IfErr result (IsDenied O.start O.trees O.number O.hives session.old.seen session.new.seen
             (event.Close session.old.number tx)) }
     {
         let event = Event::Close {
@@ -100,13 +99,13 @@ impl<E: StoreEngine, O: Origin> Registry<E, O> {
         session: &mut Session<O>,
         tx: Tx,
     ) -> Result<(Outcome, Told), Denied>
-        ensures seen { IsPrefix session.old.list session.new.list }
+        ensures seen { SeesMore session.old.seen session.new.seen }
         ensures number { session.new.number ≡ session.old.number }
-        ensures told { IfOk result (λ r. Tells O.trees O.number O.hives session.old.list session.new.list
+        ensures told { IfOk result (λ r. Tells O.start O.trees O.number O.hives session.old.seen session.new.seen
             (event.Outcome session.old.number tx) r.1) }
         ensures granted { IfOk result (λ r. ¬ (IsRefusal r.1.reply)) }
         ensures answer { IfOk result (λ r. r.1.reply ≡ reply.OutcomeIs r.0) }
-        ensures denied { IfErr result (IsDenied O.trees O.number O.hives session.old.list session.new.list
+        ensures denied { IfErr result (IsDenied O.start O.trees O.number O.hives session.old.seen session.new.seen
             (event.Outcome session.old.number tx)) }
     {
         let event = Event::Outcome {
@@ -131,13 +130,13 @@ impl<E: StoreEngine, O: Origin> Registry<E, O> {
         session: &mut Session<O>,
         unit: Uuid,
     ) -> Result<(u64, Told), Denied>
-        ensures seen { IsPrefix session.old.list session.new.list }
+        ensures seen { SeesMore session.old.seen session.new.seen }
         ensures number { session.new.number ≡ session.old.number }
-        ensures told { IfOk result (λ r. Tells O.trees O.number O.hives session.old.list session.new.list
+        ensures told { IfOk result (λ r. Tells O.start O.trees O.number O.hives session.old.seen session.new.seen
             (event.OutcomeOf unit) r.1) }
         ensures granted { IfOk result (λ r. ¬ (IsRefusal r.1.reply)) }
         ensures answer { IfOk result (λ r. r.1.reply ≡ reply.CommittedAs r.0) }
-        ensures denied { IfErr result (IsDenied O.trees O.number O.hives session.old.list session.new.list
+        ensures denied { IfErr result (IsDenied O.start O.trees O.number O.hives session.old.seen session.new.seen
             (event.OutcomeOf unit)) }
     {
         let told = self.serve(rt, session, Event::OutcomeOf { id: unit })?;
@@ -157,12 +156,12 @@ impl<E: StoreEngine, O: Origin> Registry<E, O> {
         key: &Key,
         question: Question,
     ) -> Result<Told, Denied>
-        ensures seen { IsPrefix session.old.list session.new.list }
+        ensures seen { SeesMore session.old.seen session.new.seen }
         ensures number { session.new.number ≡ session.old.number }
-        ensures told { IfOk result (λ t. Tells O.trees O.number O.hives session.old.list session.new.list
+        ensures told { IfOk result (λ t. Tells O.start O.trees O.number O.hives session.old.seen session.new.seen
             (event.TxRead session.old.number tx key.now.hive key.now.path question) t) }
         ensures granted { IfOk result (λ t. ¬ (IsRefusal t.reply)) }
-        ensures denied { IfErr result (IsDenied O.trees O.number O.hives session.old.list session.new.list
+        ensures denied { IfErr result (IsDenied O.start O.trees O.number O.hives session.old.seen session.new.seen
             (event.TxRead session.old.number tx key.now.hive key.now.path question)) }
     {
         let event = Event::TxRead {
@@ -183,12 +182,12 @@ impl<E: StoreEngine, O: Origin> Registry<E, O> {
         tx: Tx,
         key: &Key,
     ) -> Result<Told, Denied>
-        ensures seen { IsPrefix session.old.list session.new.list }
+        ensures seen { SeesMore session.old.seen session.new.seen }
         ensures number { session.new.number ≡ session.old.number }
-        ensures told { IfOk result (λ t. Tells O.trees O.number O.hives session.old.list session.new.list
+        ensures told { IfOk result (λ t. Tells O.start O.trees O.number O.hives session.old.seen session.new.seen
             (event.TxRead session.old.number tx key.now.hive key.now.path question.InfoOf) t) }
         ensures granted { IfOk result (λ t. ¬ (IsRefusal t.reply)) }
-        ensures denied { IfErr result (IsDenied O.trees O.number O.hives session.old.list session.new.list
+        ensures denied { IfErr result (IsDenied O.start O.trees O.number O.hives session.old.seen session.new.seen
             (event.TxRead session.old.number tx key.now.hive key.now.path question.InfoOf)) }
     {
         self.look_up_transacted(rt, session, tx, key, Question::InfoOf)
@@ -203,12 +202,12 @@ impl<E: StoreEngine, O: Origin> Registry<E, O> {
         key: &Key,
         name: ValueName,
     ) -> Result<Told, Denied>
-        ensures seen { IsPrefix session.old.list session.new.list }
+        ensures seen { SeesMore session.old.seen session.new.seen }
         ensures number { session.new.number ≡ session.old.number }
-        ensures told { IfOk result (λ t. Tells O.trees O.number O.hives session.old.list session.new.list
+        ensures told { IfOk result (λ t. Tells O.start O.trees O.number O.hives session.old.seen session.new.seen
             (event.TxRead session.old.number tx key.now.hive key.now.path (question.ValueOf name)) t) }
         ensures granted { IfOk result (λ t. ¬ (IsRefusal t.reply)) }
-        ensures denied { IfErr result (IsDenied O.trees O.number O.hives session.old.list session.new.list
+        ensures denied { IfErr result (IsDenied O.start O.trees O.number O.hives session.old.seen session.new.seen
             (event.TxRead session.old.number tx key.now.hive key.now.path (question.ValueOf name))) }
     {
         self.look_up_transacted(rt, session, tx, key, Question::ValueOf { name })
@@ -223,12 +222,12 @@ impl<E: StoreEngine, O: Origin> Registry<E, O> {
         key: &Key,
         index: usize,
     ) -> Result<Told, Denied>
-        ensures seen { IsPrefix session.old.list session.new.list }
+        ensures seen { SeesMore session.old.seen session.new.seen }
         ensures number { session.new.number ≡ session.old.number }
-        ensures told { IfOk result (λ t. Tells O.trees O.number O.hives session.old.list session.new.list
+        ensures told { IfOk result (λ t. Tells O.start O.trees O.number O.hives session.old.seen session.new.seen
             (event.TxRead session.old.number tx key.now.hive key.now.path (question.ValueAt index)) t) }
         ensures granted { IfOk result (λ t. ¬ (IsRefusal t.reply)) }
-        ensures denied { IfErr result (IsDenied O.trees O.number O.hives session.old.list session.new.list
+        ensures denied { IfErr result (IsDenied O.start O.trees O.number O.hives session.old.seen session.new.seen
             (event.TxRead session.old.number tx key.now.hive key.now.path (question.ValueAt index))) }
     {
         self.look_up_transacted(rt, session, tx, key, Question::ValueAt { index })
@@ -243,12 +242,12 @@ impl<E: StoreEngine, O: Origin> Registry<E, O> {
         key: &Key,
         index: usize,
     ) -> Result<Told, Denied>
-        ensures seen { IsPrefix session.old.list session.new.list }
+        ensures seen { SeesMore session.old.seen session.new.seen }
         ensures number { session.new.number ≡ session.old.number }
-        ensures told { IfOk result (λ t. Tells O.trees O.number O.hives session.old.list session.new.list
+        ensures told { IfOk result (λ t. Tells O.start O.trees O.number O.hives session.old.seen session.new.seen
             (event.TxRead session.old.number tx key.now.hive key.now.path (question.KeyAt index)) t) }
         ensures granted { IfOk result (λ t. ¬ (IsRefusal t.reply)) }
-        ensures denied { IfErr result (IsDenied O.trees O.number O.hives session.old.list session.new.list
+        ensures denied { IfErr result (IsDenied O.start O.trees O.number O.hives session.old.seen session.new.seen
             (event.TxRead session.old.number tx key.now.hive key.now.path (question.KeyAt index))) }
     {
         self.look_up_transacted(rt, session, tx, key, Question::KeyAt { index })
@@ -262,12 +261,12 @@ impl<E: StoreEngine, O: Origin> Registry<E, O> {
         tx: Tx,
         key: &Key,
     ) -> Result<Told, Denied>
-        ensures seen { IsPrefix session.old.list session.new.list }
+        ensures seen { SeesMore session.old.seen session.new.seen }
         ensures number { session.new.number ≡ session.old.number }
-        ensures told { IfOk result (λ t. Tells O.trees O.number O.hives session.old.list session.new.list
+        ensures told { IfOk result (λ t. Tells O.start O.trees O.number O.hives session.old.seen session.new.seen
             (event.TxRead session.old.number tx key.now.hive key.now.path question.InfoOf) t) }
         ensures granted { IfOk result (λ t. ¬ (IsRefusal t.reply)) }
-        ensures denied { IfErr result (IsDenied O.trees O.number O.hives session.old.list session.new.list
+        ensures denied { IfErr result (IsDenied O.start O.trees O.number O.hives session.old.seen session.new.seen
             (event.TxRead session.old.number tx key.now.hive key.now.path question.InfoOf)) }
     {
         self.look_up_transacted(rt, session, tx, key, Question::InfoOf)
@@ -286,12 +285,12 @@ impl<E: StoreEngine, O: Origin> Registry<E, O> {
         tx: Tx,
         moment: u64,
     ) -> Result<(Receipt<O>, Told), Denied>
-        ensures seen { IsPrefix session.old.list session.new.list }
+        ensures seen { SeesMore session.old.seen session.new.seen }
         ensures number { session.new.number ≡ session.old.number }
-        ensures told { IfOk result (λ r. TellsDurably O.trees O.number O.hives session.old.list session.new.list
+        ensures told { IfOk result (λ r. TellsDurably O.start O.trees O.number O.hives session.old.seen session.new.seen
             (event.CommitAccept session.old.number tx moment) r.0 r.1) }
-        ensures stands { IfOk result (λ r. CommitStands O.number session.new.list moment r.1.reply) }
-        ensures denied { IfErr result (IsCommitDenied O.trees O.number O.hives session.old.list
+        ensures stands { IfOk result (λ r. CommitStands O.number session.new.seen.list moment r.1.reply) }
+        ensures denied { IfErr result (IsCommitDenied O.start O.trees O.number O.hives session.old.seen
             (event.CommitAccept session.old.number tx moment)) }
     {
         self.commit(rt, session, tx, moment, MemoryPolicy::Retry)
@@ -306,12 +305,12 @@ impl<E: StoreEngine, O: Origin> Registry<E, O> {
         tx: Tx,
         moment: u64,
     ) -> Result<(Receipt<O>, Told), Denied>
-        ensures seen { IsPrefix session.old.list session.new.list }
+        ensures seen { SeesMore session.old.seen session.new.seen }
         ensures number { session.new.number ≡ session.old.number }
-        ensures told { IfOk result (λ r. TellsDurably O.trees O.number O.hives session.old.list session.new.list
+        ensures told { IfOk result (λ r. TellsDurably O.start O.trees O.number O.hives session.old.seen session.new.seen
             (event.CommitAccept session.old.number tx moment) r.0 r.1) }
-        ensures stands { IfOk result (λ r. CommitStands O.number session.new.list moment r.1.reply) }
-        ensures denied { IfErr result (IsCommitDenied O.trees O.number O.hives session.old.list
+        ensures stands { IfOk result (λ r. CommitStands O.number session.new.seen.list moment r.1.reply) }
+        ensures denied { IfErr result (IsCommitDenied O.start O.trees O.number O.hives session.old.seen
             (event.CommitAccept session.old.number tx moment)) }
     {
         self.commit(rt, session, tx, moment, MemoryPolicy::GiveUp)
@@ -326,12 +325,12 @@ impl<E: StoreEngine, O: Origin> Registry<E, O> {
         moment: u64,
         policy: MemoryPolicy,
     ) -> Result<(Receipt<O>, Told), Denied>
-        ensures seen { IsPrefix session.old.list session.new.list }
+        ensures seen { SeesMore session.old.seen session.new.seen }
         ensures number { session.new.number ≡ session.old.number }
-        ensures told { IfOk result (λ r. TellsDurably O.trees O.number O.hives session.old.list session.new.list
+        ensures told { IfOk result (λ r. TellsDurably O.start O.trees O.number O.hives session.old.seen session.new.seen
             (event.CommitAccept session.old.number tx moment) r.0 r.1) }
-        ensures stands { IfOk result (λ r. CommitStands O.number session.new.list moment r.1.reply) }
-        ensures denied { IfErr result (IsCommitDenied O.trees O.number O.hives session.old.list
+        ensures stands { IfOk result (λ r. CommitStands O.number session.new.seen.list moment r.1.reply) }
+        ensures denied { IfErr result (IsCommitDenied O.start O.trees O.number O.hives session.old.seen
             (event.CommitAccept session.old.number tx moment)) }
     {
         let event = Event::CommitAccept {

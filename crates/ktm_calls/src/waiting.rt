@@ -2,20 +2,20 @@
 //!
 //! One of those who wait makes the steps of the journal for all, one a hold; the others sleep meanwhile. What is
 //! accepted during a batch is the next batch. Nobody depends on the flusher.
-ghost use Rattle.std.specs.Prelude.{◌≡◌, ◌+◌, ◌≤◌, ℕ, List, true, length, IfNone, IfOk, IfSome};
-ghost use mathlib.Core.List.{IsPrefix};
-ghost use Rattle.reg_tree.specs.declared.element.Element.{Element};
+ghost use Rattle.std.specs.Prelude.{◌≡◌, ◌+◌, ◌≤◌, ℕ, true, length, IfNone, IfOk, IfSome};
 ghost use Rattle.store_model.specs.Machine.{last_number};
+ghost use Rattle.ktm_calls.specs.Moments.{SeesMore, Sight as AnySight};
 ghost use Rattle.ktm_calls.specs.Waiting.{EndsCheckpoint, EndsWait, IsTurn, IsWork, SteppedOrFailed, is_step_kind};
 
 use crate::event_kind::EventKind;
 use crate::locked::{Locked, Told};
 use crate::receipt::{Receipt, Stopped};
-use crate::store_engine::StoreEngine;
+use crate::sight::Sight;
 use disk_model::Progress;
-use published_trees::{Origin, SeenChanges};
+use histories::Start;
 use refusals::Refusal;
 use std::sync::Wait;
+use store_engine::StoreEngine;
 use store_model::{Event, Reply};
 
 /// What one who waits does next.
@@ -40,7 +40,7 @@ pub enum MemoryPolicy {
 
 /// What became of a hold of one who waits.
 #[derive(Drop)]
-pub enum WaitResult<O: Origin> {
+pub enum WaitResult<O: Start> {
     /// It goes on with another hold.
     Again(WaitMode),
     /// The change is durable.
@@ -53,7 +53,7 @@ pub enum WaitResult<O: Origin> {
 
 /// What became of a hold of a checkpoint.
 #[derive(Drop)]
-pub enum CheckpointResult<O: Origin> {
+pub enum CheckpointResult<O: Start> {
     /// A step was made, or refused.
     Step(Told),
     /// There was no memory.
@@ -75,7 +75,7 @@ pub enum TurnResult {
     Stopped(Stopped),
 }
 
-impl<E: StoreEngine, O: Origin> Locked<E, O> {
+impl<E: StoreEngine, O: Start> Locked<E, O> {
     /// What one does first that waits for the change of this number.
     pub(crate) fn first_mode(&mut self, number: u64) -> WaitMode
         ensures same { self.new ≡ self.old }
@@ -95,16 +95,14 @@ impl<E: StoreEngine, O: Origin> Locked<E, O> {
     pub(crate) fn wait_hold<R: Wait>(
         &mut self,
         rt: &R,
-        mine: &mut SeenChanges,
+        mine: &mut Sight<O>,
         number: u64,
         mode: WaitMode,
         leads: bool,
         policy: MemoryPolicy,
     ) -> WaitResult<O>
-        requires book { mine.old.book ≡ O.book }
-        ensures book { mine.new.book ≡ O.book }
-        ensures seen { IsPrefix mine.old.list mine.new.list }
-        ensures ends { EndsWait number mine.new.list result }
+        ensures seen { SeesMore mine.old mine.new }
+        ensures ends { EndsWait number mine.new result }
         ensures call { E.clock self.new.engine ≤ E.clock self.old.engine + 1 }
     {
         match mode {
@@ -117,14 +115,12 @@ impl<E: StoreEngine, O: Origin> Locked<E, O> {
     fn ask<R: Wait>(
         &mut self,
         rt: &R,
-        mine: &mut SeenChanges,
+        mine: &mut Sight<O>,
         number: u64,
         leads: bool,
     ) -> WaitResult<O>
-        requires book { mine.old.book ≡ O.book }
-        ensures book { mine.new.book ≡ O.book }
-        ensures seen { IsPrefix mine.old.list mine.new.list }
-        ensures ends { EndsWait number mine.new.list result }
+        ensures seen { SeesMore mine.old mine.new }
+        ensures ends { EndsWait number mine.new result }
         ensures call { E.clock self.new.engine ≤ E.clock self.old.engine + 1 }
     {
         let Ok(told) = self.serve(rt, mine, Event::Acked { number }) else {
@@ -157,14 +153,12 @@ impl<E: StoreEngine, O: Origin> Locked<E, O> {
     fn lead<R: Wait>(
         &mut self,
         rt: &R,
-        mine: &mut SeenChanges,
+        mine: &mut Sight<O>,
         number: u64,
         policy: MemoryPolicy,
     ) -> WaitResult<O>
-        requires book { mine.old.book ≡ O.book }
-        ensures book { mine.new.book ≡ O.book }
-        ensures seen { IsPrefix mine.old.list mine.new.list }
-        ensures ends { EndsWait number mine.new.list result }
+        ensures seen { SeesMore mine.old mine.new }
+        ensures ends { EndsWait number mine.new result }
         ensures call { E.clock self.new.engine ≤ E.clock self.old.engine + 1 }
     {
         let Ok(told) = self.serve(rt, mine, Event::JournalStep) else {
@@ -185,7 +179,7 @@ impl<E: StoreEngine, O: Origin> Locked<E, O> {
     // there was no memory for a step of the journal
     fn lacks_memory(&mut self, policy: MemoryPolicy) -> WaitResult<O>
         ensures same { self.new ≡ self.old }
-        ensures ends { (number : ℕ) (list : List Element) → EndsWait number list result }
+        ensures ends { (number : ℕ) (seen : AnySight) → EndsWait number seen result }
     {
         match policy {
             MemoryPolicy::Retry => WaitResult::Again(WaitMode::Lead),
@@ -277,7 +271,7 @@ impl<E: StoreEngine, O: Origin> Locked<E, O> {
     fn receipt_of_all(&self) -> Receipt<O>
         requires durable { (E.machine self.now.engine).durable
             ≡ last_number (E.machine self.now.engine) }
-        ensures all { result.number ≡ O.number + length result.list }
+        ensures all { result.number ≡ O.number + length result.seen.list }
     {
         self.is_of_registry();
         Receipt::of(self, self.durable())

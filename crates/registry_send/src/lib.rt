@@ -4,8 +4,10 @@
 //! threads.
 #![tactic(auto)]
 
-use ktm_calls::{Receipt, Registry, Session, StoreEngine};
-use published_trees::{Origin, SeenChanges, TreesSnapshot};
+use histories::Start;
+use ktm_calls::{Receipt, Registry, Session};
+use published_trees::{SeenChanges, TreesSnapshot};
+use store_engine::StoreEngine;
 
 // takes what may be handed to another thread
 fn sends<T: Send>(_: &T) {}
@@ -16,14 +18,14 @@ fn shares<T: Sync>(_: &T) {}
 /// Several threads may see one registry at once, if its engine may be handed to another thread.
 ///
 /// So each may call it.
-pub fn registry_is_shared<E: StoreEngine + Send, O: Origin>(registry: &Registry<E, O>) {
+pub fn registry_is_shared<E: StoreEngine + Send, O: Start>(registry: &Registry<E, O>) {
     shares(registry);
 }
 
 /// A session may be handed to another thread.
 ///
 /// So a thread may be started with one.
-pub fn session_is_sent<O: Origin>(session: &Session<O>) {
+pub fn session_is_sent<O: Start + Send>(session: &Session<O>) {
     sends(session);
 }
 
@@ -44,7 +46,7 @@ pub fn snapshot_is_shared(snapshot: &TreesSnapshot) {
 /// A receipt may be handed to another thread, and several threads may see it at once.
 ///
 /// So one thread may learn what another made durable.
-pub fn receipt_is_shared<O: Origin + Send + Sync>(receipt: &Receipt<O>) {
+pub fn receipt_is_shared<O: Start + Send + Sync>(receipt: &Receipt<O>) {
     sends(receipt);
     shares(receipt);
 }

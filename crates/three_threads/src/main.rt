@@ -2,8 +2,8 @@
 #![tactic(auto)]
 
 use file_disk::{FileDisk, Unknown};
-use ktm_calls::{Key, Registry, StoreEngine};
-use published_trees::Origin;
+use histories::Start;
+use ktm_calls::{Key, Registry};
 use refusals::Refusal;
 use reg_names::{Name, Path};
 use reg_tree::{Data, Trees};
@@ -12,6 +12,7 @@ use std::alloc::Global;
 use std::fs;
 use std::io::{self, ErrorKind};
 use std::sync::Wait;
+use store_engine::StoreEngine;
 use uuid::Uuid;
 
 /// The registry's number of the type REG_DWORD.
@@ -25,7 +26,7 @@ const CHANGES: u64 = 3 * 101;
 struct Counters(Global);
 
 impl<R: Wait + Print> Client<R> for Counters {
-    fn run<E: StoreEngine, O: Origin>(&self, rt: &R, registry: &Registry<E, O>, thread: usize) {
+    fn run<E: StoreEngine, O: Start>(&self, rt: &R, registry: &Registry<E, O>, thread: usize) {
         let letter = [b'A', b'B', b'C'][thread % 3];
         if let Err(why) = count(rt, self.0, registry, u16::from(letter)) {
             let _ = println!(rt; "{why}");
@@ -33,7 +34,7 @@ impl<R: Wait + Print> Client<R> for Counters {
     }
 }
 
-fn count<E: StoreEngine, O: Origin, R: Wait>(
+fn count<E: StoreEngine, O: Start, R: Wait>(
     rt: &R,
     alloc: Global,
     registry: &Registry<E, O>,

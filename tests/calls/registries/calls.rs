@@ -2,15 +2,14 @@
 //!
 //! The promises of the calls themselves would be stated at each step of a test, though no test relies on them.
 use disk_model::Progress;
-use ktm_calls::{
-    Denied, Disposition, EventKind, Key, Receipt, Registry, Session, StoreEngine, Told, Turn,
-};
-use published_trees::Origin;
+use histories::Start;
+use ktm_calls::{Denied, Disposition, EventKind, Key, Receipt, Registry, Session, Told, Turn};
 use refusals::Refusal;
 use reg_names::{Name, Path};
 use reg_tree::{Data, Info, Value};
 use std::alloc::Global;
 use std::sync::Wait;
+use store_engine::StoreEngine;
 use store_model::{Outcome, ReadResult, Reply, Tx};
 use uuid::Uuid;
 
@@ -161,7 +160,7 @@ fn counts_of(info: Info) -> Answer {
 }
 
 /// A registry, as a test calls it.
-pub struct Calls<'a, E: StoreEngine, O: Origin, R: Wait> {
+pub struct Calls<'a, E: StoreEngine, O: Start, R: Wait> {
     /// The runtime.
     pub rt: &'a R,
     /// Where keys and names are made.
@@ -170,7 +169,7 @@ pub struct Calls<'a, E: StoreEngine, O: Origin, R: Wait> {
     pub registry: &'a Registry<E, O>,
 }
 
-impl<'a, E: StoreEngine, O: Origin, R: Wait> Drop for Calls<'a, E, O, R> {
+impl<'a, E: StoreEngine, O: Start, R: Wait> Drop for Calls<'a, E, O, R> {
     fn drop(self) {
         let Calls {
             rt: _,
@@ -180,7 +179,7 @@ impl<'a, E: StoreEngine, O: Origin, R: Wait> Drop for Calls<'a, E, O, R> {
     }
 }
 
-impl<'a, E: StoreEngine, O: Origin, R: Wait> Calls<'a, E, O, R> {
+impl<'a, E: StoreEngine, O: Start, R: Wait> Calls<'a, E, O, R> {
     /// Opens a session.
     pub fn start(&self) -> Result<Session<O>, Refusal> {
         match self.registry.session(self.rt) {
@@ -303,7 +302,7 @@ impl<'a, E: StoreEngine, O: Origin, R: Wait> Calls<'a, E, O, R> {
     }
 }
 
-impl<'a, E: StoreEngine, O: Origin, R: Wait> Calls<'a, E, O, R> {
+impl<'a, E: StoreEngine, O: Start, R: Wait> Calls<'a, E, O, R> {
     /// Begins a transaction.
     pub fn begin(&self, session: &mut Session<O>) -> Result<Tx, Refusal> {
         self.begin_for(session, Uuid::nil())

@@ -5,8 +5,8 @@ use crate::registries::playing::{Scene, play as play_scene};
 use crate::registries::sharing::{THREADS, key_of};
 use crate::registries::steps::Wrong;
 use flusher::{OpenGate, Worker, run_beside, run_workers};
-use ktm_calls::{Denied, EventKind, Key, Registry, Session, StoreEngine};
-use published_trees::Origin;
+use histories::Start;
+use ktm_calls::{Denied, EventKind, Key, Registry, Session};
 use refusals::Refusal;
 use std::alloc::Global;
 use std::process::Abort;
@@ -14,6 +14,7 @@ use std::sync::Wait;
 use std::sync::atomic::{AtomicU64, Ordering};
 use std::test::Fail;
 use std::thread::{self, Threads};
+use store_engine::StoreEngine;
 
 // how often a thread lets others run, at most, until all have begun
 const MOST_TURNS: u64 = 100_000;
@@ -77,7 +78,7 @@ impl Committers {
     }
 }
 
-impl<E: StoreEngine, O: Origin, R: Wait> Worker<E, O, R> for Committers {
+impl<E: StoreEngine, O: Start, R: Wait> Worker<E, O, R> for Committers {
     fn work(&self, rt: &R, registry: &Registry<E, O>, index: usize) {
         let calls = Calls {
             rt,
@@ -93,7 +94,7 @@ impl<E: StoreEngine, O: Origin, R: Wait> Worker<E, O, R> for Committers {
 }
 
 // commits in a session of its own until it is refused
-fn commit_in_session<E: StoreEngine, O: Origin, R: Wait>(
+fn commit_in_session<E: StoreEngine, O: Start, R: Wait>(
     calls: &Calls<'_, E, O, R>,
     index: usize,
 ) -> Result<End, Refusal> {
@@ -107,7 +108,7 @@ fn commit_in_session<E: StoreEngine, O: Origin, R: Wait>(
     }
 }
 
-fn commit_all<E: StoreEngine, O: Origin, R: Wait>(
+fn commit_all<E: StoreEngine, O: Start, R: Wait>(
     calls: &Calls<'_, E, O, R>,
     session: &mut Session<O>,
     own: &Key,
@@ -124,7 +125,7 @@ fn commit_all<E: StoreEngine, O: Origin, R: Wait>(
 
 // commits a value at a moment. If the commit's own event is refused nothing is accepted; else the change stays so, and
 // is read, also if it isn't acknowledged
-fn commit<E: StoreEngine, O: Origin, R: Wait>(
+fn commit<E: StoreEngine, O: Start, R: Wait>(
     calls: &Calls<'_, E, O, R>,
     session: &mut Session<O>,
     own: &Key,
@@ -169,7 +170,7 @@ fn end_of(denied: &Denied) -> End {
 }
 
 /// The device is to fail, and threads commit until it does.
-pub fn play<E: StoreEngine + Send, O: Origin + Send + Sync, R: Threads + Wait + Sync>(
+pub fn play<E: StoreEngine + Send, O: Start + Send + Sync, R: Threads + Wait + Sync>(
     calls: &Calls<'_, E, O, R>,
     device: &Device,
     committers: &Committers,

@@ -5,13 +5,13 @@ use crate::registries::playing::{Scene, play as play_scene};
 use crate::registries::steps::Wrong;
 use disk_model::Progress;
 use flusher::{Gate, run_beside};
-use ktm_calls::StoreEngine;
-use published_trees::Origin;
+use histories::Start;
 use refusals::Refusal;
 use std::sync::atomic::{AtomicBool, AtomicU64, Ordering};
 use std::sync::{Arc, Wait};
 use std::test::Fail;
 use std::thread::{self, Threads};
+use store_engine::StoreEngine;
 
 /// How often one that waits lets others run, at most, before it gives up.
 pub const MOST_TURNS: u64 = 10_000_000;
@@ -98,7 +98,7 @@ impl Gate for Holding {
 }
 
 /// A change is made durable; then a flusher begins, and another thread commits while it is held.
-pub fn play<E: StoreEngine + Send, O: Origin + Send + Sync, R: Threads + Wait + Sync>(
+pub fn play<E: StoreEngine + Send, O: Start + Send + Sync, R: Threads + Wait + Sync>(
     calls: &Calls<'_, E, O, R>,
     holding: &Holding,
 ) -> Result<Option<Wrong>, Refusal> {
@@ -122,7 +122,7 @@ pub fn play<E: StoreEngine + Send, O: Origin + Send + Sync, R: Threads + Wait + 
 }
 
 // a commit in a session of its own
-fn commit<E: StoreEngine, O: Origin, R: Wait>(calls: &Calls<'_, E, O, R>) -> Result<(), Refusal> {
+fn commit<E: StoreEngine, O: Start, R: Wait>(calls: &Calls<'_, E, O, R>) -> Result<(), Refusal> {
     let mut session = calls.start()?;
     let tx = calls.begin(&mut session)?;
     calls.create_in(&mut session, tx, &key(calls.alloc, "B")?, 1)?;

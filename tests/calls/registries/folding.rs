@@ -5,15 +5,17 @@ use crate::registries::device::{Device, NO_FAILURE, TestDisk};
 use crate::registries::playing::{make, open};
 use crate::registries::sharing::key_of;
 use engine::Engine;
+use histories::{EventCount, Start};
 use ktm_calls::laws::folded_engines_are_shared_again;
-use ktm_calls::{Ended, Registry, Session, StoreEngine};
-use published_trees::{ChangeCount, Origin, SeenChanges};
+use ktm_calls::{Ended, Registry, Session};
+use published_trees::{ChangeCount, SeenChanges};
 use refusals::Refusal;
 use reg_tree::Info;
 use std::alloc::Global;
 use std::marker::Brand;
 use std::sync::Wait;
 use std::test::Fail;
+use store_engine::StoreEngine;
 use store_model::{Event, Question, ReadResult, Reply, look_up};
 
 // how many changes the history may have
@@ -41,7 +43,7 @@ fn new_engine(alloc: Global) -> Result<Engine<TestDisk>, Refusal> {
 }
 
 // creates the key of a change's number, at the moment of that number
-fn create<E: StoreEngine, O: Origin, R: Wait>(
+fn create<E: StoreEngine, O: Start, R: Wait>(
     calls: &Calls<'_, E, O, R>,
     session: &mut Session<O>,
     number: u64,
@@ -52,7 +54,7 @@ fn create<E: StoreEngine, O: Origin, R: Wait>(
 
 // two changes are accepted and a third is refused, and then the two are made durable; whether all was so. The session
 // is left open
-fn fill<E: StoreEngine, O: Origin, R: Wait>(
+fn fill<E: StoreEngine, O: Start, R: Wait>(
     calls: &Calls<'_, E, O, R>,
     numbers: &[u64; 2],
 ) -> Result<bool, Refusal> {
@@ -70,7 +72,7 @@ fn fill<E: StoreEngine, O: Origin, R: Wait>(
 
 // a registry over an engine with an empty history: it is filled and ended, and the history is folded. The engine, if
 // all was as it should be
-fn take_turn<O: Origin, E: StoreEngine + Drop, R: Wait>(
+fn take_turn<O: Start, E: StoreEngine + Drop, R: Wait>(
     rt: &R,
     alloc: Global,
     engine: E,
@@ -78,7 +80,7 @@ fn take_turn<O: Origin, E: StoreEngine + Drop, R: Wait>(
     seen: SeenChanges,
     numbers: &[u64; 2],
 ) -> Result<Option<E>, Refusal> {
-    let registry = match Registry::<E, O>::new(alloc, rt, engine, count, seen) {
+    let registry = match Registry::<E, O>::new(alloc, rt, engine, EventCount::open(), count, seen) {
         Ok(registry) => registry,
         Err((why, _engine)) => return Err(why),
     };
@@ -92,8 +94,8 @@ fn take_turn<O: Origin, E: StoreEngine + Drop, R: Wait>(
     );
     let Ended {
         mut engine,
+        events: _,
         durable: _,
-        strangers: _,
     } = registry.end(rt, Vec::new(alloc), Vec::new(alloc));
     let is_filled = filled?;
     folded_engines_are_shared_again();

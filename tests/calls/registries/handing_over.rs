@@ -6,8 +6,8 @@ use crate::registries::playing::{Scene, play as play_scene};
 use crate::registries::sharing::key_of;
 use crate::registries::steps::Wrong;
 use flusher::{Worker, run_workers};
-use ktm_calls::{Registry, Session, StoreEngine};
-use published_trees::Origin;
+use histories::Start;
+use ktm_calls::{Registry, Session};
 use refusals::Refusal;
 use std::alloc::Global;
 use std::process::Abort;
@@ -15,6 +15,7 @@ use std::sync::atomic::{AtomicU64, Ordering};
 use std::sync::{Arc, Wait};
 use std::test::Fail;
 use std::thread::{self, Threads};
+use store_engine::StoreEngine;
 
 // how often it is tried
 const TRIES: u64 = 20;
@@ -53,7 +54,7 @@ impl Committing {
         }
     }
 
-    fn commit<E: StoreEngine, O: Origin, R: Wait>(
+    fn commit<E: StoreEngine, O: Start, R: Wait>(
         &self,
         calls: &Calls<'_, E, O, R>,
         session: &mut Session<O>,
@@ -69,7 +70,7 @@ impl Committing {
         Ok(())
     }
 
-    fn commit_in_session<E: StoreEngine, O: Origin, R: Wait>(
+    fn commit_in_session<E: StoreEngine, O: Start, R: Wait>(
         &self,
         calls: &Calls<'_, E, O, R>,
         index: usize,
@@ -81,7 +82,7 @@ impl Committing {
     }
 }
 
-impl<E: StoreEngine, O: Origin, R: Wait> Worker<E, O, R> for Committing {
+impl<E: StoreEngine, O: Start, R: Wait> Worker<E, O, R> for Committing {
     fn work(&self, rt: &R, registry: &Registry<E, O>, index: usize) {
         let calls = Calls {
             rt,
@@ -93,7 +94,7 @@ impl<E: StoreEngine, O: Origin, R: Wait> Worker<E, O, R> for Committing {
 }
 
 /// Both threads.
-pub fn play<E: StoreEngine + Send, O: Origin + Send + Sync, R: Threads + Wait + Sync>(
+pub fn play<E: StoreEngine + Send, O: Start + Send + Sync, R: Threads + Wait + Sync>(
     calls: &Calls<'_, E, O, R>,
     committing: &Committing,
 ) -> Option<Wrong> {

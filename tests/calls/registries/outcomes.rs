@@ -4,13 +4,15 @@ use crate::registries::calls::{Answer, Calls};
 use crate::registries::device::{Device, NO_FAILURE};
 use crate::registries::playing::new_engine;
 use crate::registries::sharing::key_of;
-use ktm_calls::{Ended, Key, Registry, Session, StoreEngine};
-use published_trees::{ChangeCount, Origin, SeenChanges};
+use histories::{EventCount, Start};
+use ktm_calls::{Ended, Key, Registry, Session};
+use published_trees::{ChangeCount, SeenChanges};
 use refusals::Refusal;
 use std::alloc::Global;
 use std::marker::Brand;
 use std::sync::Wait;
 use std::test::Fail;
+use store_engine::StoreEngine;
 use uuid::Uuid;
 
 // how many commits there are: one more than a store keeps
@@ -22,7 +24,7 @@ fn unit_of(number: u64) -> Uuid {
 }
 
 // commits a value of one byte for the unit of work of a number; whether the commit's number is one above it
-fn commit_one<E: StoreEngine, O: Origin, R: Wait>(
+fn commit_one<E: StoreEngine, O: Start, R: Wait>(
     calls: &Calls<'_, E, O, R>,
     session: &mut Session<O>,
     key: &Key,
@@ -36,7 +38,7 @@ fn commit_one<E: StoreEngine, O: Origin, R: Wait>(
 }
 
 // a key is created, and each unit of work commits once; whether each commit's number is as it should be
-fn commit_all<E: StoreEngine, O: Origin, R: Wait>(
+fn commit_all<E: StoreEngine, O: Start, R: Wait>(
     calls: &Calls<'_, E, O, R>,
 ) -> Result<bool, Refusal> {
     let mut session = calls.start()?;
@@ -52,7 +54,7 @@ fn commit_all<E: StoreEngine, O: Origin, R: Wait>(
 
 // whether another session is told the number of each commit but the first, which is kept no more, and of none that
 // wasn't made
-fn are_told<E: StoreEngine, O: Origin, R: Wait>(
+fn are_told<E: StoreEngine, O: Start, R: Wait>(
     calls: &Calls<'_, E, O, R>,
 ) -> Result<bool, Refusal> {
     let mut session = calls.start()?;
@@ -71,21 +73,21 @@ fn are_told<E: StoreEngine, O: Origin, R: Wait>(
 }
 
 // all commits are made, and told; whether both were as they should be
-fn is_all_told<E: StoreEngine, O: Origin, R: Wait>(
+fn is_all_told<E: StoreEngine, O: Start, R: Wait>(
     calls: &Calls<'_, E, O, R>,
 ) -> Result<bool, Refusal> {
     Ok(commit_all(calls)? && are_told(calls)?)
 }
 
 // a registry over a new store's engine, in which all commits are made and asked for; whether all was as it should be
-fn play_over<O: Origin, E: StoreEngine + Drop, R: Wait>(
+fn play_over<O: Start, E: StoreEngine + Drop, R: Wait>(
     rt: &R,
     alloc: Global,
     engine: E,
     count: ChangeCount,
     seen: SeenChanges,
 ) -> Result<bool, Refusal> {
-    let registry = match Registry::<E, O>::new(alloc, rt, engine, count, seen) {
+    let registry = match Registry::<E, O>::new(alloc, rt, engine, EventCount::open(), count, seen) {
         Ok(registry) => registry,
         Err((why, _engine)) => return Err(why),
     };
@@ -96,8 +98,8 @@ fn play_over<O: Origin, E: StoreEngine + Drop, R: Wait>(
     });
     let Ended {
         engine: _,
+        events: _,
         durable: _,
-        strangers: _,
     } = registry.end(rt, Vec::new(alloc), Vec::new(alloc));
     is_well
 }

@@ -9,8 +9,9 @@ use crate::registries::sharing::Sharing;
 use crate::registries::steps::Wrong;
 use crate::registries::{committers, flushing, handing_over, sharing, steps};
 use engine::Engine;
-use ktm_calls::{Ended, Receipt, Registry, Session, StoreEngine};
-use published_trees::{ChangeCount, MOST_READERS, Origin, SeenChanges};
+use histories::{EventCount, Start};
+use ktm_calls::{Ended, Receipt, Registry, Session};
+use published_trees::{ChangeCount, MOST_READERS, SeenChanges};
 use recovery::Opened;
 use refusals::Refusal;
 use reg_names::Path;
@@ -19,6 +20,7 @@ use std::alloc::Global;
 use std::marker::Brand;
 use std::sync::Wait;
 use std::thread::Threads;
+use store_engine::StoreEngine;
 use store_model::{Event, Question, Reply, Tx};
 use uuid::Uuid;
 
@@ -41,7 +43,7 @@ pub enum Scene<'a> {
 
 /// What a scene leaves open at the end of its registry.
 #[derive(Drop)]
-pub struct Left<O: Origin> {
+pub struct Left<O: Start> {
     /// Sessions that are open.
     pub sessions: Vec<Session<O>>,
     /// Transactions that were begun.
@@ -57,8 +59,6 @@ pub struct Played {
     pub wrong: Option<Wrong>,
     /// The number up to which changes are durable.
     pub durable: u64,
-    /// How many receipts are of greater numbers.
-    pub strangers: usize,
     /// Whether a session is open in the engine that comes back.
     pub is_open: bool,
 }
@@ -66,7 +66,7 @@ pub struct Played {
 impl Played {
     /// Whether it is as it should be, with this number durable.
     pub fn is_well(&self, durable: u64) -> bool {
-        self.wrong.is_none() && self.durable == durable && self.strangers == 0 && !self.is_open
+        self.wrong.is_none() && self.durable == durable && !self.is_open
     }
 }
 
@@ -116,7 +116,7 @@ pub fn open(alloc: Global, disk: TestDisk) -> Result<Opened<TestDisk>, Refusal> 
 }
 
 // the scene, on a registry of its own
-fn play_over<O: Origin + Send + Sync, E: StoreEngine + Drop + Send, R: Threads + Wait + Sync>(
+fn play_over<O: Start + Send + Sync, E: StoreEngine + Drop + Send, R: Threads + Wait + Sync>(
     rt: &R,
     alloc: Global,
     device: &Device,
@@ -125,7 +125,7 @@ fn play_over<O: Origin + Send + Sync, E: StoreEngine + Drop + Send, R: Threads +
     seen: SeenChanges,
     scene: Scene<'_>,
 ) -> Result<Played, Refusal> {
-    let registry = match Registry::<E, O>::new(alloc, rt, engine, count, seen) {
+    let registry = match Registry::<E, O>::new(alloc, rt, engine, EventCount::open(), count, seen) {
         Ok(registry) => registry,
         Err((why, _engine)) => return Err(why),
     };
@@ -139,7 +139,7 @@ fn play_over<O: Origin + Send + Sync, E: StoreEngine + Drop + Send, R: Threads +
 }
 
 // ends the registry
-fn end<O: Origin, E: StoreEngine + Drop, R: Wait>(
+fn end<O: Start, E: StoreEngine + Drop, R: Wait>(
     rt: &R,
     alloc: Global,
     registry: Registry<E, O>,
@@ -147,19 +147,18 @@ fn end<O: Origin, E: StoreEngine + Drop, R: Wait>(
     wrong: Result<Option<Wrong>, Refusal>,
 ) -> Result<Played, Refusal> {
     let Left {
-        sessions,
+        sessions: _,
         transactions: _,
         receipts,
     } = left;
     let Ended {
         mut engine,
+        events: _,
         durable,
-        strangers,
-    } = registry.end(rt, sessions, receipts);
+    } = registry.end(rt, Vec::new(alloc), receipts);
     Ok(Played {
         wrong: wrong?,
         durable,
-        strangers: strangers.len(),
         is_open: has_session(alloc, &mut engine)?,
     })
 }
@@ -191,7 +190,7 @@ fn is_unknown(reply: &Reply) -> bool {
 }
 
 // the scene; the first answer that is not as expected
-fn play_on<O: Origin + Send + Sync, E: StoreEngine + Send, R: Threads + Wait + Sync>(
+fn play_on<O: Start + Send + Sync, E: StoreEngine + Send, R: Threads + Wait + Sync>(
     rt: &R,
     alloc: Global,
     device: &Device,

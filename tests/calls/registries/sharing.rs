@@ -4,8 +4,8 @@ use crate::registries::device::{Device, NO_FAILURE};
 use crate::registries::playing::{Left, Scene, play as play_scene};
 use crate::registries::steps::Wrong;
 use flusher::{OpenGate, Worker, run_beside, run_workers};
-use ktm_calls::{Key, Receipt, Registry, Session, StoreEngine};
-use published_trees::Origin;
+use histories::Start;
+use ktm_calls::{Key, Receipt, Registry, Session};
 use refusals::Refusal;
 use std::alloc::Global;
 use std::process::Abort;
@@ -13,6 +13,7 @@ use std::sync::atomic::{AtomicU64, Ordering};
 use std::sync::{Mutex, Wait};
 use std::test::Fail;
 use std::thread::{self, Threads};
+use store_engine::StoreEngine;
 
 /// How many threads there are: as many as there may be sessions.
 pub const THREADS: usize = 32;
@@ -76,13 +77,13 @@ impl Sharing {
 
 // what one thread hands to the others: the receipt of its last round
 #[derive(Drop)]
-struct Slot<O: Origin> {
+struct Slot<O: Start> {
     session: Option<Session<O>>,
     receipt: Option<Receipt<O>>,
     round: u8,
 }
 
-impl<O: Origin> Slot<O> {
+impl<O: Start> Slot<O> {
     fn empty() -> Slot<O> {
         Slot {
             session: None,
@@ -117,14 +118,14 @@ enum Stage {
 
 // threads with a slot for each
 #[derive(Drop)]
-struct Exchange<'a, O: Origin> {
+struct Exchange<'a, O: Start> {
     alloc: Global,
     stage: Stage,
     sharing: &'a Sharing,
     slots: &'a [Mutex<Slot<O>>],
 }
 
-impl<'a, E: StoreEngine, O: Origin, R: Wait> Worker<E, O, R> for Exchange<'a, O> {
+impl<'a, E: StoreEngine, O: Start, R: Wait> Worker<E, O, R> for Exchange<'a, O> {
     fn work(&self, rt: &R, registry: &Registry<E, O>, index: usize) {
         let calls = Calls {
             rt,
@@ -139,7 +140,7 @@ impl<'a, E: StoreEngine, O: Origin, R: Wait> Worker<E, O, R> for Exchange<'a, O>
     }
 }
 
-impl<'a, O: Origin> Exchange<'a, O> {
+impl<'a, O: Start> Exchange<'a, O> {
     // creates a key and writes in rounds; the session is left in the slot
     fn write_all<E: StoreEngine, R: Wait>(
         &self,
@@ -274,7 +275,7 @@ impl<'a, O: Origin> Exchange<'a, O> {
     }
 }
 
-impl<'a, O: Origin> Exchange<'a, O> {
+impl<'a, O: Start> Exchange<'a, O> {
     // goes on with the session that is in the slot; every second one is ended, and others are put back
     fn read_all<E: StoreEngine, R: Wait>(
         &self,
@@ -326,7 +327,7 @@ pub fn key_of(alloc: Global, index: usize) -> Result<Key, Refusal> {
 }
 
 /// All threads write, and then all read.
-pub fn play<E: StoreEngine + Send, O: Origin + Send + Sync, R: Threads + Wait + Sync>(
+pub fn play<E: StoreEngine + Send, O: Start + Send + Sync, R: Threads + Wait + Sync>(
     calls: &Calls<'_, E, O, R>,
     sharing: &Sharing,
     left: &mut Left<O>,
@@ -341,7 +342,7 @@ pub fn play<E: StoreEngine + Send, O: Origin + Send + Sync, R: Threads + Wait + 
 }
 
 // what is in a slot stays open until the registry ends
-fn leave<O: Origin>(slot: Slot<O>, left: &mut Left<O>) -> Result<(), Refusal> {
+fn leave<O: Start>(slot: Slot<O>, left: &mut Left<O>) -> Result<(), Refusal> {
     let Slot {
         session,
         receipt,
@@ -356,7 +357,7 @@ fn leave<O: Origin>(slot: Slot<O>, left: &mut Left<O>) -> Result<(), Refusal> {
     Ok(())
 }
 
-fn empty_slots<O: Origin>(alloc: Global) -> Result<Vec<Mutex<Slot<O>>>, Refusal> {
+fn empty_slots<O: Start>(alloc: Global) -> Result<Vec<Mutex<Slot<O>>>, Refusal> {
     let mut slots = Vec::new(alloc);
     for _thread in 0..THREADS {
         slots.push(Mutex::new(Slot::empty()))?;
@@ -365,7 +366,7 @@ fn empty_slots<O: Origin>(alloc: Global) -> Result<Vec<Mutex<Slot<O>>>, Refusal>
 }
 
 // one stage, with a flusher beside if there is to be one
-fn run<E: StoreEngine + Send, O: Origin + Send + Sync, R: Threads + Wait + Sync>(
+fn run<E: StoreEngine + Send, O: Start + Send + Sync, R: Threads + Wait + Sync>(
     calls: &Calls<'_, E, O, R>,
     sharing: &Sharing,
     slots: &[Mutex<Slot<O>>],
@@ -393,7 +394,7 @@ fn run<E: StoreEngine + Send, O: Origin + Send + Sync, R: Threads + Wait + Sync>
 }
 
 // all threads
-fn work<E: StoreEngine + Send, O: Origin + Send + Sync, R: Threads + Wait + Sync>(
+fn work<E: StoreEngine + Send, O: Start + Send + Sync, R: Threads + Wait + Sync>(
     calls: &Calls<'_, E, O, R>,
     exchange: &Exchange<'_, O>,
 ) {

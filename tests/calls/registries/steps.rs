@@ -21,13 +21,15 @@ use crate::registries::flushing::MOST_TURNS;
 use crate::registries::playing::Left;
 use disk_model::Progress;
 use flusher::{Gate, OpenGate, run_beside, run_flusher};
-use ktm_calls::{EventKind, Key, Receipt, Session, StoreEngine};
-use published_trees::{MOST_READERS, Origin};
+use histories::Start;
+use ktm_calls::{EventKind, Key, Receipt, Session};
+use published_trees::MOST_READERS;
 use refusals::Refusal;
 use std::alloc::Global;
 use std::sync::Wait;
 use std::sync::atomic::{AtomicBool, Ordering};
 use std::thread::{self, Threads};
+use store_engine::StoreEngine;
 use store_model::Tx;
 
 // enough for a thread that has nothing to do to fall asleep
@@ -46,7 +48,7 @@ pub struct Wrong {
 }
 
 /// Takes the steps of a table. Answers the first answer that is not as expected.
-pub fn play<E: StoreEngine, O: Origin, R: Wait>(
+pub fn play<E: StoreEngine, O: Start, R: Wait>(
     calls: &Calls<'_, E, O, R>,
     device: &Device,
     left: &mut Left<O>,
@@ -71,7 +73,7 @@ fn is_text_of(alloc: Global, answer: Answer, text: &str) -> Result<bool, Refusal
 }
 
 /// The same beside a flusher, which is told to stop at the end. If it fails, that is told as one line more.
-pub fn play_beside<E: StoreEngine + Send, O: Origin + Send + Sync, R: Threads + Wait + Sync>(
+pub fn play_beside<E: StoreEngine + Send, O: Start + Send + Sync, R: Threads + Wait + Sync>(
     calls: &Calls<'_, E, O, R>,
     device: &Device,
     left: &mut Left<O>,
@@ -131,7 +133,7 @@ impl Gate for Beginning {
     fn after_step(&self, _progress: Progress) {}
 }
 
-impl<O: Origin> Left<O> {
+impl<O: Start> Left<O> {
     // one step
     fn step<E: StoreEngine, R: Wait>(
         &mut self,
@@ -343,7 +345,7 @@ impl<O: Origin> Left<O> {
 }
 
 // a call on a key
-fn call_on<E: StoreEngine, O: Origin, R: Wait>(
+fn call_on<E: StoreEngine, O: Start, R: Wait>(
     calls: &Calls<'_, E, O, R>,
     session: &mut Session<O>,
     key: &Key,
@@ -363,7 +365,7 @@ fn call_on<E: StoreEngine, O: Origin, R: Wait>(
 }
 
 // a call on a key in a transaction. What sets or deletes a value takes the transaction from the key
-fn call_in<E: StoreEngine, O: Origin, R: Wait>(
+fn call_in<E: StoreEngine, O: Start, R: Wait>(
     calls: &Calls<'_, E, O, R>,
     session: &mut Session<O>,
     tx: Tx,
@@ -399,7 +401,7 @@ fn index(word: &str) -> usize {
 }
 
 // a call of the flusher, or on it
-fn flusher_call<E: StoreEngine, O: Origin, R: Wait>(
+fn flusher_call<E: StoreEngine, O: Start, R: Wait>(
     calls: &Calls<'_, E, O, R>,
     call: &[&str],
 ) -> Result<Answer, Refusal> {
@@ -419,7 +421,7 @@ fn flusher_call<E: StoreEngine, O: Origin, R: Wait>(
 }
 
 // runs the flusher on this thread until it ends
-fn run<E: StoreEngine, O: Origin, R: Wait>(calls: &Calls<'_, E, O, R>) -> Answer {
+fn run<E: StoreEngine, O: Start, R: Wait>(calls: &Calls<'_, E, O, R>) -> Answer {
     match run_flusher(calls.rt, calls.registry, &OpenGate) {
         Ok(stopped) => Answer::Stopped(stopped.number()),
         Err(told) => Answer::of(&told),
@@ -427,7 +429,7 @@ fn run<E: StoreEngine, O: Origin, R: Wait>(calls: &Calls<'_, E, O, R>) -> Answer
 }
 
 // turns until a step ends the flush of a hive
-fn flush_hive<E: StoreEngine, O: Origin, R: Wait>(
+fn flush_hive<E: StoreEngine, O: Start, R: Wait>(
     calls: &Calls<'_, E, O, R>,
 ) -> Result<Answer, Refusal> {
     for _ in 0..MOST_STEPS {
@@ -441,7 +443,7 @@ fn flush_hive<E: StoreEngine, O: Origin, R: Wait>(
 }
 
 // lets others run until only so much room is used, or gives up; and then until a flusher probably sleeps
-fn await_room<E: StoreEngine, O: Origin, R: Wait>(calls: &Calls<'_, E, O, R>, room: u64) -> Answer {
+fn await_room<E: StoreEngine, O: Start, R: Wait>(calls: &Calls<'_, E, O, R>, room: u64) -> Answer {
     for _ in 0..MOST_TURNS {
         if calls.registry.room(calls.rt) <= room {
             break;

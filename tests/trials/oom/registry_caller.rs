@@ -7,11 +7,12 @@ use crate::oom::digest::Digest;
 use crate::oom::registry_calls::{Call, Calls, answer_of, refusal_of};
 use crate::oom::watched_disk::DiskCalls;
 use flusher::{OpenGate, run_flusher};
-use ktm_calls::{Denied, Key, Receipt, Session, StoreEngine, Told, Turn};
-use published_trees::Origin;
+use histories::Start;
+use ktm_calls::{Denied, Key, Receipt, Session, Told, Turn};
 use refusals::Refusal;
 use std::alloc::Global;
 use std::sync::Wait;
+use store_engine::StoreEngine;
 use store_model::{Outcome, Tx};
 
 // more steps than a flusher makes
@@ -29,7 +30,7 @@ struct RegistryPicture {
 
 /// Two sessions of a registry, and what was begun in the first of them.
 #[derive(Drop)]
-pub(crate) struct Caller<O: Origin> {
+pub(crate) struct Caller<O: Start> {
     /// Whether a call was refused memory.
     pub was_refused: bool,
     /// Writes that meet a claim now, and such that meet none.
@@ -53,7 +54,7 @@ pub(crate) enum Patience {
 }
 
 // the reads of some keys, which take no memory
-fn reads_of<O: Origin>(reader: &mut Session<O>, keys: &[Key]) -> Result<Digest, Fault> {
+fn reads_of<O: Start>(reader: &mut Session<O>, keys: &[Key]) -> Result<Digest, Fault> {
     let mut now = Digest::new();
     for key in keys {
         now = with_read(now, reader.query_info(key).map(Found::of_info))?;
@@ -77,7 +78,7 @@ fn with_read(digest: Digest, read: Result<Found, Refusal>) -> Result<Digest, Fau
     }
 }
 
-impl<O: Origin> Caller<O> {
+impl<O: Start> Caller<O> {
     /// Nothing is begun.
     pub(crate) fn new(
         alloc: Global,
@@ -220,7 +221,7 @@ fn unless_refused(answer: Answer) -> Result<Answer, Fault> {
     }
 }
 
-impl<O: Origin> Caller<O> {
+impl<O: Start> Caller<O> {
     /// Commits a transaction. If there is no memory, all is as it was and it is committed again; or its change stands,
     /// for a step of the journal was refused, and a flush makes it durable.
     pub(crate) fn commit<E: StoreEngine, R: Wait>(
@@ -407,7 +408,7 @@ fn expect_ended(answer: Answer) -> Result<(), Fault> {
     }
 }
 
-fn checkpoint_once<E: StoreEngine, O: Origin, R: Wait>(calls: &Calls<'_, E, O, R>) -> Answer {
+fn checkpoint_once<E: StoreEngine, O: Start, R: Wait>(calls: &Calls<'_, E, O, R>) -> Answer {
     match calls.registry.checkpoint(calls.rt) {
         Ok(receipt) => Answer::Receipt(receipt.number()),
         Err(denied) => Answer::Refused(refusal_of(&denied)),

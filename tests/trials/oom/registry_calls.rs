@@ -4,11 +4,12 @@ use crate::fault::Fault;
 use crate::oom::asks::{Change, Look, VALUE_BYTES, question_of, tx_of};
 use crate::oom::operations::{TYPE, data_of, path, value_name};
 use crate::oom::watched_disk::DiskWatch;
-use ktm_calls::{Denied, Disposition, Key, Registry, Session, StoreEngine, Told};
-use published_trees::Origin;
+use histories::Start;
+use ktm_calls::{Denied, Disposition, Key, Registry, Session, Told};
 use refusals::Refusal;
 use std::alloc::Global;
 use std::sync::Wait;
+use store_engine::StoreEngine;
 use store_model::Tx;
 use uuid::Uuid;
 
@@ -30,7 +31,7 @@ pub(crate) enum Call {
 }
 
 /// A registry, as it is called.
-pub(crate) struct Calls<'a, E: StoreEngine, O: Origin, R: Wait> {
+pub(crate) struct Calls<'a, E: StoreEngine, O: Start, R: Wait> {
     /// The runtime.
     pub rt: &'a R,
     /// Where keys and names are made.
@@ -41,7 +42,7 @@ pub(crate) struct Calls<'a, E: StoreEngine, O: Origin, R: Wait> {
     pub watch: &'a DiskWatch,
 }
 
-impl<'a, E: StoreEngine, O: Origin, R: Wait> Drop for Calls<'a, E, O, R> {
+impl<'a, E: StoreEngine, O: Start, R: Wait> Drop for Calls<'a, E, O, R> {
     fn drop(self) {
         let Calls {
             rt: _,
@@ -100,7 +101,7 @@ fn committed(answer: Result<u64, Refusal>) -> Answer {
     }
 }
 
-impl<'a, E: StoreEngine, O: Origin, R: Wait> Calls<'a, E, O, R> {
+impl<'a, E: StoreEngine, O: Start, R: Wait> Calls<'a, E, O, R> {
     /// One call.
     pub(crate) fn call(
         &self,

@@ -14,12 +14,14 @@ use crate::oom::registry_calls::{Call, Calls, key_of, refusal_of};
 use crate::oom::watched_disk::DiskWatch;
 use crate::oom::{OomDisk, WatchedEngine, expect_no_memory, refused_again};
 use engine::Engine;
-use ktm_calls::{Ended, Key, Registry, Session, StoreEngine};
-use published_trees::{ChangeCount, Origin, SeenChanges};
+use histories::{EventCount, Start};
+use ktm_calls::{Ended, Key, Registry, Session};
+use published_trees::{ChangeCount, SeenChanges};
 use refusals::Refusal;
 use std::alloc::Global;
 use std::marker::Brand;
 use std::sync::Wait;
+use store_engine::StoreEngine;
 use store_model::Outcome;
 
 /// What is called.
@@ -228,7 +230,7 @@ fn live_once<R: Wait>(
 }
 
 // the same over any engine that was just opened
-fn live_over<O: Origin, E: StoreEngine + Drop, R: Wait>(
+fn live_over<O: Start, E: StoreEngine + Drop, R: Wait>(
     rt: &R,
     alloc: Global,
     engine: E,
@@ -237,7 +239,7 @@ fn live_over<O: Origin, E: StoreEngine + Drop, R: Wait>(
     watch: &DiskWatch,
     patience: Patience,
 ) -> Result<(E, Result<bool, Fault>), (Refusal, E)> {
-    let registry = match Registry::<E, O>::new(alloc, rt, engine, count, seen) {
+    let registry = match Registry::<E, O>::new(alloc, rt, engine, EventCount::open(), count, seen) {
         Ok(registry) => registry,
         Err(back) => return Err(back),
     };
@@ -252,13 +254,13 @@ fn live_over<O: Origin, E: StoreEngine + Drop, R: Wait>(
     );
     let Ended {
         engine,
+        events: _,
         durable: _,
-        strangers: _,
     } = registry.end(rt, Vec::new(alloc), Vec::new(alloc));
     Ok((engine, lived))
 }
 
-fn live<O: Origin, E: StoreEngine, R: Wait>(
+fn live<O: Start, E: StoreEngine, R: Wait>(
     calls: &Calls<'_, E, O, R>,
     patience: Patience,
 ) -> Result<bool, Fault> {
@@ -283,7 +285,7 @@ fn keys_of(alloc: Global) -> Result<Vec<Key>, Fault> {
 }
 
 // a session; if there is no memory for it nothing changes
-fn session_of<O: Origin, E: StoreEngine, R: Wait>(
+fn session_of<O: Start, E: StoreEngine, R: Wait>(
     calls: &Calls<'_, E, O, R>,
     was_refused: &mut bool,
 ) -> Result<Session<O>, Fault> {
@@ -303,7 +305,7 @@ fn session_of<O: Origin, E: StoreEngine, R: Wait>(
     }
 }
 
-impl<O: Origin> Caller<O> {
+impl<O: Start> Caller<O> {
     fn take_all<E: StoreEngine, R: Wait>(
         &mut self,
         calls: &Calls<'_, E, O, R>,

@@ -1,4 +1,4 @@
-use Rattle.std.proofs.Common.{◌≤◌, ◌+◌, ℕ, List, arith, refl, subst, sym}
+use Rattle.std.proofs.Common.{◌∙◌, ◌≤◌, ◌+◌, ℕ, List, arith, refl, subst, sym}
 use Rattle.std.specs.List.{All}
 use Rattle.store_model.specs.declared.event.Event.TheVariants as event
 use Rattle.ktm_calls.proofs.OpenSessions.{ended, fewer, none_left, still_below, still_of}
@@ -7,14 +7,18 @@ use Rattle.ktm_calls.proofs.locked.end_sessions.Goals as goal
 pub loop-number-preserved : goal.loop-number-preserved
 loop-number-preserved g c =
     let old = g.E.StoreEngine.machine c.loop-number.engine in
-    let new = g.E.StoreEngine.machine c.event.new.self in
+    let new = g.E.StoreEngine.machine c.put_event.new.engine in
     let ends = event.EndSession c.loop-number.number in
-    let reply = c.event.result in
-    let step = c.event.ensures.step in
+    let reply = c.put_event.result in
+    let step = c.put_event.ensures.step in
     let was = c.loop-number.invariant in
     record {
       owner = still_of g.O.Origin.trees g.O.Origin.number g.O.Origin.hives old new was.owner (c.openings_stay.ensures.opening old new ends reply refl step) (c.openings_stay.ensures.bounds old new ends reply step).0;
       below = still_below c.args.bound old new was.below ends reply tt step;
+      list = c.others_accept_nothing.ensures old new ends reply refl refl step ∙ was.list;
+      store = c.put_event.ensures.store ∙ was.store;
+      book = c.put_event.ensures.book ∙ was.book;
+      leads = c.put_event.ensures.leads;
       from = subst (λ (l : List ℕ). All (λ s. c.loop-number.number + 1 ≤ s) l) (sym (ended old new c.loop-number.number reply step)) (fewer c.loop-number.number old.sessions was.from);
     }
 

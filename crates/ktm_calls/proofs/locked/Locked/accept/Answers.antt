@@ -1,13 +1,17 @@
+use Rattle.std.proofs.Common.{◌∙◌}
 use Rattle.ktm_calls.proofs.OpenSessions.{accepting_opens_none, still_below, still_of}
 use Rattle.ktm_calls.proofs.locked.Locked.accept.Goals as goal
 
 pub invariant_of-self-2 : goal.invariant_of-self-2
 invariant_of-self-2 g c =
     let old = g.E.StoreEngine.machine c.self.inside.engine in
-    let new = g.E.StoreEngine.machine c.carry_out.new.engine in
+    let new = g.E.StoreEngine.machine c.accept_event.new.engine in
     let stay = c.openings_stay.ensures.opening old new c.args.event c.in_ok-reply.reply c.requires.no_fold c.in_ok-reply.ensures.step in
     let bounds = c.openings_stay.ensures.bounds old new c.args.event c.in_ok-reply.reply c.in_ok-reply.ensures.step in
     record {
+      book = c.accept_event.ensures.book ∙ c.self.invariant.book;
+      store = c.accept_event.ensures.store ∙ c.self.invariant.store;
+      leads = c.accept_event.ensures.leads;
       owner = still_of g.O.Origin.trees g.O.Origin.number g.O.Origin.hives old new c.self.invariant.owner stay bounds.0;
       sessions = still_below c.self.inside.session_bound old new c.self.invariant.sessions c.args.event c.in_ok-reply.reply (accepting_opens_none c.self.inside.session_bound c.args.event c.requires.accepts) c.in_ok-reply.ensures.step;
       bound = c.self.invariant.bound;

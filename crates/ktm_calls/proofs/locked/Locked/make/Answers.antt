@@ -5,13 +5,16 @@ use Rattle.ktm_calls.proofs.locked.Locked.make.Goals as goal
 pub invariant_of-self-2 : goal.invariant_of-self-2
 invariant_of-self-2 g c =
     let old = g.E.StoreEngine.machine c.self.inside.engine in
-    let new = g.E.StoreEngine.machine c.event-reply.new.self in
-    let step = c.event-reply.ensures.step in
-    let stay = c.openings_stay.ensures.opening old new c.args.event c.event-reply.result c.requires.no_fold step in
-    let bounds = c.openings_stay.ensures.bounds old new c.args.event c.event-reply.result step in
+    let new = g.E.StoreEngine.machine c.put_event-reply.new.engine in
+    let step = c.put_event-reply.ensures.step in
+    let stay = c.openings_stay.ensures.opening old new c.args.event c.put_event-reply.result c.requires.no_fold step in
+    let bounds = c.openings_stay.ensures.bounds old new c.args.event c.put_event-reply.result step in
     record {
+      book = c.put_event-reply.ensures.book ∙ c.self.invariant.book;
+      store = c.put_event-reply.ensures.store ∙ c.self.invariant.store;
+      leads = c.put_event-reply.ensures.leads;
       owner = still_of g.O.Origin.trees g.O.Origin.number g.O.Origin.hives old new c.self.invariant.owner stay bounds.0;
-      sessions = still_below c.bound_with-self-inside.result old new (below_more c.self.inside.session_bound c.bound_with-self-inside.result old c.bound_with-self-inside.ensures.above c.self.invariant.sessions) c.args.event c.event-reply.result c.bound_with-self-inside.ensures.opens step;
+      sessions = still_below c.bound_with-self-inside.result old new (below_more c.self.inside.session_bound c.bound_with-self-inside.result old c.bound_with-self-inside.ensures.above c.self.invariant.sessions) c.args.event c.put_event-reply.result c.bound_with-self-inside.ensures.opens step;
       bound = c.bound_with-self-inside.ensures.most;
-      list = c.self.invariant.list ∙ sym (c.others_accept_nothing.ensures old new c.args.event c.event-reply.result c.requires.calm c.requires.no_fold step);
+      list = c.self.invariant.list ∙ sym (c.others_accept_nothing.ensures old new c.args.event c.put_event-reply.result c.requires.calm c.requires.no_fold step);
     }

@@ -1,19 +1,19 @@
-use Rattle.std.proofs.Common.{◌∙◌, ap, inl, [], ℕ}
-use Rattle.ktm_calls.specs.Moments.{NumberedList}
+use Rattle.std.proofs.Common.{◌∙◌, ap, inl, ℕ}
+use Rattle.ktm_calls.specs.Moments.{NumberedSight, no_sight}
 use Rattle.ktm_calls.proofs.Seen.{seen_trans}
 use Rattle.ktm_calls.proofs.Shapes.{refused_unless}
 use Rattle.ktm_calls.proofs.registry.Registry.serve_durably.Goals as goal
 
 pub returns-in_default-clause-denied : goal.returns-in_default-clause-denied
-returns-in_default-clause-denied g c = inl ([], tt)
+returns-in_default-clause-denied g c = inl (no_sight, tt)
 
 pub returns-in_default-reply : goal.returns-in_default-reply
 returns-in_default-reply g c = record {
   seen = rw (← c.session.view_is) c.in-Ok.ensures.seen;
-  number = ap (λ (m : NumberedList). m.number) c.session.view_is;
+  number = ap (λ (m : NumberedSight). m.number) c.session.view_is;
   told = tt;
   denied = inl (
-    c.serve-answer.new.mine.list,
+    c.serve-answer.new.mine,
     (
       rw (← c.session.view_is) c.in-Ok.ensures.told,
       refused_unless c.in-Ok.told.reply
