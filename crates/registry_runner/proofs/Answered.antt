@@ -6,11 +6,12 @@ use Rattle.reg_tree.specs.Maps.{TreeMap}
 use Rattle.script_syntax.specs.declared.line.Line.{Line}
 use Rattle.reply_lines.specs.declared.reply.ReplyLine.{ReplyLine}
 use Rattle.script_runner.specs.Scripts.{later_line}
+use Rattle.histories.specs.Points.{Point}
 use Rattle.registry_runner.specs.Scripts.{Script, Answers}
 
 -- what was reported for one of a script's later lines is an answer to the line
-pub carried : (trees : List TreeMap) (number hives : ℕ) (old new then : Script) (line one : Line) (result reported : Result ReplyLine Refusal) (reply : ReplyLine) → line ≡ one → later_line (Some one) ≡ Some one → reported ≡ result → reported ≡ Ok reply → then ≡ new → IfOk result (λ t. Answers trees number hives old one t new)
-    → (later_line (Some line) ≡ Some line) × Answers trees number hives old line reply then
-carried trees number hives old new then line one result reported reply is later from ok same said =
-    let here = subst (λ r. IfOk r (λ t. Answers trees number hives old one t new)) (sym from ∙ ok) said in
-    subst (λ l. (later_line (Some l) ≡ Some l) × Answers trees number hives old l reply then) (sym is) (later, subst (λ s. Answers trees number hives old one reply s) (sym same) here)
+pub carried : (origin : Point) (trees : List TreeMap) (number hives : ℕ) (old new then : Script) (line one : Line) (result reported : Result ReplyLine Refusal) (reply : ReplyLine) → line ≡ one → later_line (Some one) ≡ Some one → reported ≡ result → reported ≡ Ok reply → then ≡ new → IfOk result (λ t. Answers origin trees number hives old one t new)
+    → (later_line (Some line) ≡ Some line) × Answers origin trees number hives old line reply then
+carried origin trees number hives old new then line one result reported reply is later from ok same said =
+    let here = subst (λ r. IfOk r (λ t. Answers origin trees number hives old one t new)) (sym from ∙ ok) said in
+    subst (λ l. (later_line (Some l) ≡ Some l) × Answers origin trees number hives old l reply then) (sym is) (later, subst (λ s. Answers origin trees number hives old one reply s) (sym same) here)

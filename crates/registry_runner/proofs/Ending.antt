@@ -25,6 +25,7 @@ use Rattle.script_loop.specs.declared.end_of_script.EndOfScript.TheVariants.{Bro
 use Rattle.script_syntax.specs.declared.line.Line.TheVariants.{Flush}
 use Rattle.reg_tree.specs.Maps.{TreeMap}
 use Rattle.reg_tree.specs.Sequences.{after_elements}
+use Rattle.histories.specs.Points.{Point}
 use Rattle.store_model.specs.Machine.{Machine}
 use Rattle.ktm_calls.specs.Moments.{IsOf}
 use Rattle.registry_runner.specs.Folding.{IsFoldedAt, IsIdle}
@@ -106,61 +107,61 @@ ends_after refused (Ok part) came_to status before after e = record {
 
 -- A part
 
-module _ (limit : ℕ) (can_read : Bool) (trees : List TreeMap) (first hives number : ℕ) (known was : Option (List ℕ)) where
+module _ (limit : ℕ) (can_read : Bool) (origin : Point) (trees : List TreeMap) (first hives number : ℕ) (known was : Option (List ℕ)) where
   -- a script that can be read
-  pub read_all : {E : Type 0} (old new : Script) (rest is : Option (List ℕ)) (r : Result LinesEnd E) → can_read ≡ true → IfOk r (λ end. LinesCome limit true (part trees first hives old) number known was end new rest is) → IfOk r (λ end. LinesCome limit can_read (part trees first hives old) number known was end new rest is)
-  read_all old new rest is r can h = subst (λ (b : Bool). IfOk r (λ end. LinesCome limit b (part trees first hives old) number known was end new rest is)) (sym can) h
+  pub read_all : {E : Type 0} (old new : Script) (rest is : Option (List ℕ)) (r : Result LinesEnd E) → can_read ≡ true → IfOk r (λ end. LinesCome limit true (part origin trees first hives old) number known was end new rest is) → IfOk r (λ end. LinesCome limit can_read (part origin trees first hives old) number known was end new rest is)
+  read_all old new rest is r can h = subst (λ (b : Bool). IfOk r (λ end. LinesCome limit b (part origin trees first hives old) number known was end new rest is)) (sym can) h
 
   -- one that can't be
-  unread_come : (old : Script) (rest is : Option (List ℕ)) (end : LinesEnd) → IsUnread was is end → LinesCome limit false (part trees first hives old) number known was end old rest is
+  unread_come : (old : Script) (rest is : Option (List ℕ)) (end : LinesEnd) → IsUnread was is end → LinesCome limit false (part origin trees first hives old) number known was end old rest is
   unread_come old rest is (come.Ended status) u = ([], Some Broken, u.0, (refl, refl), (u.1, refl), u.2)
   unread_come old rest is (come.ToFold next) u = absurd u
 
-  pub read_none : {E : Type 0} (old : Script) (rest is : Option (List ℕ)) (r : Result LinesEnd E) → can_read ≡ false → IfOk r (IsUnread was is) → IfOk r (λ end. LinesCome limit can_read (part trees first hives old) number known was end old rest is)
+  pub read_none : {E : Type 0} (old : Script) (rest is : Option (List ℕ)) (r : Result LinesEnd E) → can_read ≡ false → IfOk r (IsUnread was is) → IfOk r (λ end. LinesCome limit can_read (part origin trees first hives old) number known was end old rest is)
   read_none old rest is r can h =
-      subst (λ (b : Bool). IfOk r (λ end. LinesCome limit b (part trees first hives old) number known was end old rest is)) (sym can) (if_ok (IsUnread was is) (λ end. LinesCome limit false (part trees first hives old) number known was end old rest is) r (unread_come old rest is) h)
+      subst (λ (b : Bool). IfOk r (λ end. LinesCome limit b (part origin trees first hives old) number known was end old rest is)) (sym can) (if_ok (IsUnread was is) (λ end. LinesCome limit false (part origin trees first hives old) number known was end old rest is) r (unread_come old rest is) h)
 
   -- what was played is written out, and all is flushed
-  pub ended : {E : Type 0} (old end last : Script) (mid is : Option (List ℕ)) (flushed : ReplyLine) (played out : Result Status E) → IfOk played (λ s. IsPlayedOn limit can_read (Ok (part trees first hives old)) number known was mid s (Ok (part trees first hives end))) → IfOk out (λ s. (played ≡ Ok s) × Keeps mid is) → Answers trees first hives end Flush flushed last
-      → IfOk out (λ s. HaveEnded limit can_read (part trees first hives old) number known was is s flushed last)
+  pub ended : {E : Type 0} (old end last : Script) (mid is : Option (List ℕ)) (flushed : ReplyLine) (played out : Result Status E) → IfOk played (λ s. IsPlayedOn limit can_read (Ok (part origin trees first hives old)) number known was mid s (Ok (part origin trees first hives end))) → IfOk out (λ s. (played ≡ Ok s) × Keeps mid is) → Answers origin trees first hives end Flush flushed last
+      → IfOk out (λ s. HaveEnded limit can_read (part origin trees first hives old) number known was is s flushed last)
   ended old end last mid is flushed played (Err e) h o a = tt
   ended old end last mid is flushed played (Ok s) h o a =
-      let r = subst (λ p. IfOk p (λ s. IsPlayedOn limit can_read (Ok (part trees first hives old)) number known was mid s (Ok (part trees first hives end)))) o.0 h in (end, (r.0, r.1, r.2, r.3, r.4, appends_kept was mid is r.2 r.5 o.1), a)
+      let r = subst (λ p. IfOk p (λ s. IsPlayedOn limit can_read (Ok (part origin trees first hives old)) number known was mid s (Ok (part origin trees first hives end)))) o.0 h in (end, (r.0, r.1, r.2, r.3, r.4, appends_kept was mid is r.2 r.5 o.1), a)
 
-module _ (start : PartStart) (trees : List TreeMap) (number hives : ℕ) (known before opened : Option (List ℕ)) (script : Script) (begun : IsBegun trees number hives start.moment script) (told : Appends before opened (kind_text start.kind number)) where
+module _ (start : PartStart) (origin : Point) (trees : List TreeMap) (number hives : ℕ) (known before opened : Option (List ℕ)) (script : Script) (begun : IsBegun origin trees number hives start.moment script) (told : Appends before opened (kind_text start.kind number)) where
   module _ (mid after : Option (List ℕ)) (last : Script) (flushed : ReplyLine) where
     abbrev pub Reports : Status → Status → Type 0
     Reports status came_to = (undone : Option Refusal) × MayBeUndone undone × (status ≡ with_refusal (is_some undone) (with_refusal (is_refusal flushed) came_to)) × Appends mid after (flushed_text flushed ++ undone_text undone)
 
     abbrev pub Plays : Status → Type 0
-    Plays came_to = HaveEnded start.limit start.can_read (part trees number hives script) start.line known opened mid came_to flushed last
+    Plays came_to = HaveEnded start.limit start.can_read (part origin trees number hives script) start.line known opened mid came_to flushed last
 
-    ran_from : (status came_to : Status) → Reports status came_to → Plays came_to → RunsFrom start trees number hives known before after status
+    ran_from : (status came_to : Status) → Reports status came_to → Plays came_to → RunsFrom start origin trees number hives known before after status
     ran_from status came_to e h = (
-      Ok (part trees number hives script),
+      Ok (part origin trees number hives script),
       opened,
-      (refl, refl, refl, begun),
+      (refl, refl, refl, refl, begun),
       told,
-      (Ok (part trees number hives h.0), came_to, mid, h.1, record { reported = flushed; last = last; flushed = h.2; undone = e.0; may = e.1; wrote = e.3; status_is = e.2 }),
+      (Ok (part origin trees number hives h.0), came_to, mid, h.1, record { reported = flushed; last = last; flushed = h.2; undone = e.0; may = e.1; wrote = e.3; status_is = e.2 }),
     )
 
     -- a script that was begun, its lines, and what the end reports
-    pub ran : {E : Type 0} (r played : Result Status E) → (IsOk r → IsOk played) → IfOk r (λ status. IfOk played (Reports status)) → IfOk played Plays → IfOk r (λ status. RunsFrom start trees number hives known before after status)
-    ran r played also e h = if_ok (λ status. (came_to : Status) × Reports status came_to × Plays came_to) (λ status. RunsFrom start trees number hives known before after status) r (λ status both. ran_from status both.0 both.1 both.2) (both_ok Reports Plays r played also e h)
+    pub ran : {E : Type 0} (r played : Result Status E) → (IsOk r → IsOk played) → IfOk r (λ status. IfOk played (Reports status)) → IfOk played Plays → IfOk r (λ status. RunsFrom start origin trees number hives known before after status)
+    ran r played also e h = if_ok (λ status. (came_to : Status) × Reports status came_to × Plays came_to) (λ status. RunsFrom start origin trees number hives known before after status) r (λ status both. ran_from status both.0 both.1 both.2) (both_ok Reports Plays r played also e h)
 
   -- a script that was begun, and whose history is to be folded
-  pub folds_from : (next : NextPart) (end : Script) (rest is : Option (List ℕ)) → GoesOnFolded start.limit start.can_read (part trees number hives script) start.line known opened next (part trees number hives end) rest is → EndsPart start trees number hives known before (ToFold next) rest is
+  pub folds_from : (next : NextPart) (end : Script) (rest is : Option (List ℕ)) → GoesOnFolded start.limit start.can_read (part origin trees number hives script) start.line known opened next (part origin trees number hives end) rest is → EndsPart start origin trees number hives known before (ToFold next) rest is
   folds_from next end rest is goes (Ok one) said after status folds printed on = (
-    Ok (part trees number hives script),
+    Ok (part origin trees number hives script),
     opened,
-    (refl, refl, refl, begun),
+    (refl, refl, refl, refl, begun),
     told,
     (on.0, with_refusal next.has_refusal on.1, on.2, goes.2 (Ok one) said on.2 on.1 on.0 (subst (λ m. FoldsAt trees number hives m (Ok one)) goes.1 folds) printed on.3, ends_after next.has_refusal on.0 on.1 status on.2 after on.4),
   )
   folds_from next end rest is goes (Err why) said after status folds printed on = (
-    Ok (part trees number hives script),
+    Ok (part origin trees number hives script),
     opened,
-    (refl, refl, refl, begun),
+    (refl, refl, refl, refl, begun),
     told,
     (
       Err why,
@@ -172,27 +173,27 @@ module _ (start : PartStart) (trees : List TreeMap) (number hives : ℕ) (known 
   )
 
 -- a part that doesn't begin
-pub begins_not : (start : PartStart) (trees : List TreeMap) (number hives : ℕ) (known before after : Option (List ℕ)) (why : Refusal) {E : Type 0} (r : Result Status E) → MayNotBegin trees number hives why → IfOk r (λ status. (status ≡ Refused) × Appends before after (refusal_text why ++ 10 ∷ [])) → IfOk r (λ status. RunsFrom start trees number hives known before after status)
-begins_not start trees number hives known before after why r may h =
-    if_ok (λ status. (status ≡ Refused) × Appends before after (refusal_text why ++ 10 ∷ [])) (λ status. RunsFrom start trees number hives known before after status) r (λ status said. (Err why, before, may, appends_nothing before, (said.1, said.0))) h
+pub begins_not : (start : PartStart) (origin : Point) (trees : List TreeMap) (number hives : ℕ) (known before after : Option (List ℕ)) (why : Refusal) {E : Type 0} (r : Result Status E) → MayNotBegin origin trees number hives why → IfOk r (λ status. (status ≡ Refused) × Appends before after (refusal_text why ++ 10 ∷ [])) → IfOk r (λ status. RunsFrom start origin trees number hives known before after status)
+begins_not start origin trees number hives known before after why r may h =
+    if_ok (λ status. (status ≡ Refused) × Appends before after (refusal_text why ++ 10 ∷ [])) (λ status. RunsFrom start origin trees number hives known before after status) r (λ status said. (Err why, before, may, appends_nothing before, (said.1, said.0))) h
 
 -- the next part after a fold
-pub folded_from : (start : PartStart) (next : NextPart) (at : ℕ) (trees : List TreeMap) (number hives : ℕ) (known before rest mid after : Option (List ℕ)) (status : Status) (old new : Machine) → IsOf trees number hives old → IsFoldedAt old new at → EndsPart start trees number hives known before (ToFold next) rest mid
-    → RunsFrom (record start { kind = next.kind; number = at; line = next.line; moment = next.moment }) new.opened new.before new.bounds.hives rest mid after status → RunsFrom start trees number hives known before after (with_refusal next.has_refusal status)
-folded_from start next at trees number hives known before rest mid after status old new of is ends runs =
+pub folded_from : (start : PartStart) (next : NextPart) (at : ℕ) (origin : Point) (trees : List TreeMap) (number hives : ℕ) (known before rest mid after : Option (List ℕ)) (status : Status) (old new : Machine) (begun : Point) → IsOf trees number hives old → IsFoldedAt old new at → EndsPart start origin trees number hives known before (ToFold next) rest mid
+    → RunsFrom (record start { kind = next.kind; number = at; line = next.line; moment = next.moment }) begun new.opened new.before new.bounds.hives rest mid after status → RunsFrom start origin trees number hives known before after (with_refusal next.has_refusal status)
+folded_from start next at origin trees number hives known before rest mid after status old new begun of is ends runs =
     let opened = is.opened ∙ ap (λ (t : List TreeMap). after_elements t old.accepted) of.opened in
     let numbered = is.before ∙ ap (λ (n : ℕ). n + length old.accepted) of.before in
     let named = is.hives ∙ of.hives in
     let begins =
-    subst (λ (h : ℕ). BeginsOrNot (after_elements trees old.accepted) (number + length old.accepted) h next.moment runs.0) named
-    (subst (λ (n : ℕ). BeginsOrNot (after_elements trees old.accepted) n new.bounds.hives next.moment runs.0) numbered (subst (λ (t : List TreeMap). BeginsOrNot t new.before new.bounds.hives next.moment runs.0) opened runs.2)) in
-    ends runs.0 runs.1 after status (inl (old.accepted, begins)) runs.3 runs.4
+    subst (λ (h : ℕ). BeginsOrNot begun (after_elements trees old.accepted) (number + length old.accepted) h next.moment runs.0) named
+    (subst (λ (n : ℕ). BeginsOrNot begun (after_elements trees old.accepted) n new.bounds.hives next.moment runs.0) numbered (subst (λ (t : List TreeMap). BeginsOrNot begun t new.before new.bounds.hives next.moment runs.0) opened runs.2)) in
+    ends runs.0 runs.1 after status (inl (begun, old.accepted, begins)) runs.3 runs.4
 
 -- a fold that is refused
-pub not_folded : (start : PartStart) (next : NextPart) (trees : List TreeMap) (number hives : ℕ) (known before rest mid after : Option (List ℕ)) (why : Refusal) {E : Type 0} (r : Result Status E) → EndsPart start trees number hives known before (ToFold next) rest mid → MayNotFold why → IfOk r (λ status. (status ≡ Refused) × Appends mid after (refusal_text why ++ 10 ∷ []))
-    → IfOk r (λ status. RunsFrom start trees number hives known before after (with_refusal next.has_refusal status))
-not_folded start next trees number hives known before rest mid after why r ends may h =
-    if_ok (λ status. (status ≡ Refused) × Appends mid after (refusal_text why ++ 10 ∷ [])) (λ status. RunsFrom start trees number hives known before after (with_refusal next.has_refusal status)) r
+pub not_folded : (start : PartStart) (next : NextPart) (origin : Point) (trees : List TreeMap) (number hives : ℕ) (known before rest mid after : Option (List ℕ)) (why : Refusal) {E : Type 0} (r : Result Status E) → EndsPart start origin trees number hives known before (ToFold next) rest mid → MayNotFold why → IfOk r (λ status. (status ≡ Refused) × Appends mid after (refusal_text why ++ 10 ∷ []))
+    → IfOk r (λ status. RunsFrom start origin trees number hives known before after (with_refusal next.has_refusal status))
+not_folded start next origin trees number hives known before rest mid after why r ends may h =
+    if_ok (λ status. (status ≡ Refused) × Appends mid after (refusal_text why ++ 10 ∷ [])) (λ status. RunsFrom start origin trees number hives known before after (with_refusal next.has_refusal status)) r
     (λ status said. ends (Err why) mid after status (inr (why, may, refl)) (appends_nothing mid) (said.1, said.0)) h
 
 -- a run with the refusals before it
@@ -204,14 +205,15 @@ with_earlier P Q refused (Err e) ran goes also is h = tt
 -- A run
 
 -- one part after another: from the first part that begins so, the run goes to its end
-pub run_from : (limit number hives : ℕ) (can_read : Bool) (trees : List TreeMap) (known before after : Option (List ℕ)) (status : Status) → RunsFrom (record { kind = Opened; number = number; limit = limit; can_read = can_read; line = 1; moment = 0 }) trees number hives known before after status → RunsOrNot limit can_read known trees number hives before after status
-run_from limit number hives can_read trees known before after status (Err why, told, begins, printed, on) =
+pub run_from : (limit number hives : ℕ) (can_read : Bool) (origin : Point) (trees : List TreeMap) (known before after : Option (List ℕ)) (status : Status) → RunsFrom (record { kind = Opened; number = number; limit = limit; can_read = can_read; line = 1; moment = 0 }) origin trees number hives known before after status → RunsOrNot limit can_read known origin trees number hives before after status
+run_from limit number hives can_read origin trees known before after status (Err why, told, begins, printed, on) =
     inl (record { why = why; may_be = begins; reported = kept_appends before told after (refusal_text why ++ 10 ∷ []) (kept_by_nothing before told printed) on.0; status_is = on.1 })
-run_from limit number hives can_read trees known before after status (Ok one, told, begins, printed, on) =
-    let same : one ≡ record { trees = trees; number = number; hives = hives; script = one.script } =
-    ap (λ (t : List TreeMap). record { trees = t; number = one.number; hives = one.hives; script = one.script }) begins.0
-    ∙ ap (λ (n : ℕ). record { trees = trees; number = n; hives = one.hives; script = one.script }) begins.1
-    ∙ ap (λ (h : ℕ). record { trees = trees; number = number; hives = h; script = one.script }) begins.2 in
+run_from limit number hives can_read origin trees known before after status (Ok one, told, begins, printed, on) =
+    let same : one ≡ record { start = origin; trees = trees; number = number; hives = hives; script = one.script } =
+    ap (λ (p : Point). record { start = p; trees = one.trees; number = one.number; hives = one.hives; script = one.script }) begins.0
+    ∙ ap (λ (t : List TreeMap). record { start = origin; trees = t; number = one.number; hives = one.hives; script = one.script }) begins.1
+    ∙ ap (λ (n : ℕ). record { start = origin; trees = trees; number = n; hives = one.hives; script = one.script }) begins.2
+    ∙ ap (λ (h : ℕ). record { start = origin; trees = trees; number = number; hives = h; script = one.script }) begins.3 in
     let play = on.3 in
     inr (
       play.0,
@@ -219,9 +221,9 @@ run_from limit number hives can_read trees known before after status (Ok one, to
       play.3,
       record {
         opened = told;
-        told = subst (λ n. Appends before told (opened_text n)) begins.1 printed;
+        told = subst (λ n. Appends before told (opened_text n)) begins.2 printed;
         script = one.script;
-        begun = begins.3;
+        begun = begins.4;
         text = play.2;
         came_to = on.1;
         end = on.0;

@@ -5,6 +5,7 @@ use Rattle.refusals.specs.declared.refusal.Refusal.{Refusal}
 use Rattle.refusals.specs.declared.refusal.Refusal.TheVariants.{NoMemory, NoSeat}
 use Rattle.reg_tree.specs.Maps.{TreeMap}
 use Rattle.reply_lines.specs.declared.status.Status.{Status}
+use Rattle.histories.specs.Points.{Point}
 use Rattle.registry_runner.specs.Parts.{MayNotBegin}
 use Rattle.registry_runner.specs.Plays.{IsPlayedOn, LinesCome}
 use Rattle.registry_runner.specs.Scripts.{Script}
@@ -13,19 +14,19 @@ use Rattle.registry_runner.specs.declared.lines.LinesEnd.TheVariants as come
 use Rattle.registry_runner.proofs.Playing.{part}
 
 -- no registry was made over an engine, so that no part begins
-pub not_made : (trees : List TreeMap) (number hives : ℕ) (why : Refusal) → (why ≡ NoMemory) ⊎ (why ≡ NoSeat) → MayNotBegin trees number hives why
-not_made trees number hives why (inl memory) = inl memory
-not_made trees number hives why (inr seat) = inr (inl seat)
+pub not_made : (origin : Point) (trees : List TreeMap) (number hives : ℕ) (why : Refusal) → (why ≡ NoMemory) ⊎ (why ≡ NoSeat) → MayNotBegin origin trees number hives why
+not_made origin trees number hives why (inl memory) = inl memory
+not_made origin trees number hives why (inr seat) = inr (inl seat)
 
 -- what came of lines that ended with this status, or of which a write failed
-module _ (limit : ℕ) (can_read : Bool) (trees : List TreeMap) (first hives number : ℕ) (known was : Option (List ℕ)) (old new : Script) (rest is : Option (List ℕ)) where
+module _ (limit : ℕ) (can_read : Bool) (origin : Point) (trees : List TreeMap) (first hives number : ℕ) (known was : Option (List ℕ)) (old new : Script) (rest is : Option (List ℕ)) where
   abbrev pub Plays : Status → Type 0
-  Plays status = IsPlayedOn limit can_read (Ok (part trees first hives old)) number known was is status (Ok (part trees first hives new))
+  Plays status = IsPlayedOn limit can_read (Ok (part origin trees first hives old)) number known was is status (Ok (part origin trees first hives new))
 
-  pub plays : {E : Type 0} (r : Result LinesEnd E) (end : LinesEnd) (status : Status) (played : Result Status E) → r ≡ Ok end → end ≡ come.Ended status → played ≡ Ok status → IfOk r (λ end. LinesCome limit can_read (part trees first hives old) number known was end new rest is) → IfOk played Plays
+  pub plays : {E : Type 0} (r : Result LinesEnd E) (end : LinesEnd) (status : Status) (played : Result Status E) → r ≡ Ok end → end ≡ come.Ended status → played ≡ Ok status → IfOk r (λ end. LinesCome limit can_read (part origin trees first hives old) number known was end new rest is) → IfOk played Plays
   plays r end status played from ended same h =
-      let so = subst (λ r. IfOk r (λ end. LinesCome limit can_read (part trees first hives old) number known was end new rest is)) from h in
-      let on : Plays status = subst (λ end. LinesCome limit can_read (part trees first hives old) number known was end new rest is) ended so in subst (λ p. IfOk p Plays) (sym same) on
+      let so = subst (λ r. IfOk r (λ end. LinesCome limit can_read (part origin trees first hives old) number known was end new rest is)) from h in
+      let on : Plays status = subst (λ end. LinesCome limit can_read (part origin trees first hives old) number known was end new rest is) ended so in subst (λ p. IfOk p Plays) (sym same) on
 
 -- nothing is said of what failed
 pub if_err : {A E : Type 0} (P : A → Type 0) (e : E) (r : Result A E) → r ≡ Err e → IfOk r P

@@ -8,6 +8,7 @@ use Rattle.reg_tree.specs.Maps.{TreeMap}
 use Rattle.reply_lines.specs.declared.status.Status.{Status}
 use Rattle.reply_lines.specs.declared.status.Status.TheVariants.{Refused}
 use Rattle.script_loop.specs.Lines.{WereRead, lines_of}
+use Rattle.histories.specs.Points.{Point}
 use Rattle.registry_runner.specs.Plays.{IsPlayedOn}
 use Rattle.registry_runner.specs.Parts.{Part, start_text}
 use Rattle.registry_runner.specs.Scripts.{Script}
@@ -25,8 +26,8 @@ continued_text (Ok part) = refl
 continued_text (Err why) = refl
 
 -- a part of these trees and this number
-abbrev pub part : List TreeMap → ℕ → ℕ → Script → Part
-part trees number hives script = record { trees = trees; number = number; hives = hives; script = script }
+abbrev pub part : Point → List TreeMap → ℕ → ℕ → Script → Part
+part origin trees number hives script = record { start = origin; trees = trees; number = number; hives = hives; script = script }
 
 nothing_read : (known : Option (List ℕ)) → WereRead known [] None
 nothing_read None = tt

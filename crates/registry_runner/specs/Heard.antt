@@ -1,6 +1,5 @@
 -- What a call of the registry answers, as the reply to the line that made it.
 use Rattle.std.specs.Prelude.{◌≡◌, ℕ, ◌⊎◌, List, Option, Some, Result, Ok, Err}
-use mathlib.Core.List.{IsPrefix}
 use Rattle.refusals.specs.declared.refusal.Refusal.{Refusal}
 use Rattle.refusals.specs.declared.refusal.Refusal.TheVariants.{NoMemory, NoSuchHandle}
 use Rattle.reg_tree.specs.Maps.{TreeMap}
@@ -10,6 +9,7 @@ use Rattle.script_runner.specs.declared.operation.Operation.{Operation}
 use Rattle.script_runner.specs.declared.operation.Operation.TheVariants.{Write, Read}
 use Rattle.reply_lines.specs.declared.reply.ReplyLine.{ReplyLine}
 use Rattle.reply_lines.specs.declared.reply.ReplyLine.TheVariants as reply
+use Rattle.histories.specs.Points.{Point}
 use Rattle.store_model.specs.Machine.{read_refusal}
 use Rattle.store_model.specs.declared.event.Event.{Event}
 use Rattle.store_model.specs.declared.event.Event.TheVariants as event
@@ -17,7 +17,7 @@ use Rattle.store_model.specs.declared.event.ReadResult.{ReadResult}
 use Rattle.store_model.specs.declared.handle.Tx.{Tx}
 use Rattle.ktm_calls.specs.Denials.{IsCommitDenied}
 use Rattle.ktm_calls.specs.Kinds.{Told}
-use Rattle.ktm_calls.specs.Moments.{NumberedList, Tells, TellsDurably}
+use Rattle.ktm_calls.specs.Moments.{NumberedSight, SeesMore, Tells, TellsDurably}
 use Rattle.ktm_calls.specs.Outcomes.{HasNoOutcome, HasOutcome}
 use Rattle.ktm_calls.specs.Reads.{read_within}
 use Rattle.ktm_calls.specs.declared.registry.Denied.{Denied}
@@ -33,27 +33,27 @@ told_reply (Ok told) = reply_of told.reply
 told_reply (Err why) = denied_reply why
 
 -- a session goes on: its number stays, and what it has seen is a beginning of what it has seen then
-pub record GoesOn (old new : NumberedList) : Type 0 where
+pub record GoesOn (old new : NumberedSight) : Type 0 where
   pub number : new.number ≡ old.number
-  pub seen : IsPrefix old.list new.list
+  pub seen : SeesMore old.seen new.seen
 
 -- There was no memory. Or a machine of the registry answered the event, with all that the session has seen before and
 -- after it, and the reply tells its answer.
-abbrev pub IsHeard : List TreeMap → ℕ → ℕ → NumberedList → Event → ReplyLine → NumberedList → Type 0
-IsHeard trees number hives old event reported new =
-    (reported ≡ reply.Refused NoMemory) ⊎ ((told : Told) × Tells trees number hives old.list new.list event told × (reported ≡ reply_of told.reply))
+abbrev pub IsHeard : Point → List TreeMap → ℕ → ℕ → NumberedSight → Event → ReplyLine → NumberedSight → Type 0
+IsHeard origin trees number hives old event reported new =
+    (reported ≡ reply.Refused NoMemory) ⊎ ((told : Told) × Tells origin trees number hives old.seen new.seen event told × (reported ≡ reply_of told.reply))
 
-abbrev pub Hears : List TreeMap → ℕ → ℕ → NumberedList → Event → ReplyLine → NumberedList → Type 0
-Hears trees number hives old event reported new = GoesOn old new × IsHeard trees number hives old event reported new
+abbrev pub Hears : Point → List TreeMap → ℕ → ℕ → NumberedSight → Event → ReplyLine → NumberedSight → Type 0
+Hears origin trees number hives old event reported new = GoesOn old new × IsHeard origin trees number hives old event reported new
 
 -- The event was answered with a number, and that number is durable: the reply tells it. Or the reply tells why not.
-abbrev pub IsHeardDurably : List TreeMap → ℕ → ℕ → NumberedList → Event → (ℕ → ReplyLine) → ReplyLine → NumberedList → Type 0
-IsHeardDurably trees number hives old event tell reported new =
-    ((receipt : NumberedList) × (told : Told) × TellsDurably trees number hives old.list new.list event receipt told × (reported ≡ tell receipt.number))
-    ⊎ ((why : Denied) × IsCommitDenied trees number hives old.list event why × (reported ≡ denied_reply why))
+abbrev pub IsHeardDurably : Point → List TreeMap → ℕ → ℕ → NumberedSight → Event → (ℕ → ReplyLine) → ReplyLine → NumberedSight → Type 0
+IsHeardDurably origin trees number hives old event tell reported new =
+    ((receipt : NumberedSight) × (told : Told) × TellsDurably origin trees number hives old.seen new.seen event receipt told × (reported ≡ tell receipt.number))
+    ⊎ ((why : Denied) × IsCommitDenied origin trees number hives old.seen event why × (reported ≡ denied_reply why))
 
-abbrev pub HearsDurably : List TreeMap → ℕ → ℕ → NumberedList → Event → (ℕ → ReplyLine) → ReplyLine → NumberedList → Type 0
-HearsDurably trees number hives old event tell reported new = GoesOn old new × IsHeardDurably trees number hives old event tell reported new
+abbrev pub HearsDurably : Point → List TreeMap → ℕ → ℕ → NumberedSight → Event → (ℕ → ReplyLine) → ReplyLine → NumberedSight → Type 0
+HearsDurably origin trees number hives old event tell reported new = GoesOn old new × IsHeardDurably origin trees number hives old event tell reported new
 
 -- why a read may be refused: there was no memory, the session isn't open, or there is no such hive, key or value
 abbrev pub MayNotRead : Option ReadResult → Refusal → Type 0
@@ -70,16 +70,16 @@ TellsOutcome hives trees id reported =
     ((number : ℕ) × HasOutcome hives trees id number × (reported ≡ reply.Committed number))
     ⊎ ((why : Refusal) × ((why ≡ NoMemory) ⊎ (why ≡ NoSuchHandle) ⊎ HasNoOutcome hives trees id why) × (reported ≡ reply.Refused why))
 
-abbrev pub HearsOutcome : List TreeMap → ℕ → ℕ → NumberedList → List ℕ → ReplyLine → NumberedList → Type 0
-HearsOutcome trees number hives old id reported new = GoesOn old new × TellsOutcome hives (after_elements trees new.list) id reported
+abbrev pub HearsOutcome : Point → List TreeMap → ℕ → ℕ → NumberedSight → List ℕ → ReplyLine → NumberedSight → Type 0
+HearsOutcome origin trees number hives old id reported new = GoesOn old new × TellsOutcome hives (after_elements trees new.seen.list) id reported
 
 -- a request alone, at a moment
-abbrev pub HearsAlone : List TreeMap → ℕ → ℕ → ℕ → NumberedList → Operation → ReplyLine → NumberedList → Type 0
-HearsAlone trees number hives moment old (Write op) reported new = Hears trees number hives old (event.Write old.number moment op) reported new
-HearsAlone trees number hives moment old (Read hive path question) reported new =
-    GoesOn old new × ReadsSeen (read_within hives (after_elements trees new.list) hive path question) reported
+abbrev pub HearsAlone : Point → List TreeMap → ℕ → ℕ → ℕ → NumberedSight → Operation → ReplyLine → NumberedSight → Type 0
+HearsAlone origin trees number hives moment old (Write op) reported new = Hears origin trees number hives old (event.Write old.number moment op) reported new
+HearsAlone origin trees number hives moment old (Read hive path question) reported new =
+    GoesOn old new × ReadsSeen (read_within hives (after_elements trees new.seen.list) hive path question) reported
 
 -- the same in a transaction
-abbrev pub HearsInside : List TreeMap → ℕ → ℕ → ℕ → Tx → NumberedList → Operation → ReplyLine → NumberedList → Type 0
-HearsInside trees number hives moment tx old (Write op) reported new = Hears trees number hives old (event.TxWrite old.number tx moment op) reported new
-HearsInside trees number hives moment tx old (Read hive path question) reported new = Hears trees number hives old (event.TxRead old.number tx hive path question) reported new
+abbrev pub HearsInside : Point → List TreeMap → ℕ → ℕ → ℕ → Tx → NumberedSight → Operation → ReplyLine → NumberedSight → Type 0
+HearsInside origin trees number hives moment tx old (Write op) reported new = Hears origin trees number hives old (event.TxWrite old.number tx moment op) reported new
+HearsInside origin trees number hives moment tx old (Read hive path question) reported new = Hears origin trees number hives old (event.TxRead old.number tx hive path question) reported new

@@ -1,6 +1,7 @@
 -- What a script of the program shows.
 use Rattle.std.specs.Prelude.{ℕ, List, Option, Some, None}
 use Rattle.reg_tree.specs.Maps.{TreeMap}
+use Rattle.histories.specs.Points.{Point}
 use Rattle.store_model.specs.declared.handle.Tx.{Tx}
 use Rattle.script_runner.specs.Labels.{HasRoom, named_by}
 use Rattle.script_runner.specs.declared.labels.Labels.{Labels}
@@ -21,6 +22,6 @@ HasRoomFor (Some labels) label = HasRoom labels label
 abbrev pub script_of : {O : Type 0} → Shown O → Script
 script_of shown = record { moment = shown.moment; session = shown.session; labels = named_in shown.labels }
 
--- the part of a run whose registry's list of changes begins on these trees after this number
-abbrev pub part_of : {O : Type 0} → List TreeMap → ℕ → ℕ → Shown O → Part
-part_of trees number hives shown = record { trees = trees; number = number; hives = hives; script = script_of shown }
+-- the part of a run whose registry's history begins here, and its list of changes on these trees after this number
+abbrev pub part_of : {O : Type 0} → Point → List TreeMap → ℕ → ℕ → Shown O → Part
+part_of origin trees number hives shown = record { start = origin; trees = trees; number = number; hives = hives; script = script_of shown }

@@ -9,16 +9,19 @@ use Rattle.reply_lines.specs.Replies.{reply_line}
 use Rattle.reply_lines.specs.declared.reply.ReplyLine.{ReplyLine}
 use Rattle.reply_lines.specs.declared.reply.ReplyLine.TheVariants as reply
 use Rattle.script_runner.specs.Plays.{opened_text}
+use Rattle.histories.specs.Points.{Point}
 use Rattle.store_model.specs.Machine.{is_of_device}
 use Rattle.ktm_calls.specs.Denials.{IsOpened}
 use Rattle.ktm_calls.specs.Kinds.{Told}
+use Rattle.ktm_calls.specs.Moments.{Sight}
 use Rattle.registry_runner.specs.Scripts.{Script, Flushes, IsFlushed, MayNotEnter}
 use Rattle.registry_runner.specs.declared.parts.PartKind.{PartKind}
 use Rattle.registry_runner.specs.declared.parts.PartKind.TheVariants.{Opened, Folded, Continued}
 
--- a part of a run between two lines: the trees on which its registry's list of changes begins, the number of the last
--- change before that list, how many hives calls may name, and the script
+-- a part of a run between two lines: where its registry's history begins, the trees on which its list of changes begins,
+-- the number of the last change before that list, how many hives calls may name, and the script
 pub record Part : Type 0 where
+  pub start : Point
   pub trees : List TreeMap
   pub number : ℕ
   pub hives : ℕ
@@ -27,32 +30,33 @@ pub record Part : Type 0 where
 abbrev pub with_script : Part → Script → Part
 with_script part script = record part { script = script }
 
--- a script before a part's first line: a session was just opened, and no label names anything
-pub record IsBegun (trees : List TreeMap) (number hives current : ℕ) (script : Script) : Type 0 where
+-- a script before a part's first line: a session was just opened, behind what had been seen, and no label names anything
+pub record IsBegun (origin : Point) (trees : List TreeMap) (number hives current : ℕ) (script : Script) : Type 0 where
   pub told : Told
-  pub opened : IsOpened trees number hives script.session told
+  pub was : Sight
+  pub opened : IsOpened origin trees number hives was script.session told
   pub moment : script.moment ≡ current
   pub labels : (label : List ℕ) → script.labels label ≡ None
 
 -- Why no part begins over an engine: there is no memory, no reader, or a machine refused session 0.
-abbrev pub MayNotBegin : List TreeMap → ℕ → ℕ → Refusal → Type 0
-MayNotBegin trees number hives why = (why ≡ NoMemory) ⊎ (why ≡ NoSeat) ⊎ MayNotEnter trees number hives why
+abbrev pub MayNotBegin : Point → List TreeMap → ℕ → ℕ → Refusal → Type 0
+MayNotBegin origin trees number hives why = (why ≡ NoMemory) ⊎ (why ≡ NoSeat) ⊎ MayNotEnter origin trees number hives why
 
 -- a part begins on these trees after the change of this number, at this moment; or none does, and why
-abbrev pub BeginsOrNot : List TreeMap → ℕ → ℕ → ℕ → Result Part Refusal → Type 0
-BeginsOrNot trees number hives moment (Ok part) = (part.trees ≡ trees) × (part.number ≡ number) × (part.hives ≡ hives) × IsBegun trees number hives moment part.script
-BeginsOrNot trees number hives moment (Err why) = MayNotBegin trees number hives why
+abbrev pub BeginsOrNot : Point → List TreeMap → ℕ → ℕ → ℕ → Result Part Refusal → Type 0
+BeginsOrNot origin trees number hives moment (Ok part) = (part.start ≡ origin) × (part.trees ≡ trees) × (part.number ≡ number) × (part.hives ≡ hives) × IsBegun origin trees number hives moment part.script
+BeginsOrNot origin trees number hives moment (Err why) = MayNotBegin origin trees number hives why
 
 -- why a history isn't folded of which all is durable: there is no memory, or the device has failed
 abbrev pub MayNotFold : Refusal → Type 0
 MayNotFold why = (why ≡ NoMemory) ⊎ (is_of_device why ≡ true)
 
 -- The history of a registry is folded whose list of changes begins on these trees after this number. The next part
--- begins on the trees after the changes of that list, and its number is the last one plus their count. Or no part
--- follows, and why.
+-- begins a history of its own, on the trees after the changes of that list, and its number is the last one plus their
+-- count. Or no part follows, and why.
 abbrev pub FoldsAt : List TreeMap → ℕ → ℕ → ℕ → Result Part Refusal → Type 0
 FoldsAt trees number hives moment next =
-    ((accepted : List Element) × BeginsOrNot (after_elements trees accepted) (number + length accepted) hives moment next)
+    ((origin : Point) × (accepted : List Element) × BeginsOrNot origin (after_elements trees accepted) (number + length accepted) hives moment next)
     ⊎ ((why : Refusal) × MayNotFold why × (next ≡ Err why))
 
 -- the history of a part is folded, and the moment stays
@@ -93,5 +97,5 @@ abbrev pub KeepsOrFolds : ℕ → Part → ReplyLine → Result Part Refusal →
 KeepsOrFolds limit old reported kept =
     (kept ≡ Ok old)
     ⊎ (IsDue limit old (number_told reported) × IsUnlabelled old.script
-    × (((flushed : ReplyLine) × (mid : Script) × Flushes old.trees old.number old.hives old.script flushed mid × (kept ≡ Ok (with_script old mid)))
-    ⊎ ((mid : Script) × IsFlushed old.trees old.number old.hives old.script mid × Folds (with_script old mid) kept)))
+    × (((flushed : ReplyLine) × (mid : Script) × Flushes old.start old.trees old.number old.hives old.script flushed mid × (kept ≡ Ok (with_script old mid)))
+    ⊎ ((mid : Script) × IsFlushed old.start old.trees old.number old.hives old.script mid × Folds (with_script old mid) kept)))

@@ -41,9 +41,9 @@ PlaysOn limit (Err why) number lines end_of_script text status end = IsStopped w
 PlaysOn limit (Ok old) number [] end_of_script text status end = EndsAs end_of_script text status × (end ≡ Ok old)
 PlaysOn limit (Ok old) number (line ∷ lines) end_of_script text status end =
     ((line_asked line ≡ None) × IsWrongLine number lines end_of_script text status × (end ≡ Ok old))
-    ⊎ ((asked : Line) × (reported : ReplyLine) × (new : Script) × (kept : Result Part Refusal) × (rest : List ℕ) × (later : Status) × (line_asked line ≡ Some asked) × Answers old.trees old.number old.hives old.script asked reported new
+    ⊎ ((asked : Line) × (reported : ReplyLine) × (new : Script) × (kept : Result Part Refusal) × (rest : List ℕ) × (later : Status) × (line_asked line ≡ Some asked) × Answers old.start old.trees old.number old.hives old.script asked reported new
     × KeepsOrFolds limit (with_script old new) reported kept × PlaysOn limit kept (number + 1) lines end_of_script rest later end × (text ≡ reply_line reported ++ rest) × (status ≡ with_refusal (is_refusal reported) later))
-    ⊎ ((mid : Script) × (next : Result Part Refusal) × (rest : List ℕ) × (line_asked line ≡ Some Fold) × IsFlushed old.trees old.number old.hives old.script mid × Folds (with_script old mid) next
+    ⊎ ((mid : Script) × (next : Result Part Refusal) × (rest : List ℕ) × (line_asked line ≡ Some Fold) × IsFlushed old.start old.trees old.number old.hives old.script mid × Folds (with_script old mid) next
     × PlaysOn limit next (number + 1) lines end_of_script rest status end × (text ≡ start_text Folded next ++ rest))
 
 -- a script that can be read was read so; of another one no line is read
@@ -72,7 +72,7 @@ LinesCome limit can_read old number known was (come.ToFold next) new rest is = G
 -- the lines were read, and the flush at their end was answered this reply
 abbrev pub HaveEnded : ℕ → Bool → Part → ℕ → Option (List ℕ) → Option (List ℕ) → Option (List ℕ) → Status → ReplyLine → Script → Type 0
 HaveEnded limit can_read old number known was is status flushed last =
-    (end : Script) × IsPlayedOn limit can_read (Ok old) number known was is status (Ok (with_script old end)) × Answers old.trees old.number old.hives end Flush flushed last
+    (end : Script) × IsPlayedOn limit can_read (Ok old) number known was is status (Ok (with_script old end)) × Answers old.start old.trees old.number old.hives end Flush flushed last
 
 -- what came of a part's lines, and of the flush at their end
 abbrev pub PartComes : ℕ → Bool → Part → ℕ → Option (List ℕ) → Option (List ℕ) → LinesEnded → Script → Option (List ℕ) → Option (List ℕ) → Type 0

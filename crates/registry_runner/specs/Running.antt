@@ -1,5 +1,5 @@
 -- The run of a script over the store that is on a disk: what is written, with which status, and what is left.
-use Rattle.std.specs.Prelude.{◌≡◌, ◌⊎◌, ℕ, Bool, true, false, List, [], ◌++◌, ◌∷◌, ◌+◌, if◌then◌else◌, Option, Some, None, Result, Ok, Err, IfOk, is_some, length}
+use Rattle.std.specs.Prelude.{◌≡◌, ◌⊎◌, ℕ, Bool, true, false, List, [], ◌++◌, ◌∷◌, ◌+◌, ◌<◌, if◌then◌else◌, Option, Some, None, Result, Ok, Err, IfOk, is_some, length}
 use Rattle.std.specs.Io.KnownBytes.{Appends, Keeps}
 use Rattle.refusals.specs.Refusals.{refusal_text}
 use Rattle.refusals.specs.declared.refusal.Refusal.{Refusal}
@@ -14,9 +14,12 @@ use Rattle.reply_lines.specs.declared.reply.ReplyLine.{ReplyLine}
 use Rattle.reply_lines.specs.declared.status.Status.{Status}
 use Rattle.reply_lines.specs.declared.status.Status.TheVariants.{Refused}
 use Rattle.script_runner.specs.Plays.{is_refusal}
-use Rattle.store_driver.specs.Openings.{IsOpenedOn, LeavesPrefix, MayNotOpen}
+use Rattle.store_driver.specs.Openings.{IsOpenedOn, MayNotOpen}
 use Rattle.script_runner.specs.Plays.{opened_text}
 use Rattle.script_loop.specs.declared.end_of_script.EndOfScript.{EndOfScript}
+use Rattle.recovery.specs.Recovered.{seen_in}
+use Rattle.histories.specs.Leaving.{LeavesHistory}
+use Rattle.histories.specs.Points.{HistoryEntry, Point, point_of}
 use Rattle.ktm_calls.specs.Denials.{denial_of}
 use Rattle.ktm_calls.specs.Moments.{IsOf}
 use Rattle.ktm_calls.specs.declared.registry.Denied.{Denied}
@@ -56,10 +59,10 @@ MayBeUndone undone = (undone ≡ None) ⊎ (undone ≡ Some DiskFault) ⊎ (undo
 
 -- A script that reached this status ends: all is flushed, which is reported if it is refused, and then what is left
 -- undone.
-pub record HasEnded (trees : List TreeMap) (number hives : ℕ) (script : Script) (came_to : Status) (before after : Option (List ℕ)) (status : Status) : Type 0 where
+pub record HasEnded (origin : Point) (trees : List TreeMap) (number hives : ℕ) (script : Script) (came_to : Status) (before after : Option (List ℕ)) (status : Status) : Type 0 where
   pub reported : ReplyLine
   pub last : Script
-  pub flushed : Answers trees number hives script Flush reported last
+  pub flushed : Answers origin trees number hives script Flush reported last
   pub undone : Option Refusal
   pub may : MayBeUndone undone
   pub wrote : Appends before after (flushed_text reported ++ undone_text undone)
@@ -67,20 +70,20 @@ pub record HasEnded (trees : List TreeMap) (number hives : ℕ) (script : Script
 
 -- how a run ends whose lines left it so, with this status: as a script does; or with nothing more, as no part followed
 abbrev pub EndsRun : Result Part Refusal → Status → Option (List ℕ) → Option (List ℕ) → Status → Type 0
-EndsRun (Ok part) came_to before after status = HasEnded part.trees part.number part.hives part.script came_to before after status
+EndsRun (Ok part) came_to before after status = HasEnded part.start part.trees part.number part.hives part.script came_to before after status
 EndsRun (Err why) came_to before after status = Keeps before after × (status ≡ came_to)
 
 -- The store's number was reported; these lines were played over registries of the store, up to this end of the script;
 -- and at the end all was flushed.
-pub record RunsOver (limit : ℕ) (trees : List TreeMap) (number hives : ℕ) (lines : List (List ℕ)) (end_of_script : Option EndOfScript) (before after : Option (List ℕ)) (status : Status) : Type 0 where
+pub record RunsOver (limit : ℕ) (origin : Point) (trees : List TreeMap) (number hives : ℕ) (lines : List (List ℕ)) (end_of_script : Option EndOfScript) (before after : Option (List ℕ)) (status : Status) : Type 0 where
   pub opened : Option (List ℕ)
   pub told : Appends before opened (opened_text number)
   pub script : Script
-  pub begun : IsBegun trees number hives 0 script
+  pub begun : IsBegun origin trees number hives 0 script
   pub text : List ℕ
   pub came_to : Status
   pub end : Result Part Refusal
-  pub plays : PlaysOn limit (Ok (record { trees = trees; number = number; hives = hives; script = script })) 1 lines end_of_script text came_to end
+  pub plays : PlaysOn limit (Ok (record { start = origin; trees = trees; number = number; hives = hives; script = script })) 1 lines end_of_script text came_to end
   pub played : Option (List ℕ)
   pub wrote : Appends opened played text
   pub ends : EndsRun end came_to played after status
@@ -93,44 +96,37 @@ pub record IsReported (may : Refusal → Type 0) (before after : Option (List �
   pub status_is : status ≡ Refused
 
 -- A script over an opened store: it doesn't begin, and the reason is written; or it runs.
-abbrev pub RunsOrNot : ℕ → Bool → Option (List ℕ) → List TreeMap → ℕ → ℕ → Option (List ℕ) → Option (List ℕ) → Status → Type 0
-RunsOrNot limit can_read known trees number hives before after status =
-    IsReported (MayNotBegin trees number hives) before after status
-    ⊎ ((lines : List (List ℕ)) × (end_of_script : Option EndOfScript) × WereReadIf can_read known lines end_of_script × RunsOver limit trees number hives lines end_of_script before after status)
-
--- A store was opened on these files, and a script ran over registries of it. The disk as it was after the opening is
--- `first`: if it is faithful, the first registry's list begins with the number and the trees that the files recover.
-pub record OpensAndRuns {D : Type 0} (is_faithful : D → Type 0) (files : ℕ → List ℕ) (can_read : Bool) (known before after : Option (List ℕ)) (status : Status) : Type 0 where
-  pub first : D
-  pub store : Store
-  pub number : ℕ
-  pub machine : Machine
-  pub opened : IsOpenedOn (is_faithful first) files store number [] machine
-  pub runs : RunsOrNot machine.bounds.changes can_read known machine.opened number machine.bounds.hives before after status
-
--- A run: no store was opened, and the reason is written; or one was.
-abbrev pub IsRun : {D : Type 0} → (D → Type 0) → Type 0 → Type 0 → (ℕ → List ℕ) → Bool → Option (List ℕ) → Option (List ℕ) → Option (List ℕ) → Status → Type 0
-IsRun is_faithful failed faithful files can_read known before after status =
-    IsReported (MayNotOpen failed faithful files) before after status ⊎ OpensAndRuns is_faithful files can_read known before after status
+abbrev pub RunsOrNot : ℕ → Bool → Option (List ℕ) → Point → List TreeMap → ℕ → ℕ → Option (List ℕ) → Option (List ℕ) → Status → Type 0
+RunsOrNot limit can_read known origin trees number hives before after status =
+    IsReported (MayNotBegin origin trees number hives) before after status
+    ⊎ ((lines : List (List ℕ)) × (end_of_script : Option EndOfScript) × WereReadIf can_read known lines end_of_script × RunsOver limit origin trees number hives lines end_of_script before after status)
 
 -- a machine is of a registry of the store that was opened on these trees after the change of this number: some changes
 -- were folded, and its history begins after them
 abbrev pub IsOfStore : List TreeMap → ℕ → ℕ → Machine → Type 0
 IsOfStore trees number hives machine = (folded : List Element) × IsOf (after_elements trees folded) (number + length folded) hives machine
 
--- A store was opened on these files, and a machine of a registry of it has reached a state. If the disk that is left is
--- faithful, whatever a crash leaves of it recovers a prefix of that machine's changes, and so does what a read gives
--- unless it is faulted.
-pub record LeavesStore {D : Type 0} (is_faithful : D → Type 0) (files : ℕ → List ℕ) (faithful : Type 0) (states : ℕ → ℕ → FileState) (clock : ℕ) : Type 0 where
+-- A store was opened on these files, and a script ran over registries of it. The disk as it was after the opening is
+-- `first`: if it is faithful, the first registry's list begins with the number and the trees that the files recover. One
+-- history leads from there to the last registry's machine, and to the disk that is handed back. If all could be written,
+-- what was written and the status are those of a run over this machine.
+pub record OpensAndRuns {D E : Type 0} (is_faithful : D → Type 0) (states_of : D → ℕ → ℕ → FileState) (clock_of failures_of : D → ℕ) (files : ℕ → List ℕ) (disk : D) (can_read : Bool) (known before after : Option (List ℕ)) (told : Result Status E) : Type 0 where
   pub first : D
-  pub found : Store
-  pub number : ℕ
-  pub begun : Machine
-  pub opened : IsOpenedOn (is_faithful first) files found number [] begun
   pub store : Store
+  pub number : ℕ
   pub machine : Machine
-  pub owner : IsOfStore begun.opened number begun.bounds.hives machine
-  pub left : LeavesPrefix faithful states clock store machine
+  pub opened : IsOpenedOn (is_faithful first) files store number [] machine
+  pub runs : IfOk told (λ status. RunsOrNot machine.bounds.changes can_read known (point_of machine (clock_of first) (failures_of first)) machine.opened number machine.bounds.hives before after status)
+  pub history : List HistoryEntry
+  pub last : Machine
+  pub owner : IsOfStore machine.opened number machine.bounds.hives last
+  pub left : LeavesHistory is_faithful states_of clock_of failures_of store first machine disk history last
+
+-- A run that begins with one disk and hands back another: no store was opened, and the reason is written; or one was.
+abbrev pub IsRun : {D E : Type 0} → (D → Type 0) → (D → ℕ → ℕ → FileState) → (D → ℕ) → (D → ℕ) → D → D → Bool → Option (List ℕ) → Option (List ℕ) → Option (List ℕ) → Result Status E → Type 0
+IsRun is_faithful states_of clock_of failures_of old new can_read known before after told =
+    IfOk told (IsReported (MayNotOpen (failures_of old < failures_of new) (is_faithful new) (seen_in (states_of old (clock_of old)))) before after)
+    ⊎ OpensAndRuns is_faithful states_of clock_of failures_of (seen_in (states_of old (clock_of old))) new can_read known before after told
 
 -- From here the lines were read to their end, and the run has ended; or no part follows, which is the last line.
 abbrev pub GoesToEnd : ℕ → Bool → Result Part Refusal → ℕ → Option (List ℕ) → Option (List ℕ) → Option (List ℕ) → Status → Type 0
@@ -139,14 +135,14 @@ GoesToEnd limit can_read (Ok here) line known was is status =
     (end : Result Part Refusal) × (came_to : Status) × (played : Option (List ℕ)) × IsPlayedOn limit can_read (Ok here) line known was played came_to end × EndsRun end came_to played is status
 
 -- a part was to begin on these trees after the change of this number: from there the run went to its end
-abbrev pub RunsFrom : PartStart → List TreeMap → ℕ → ℕ → Option (List ℕ) → Option (List ℕ) → Option (List ℕ) → Status → Type 0
-RunsFrom start trees number hives known was is status =
-    (first : Result Part Refusal) × (told : Option (List ℕ)) × BeginsOrNot trees number hives start.moment first × Appends was told (start_text start.kind first) × GoesToEnd start.limit start.can_read first start.line known told is status
+abbrev pub RunsFrom : PartStart → Point → List TreeMap → ℕ → ℕ → Option (List ℕ) → Option (List ℕ) → Option (List ℕ) → Status → Type 0
+RunsFrom start origin trees number hives known was is status =
+    (first : Result Part Refusal) × (told : Option (List ℕ)) × BeginsOrNot origin trees number hives start.moment first × Appends was told (start_text start.kind first) × GoesToEnd start.limit start.can_read first start.line known told is status
 
 -- The run ended in a part that was to begin so. Or the part's history is to be folded: however the run goes to its end
 -- then, that is how it does from the part's beginning.
-abbrev pub EndsPart : PartStart → List TreeMap → ℕ → ℕ → Option (List ℕ) → Option (List ℕ) → PartEnd → Option (List ℕ) → Option (List ℕ) → Type 0
-EndsPart start trees number hives known was (RunEnded ran) rest is = IfOk ran (λ status. RunsFrom start trees number hives known was is status)
-EndsPart start trees number hives known was (ToFold next) rest is =
+abbrev pub EndsPart : PartStart → Point → List TreeMap → ℕ → ℕ → Option (List ℕ) → Option (List ℕ) → PartEnd → Option (List ℕ) → Option (List ℕ) → Type 0
+EndsPart start origin trees number hives known was (RunEnded ran) rest is = IfOk ran (λ status. RunsFrom start origin trees number hives known was is status)
+EndsPart start origin trees number hives known was (ToFold next) rest is =
     (follows : Result Part Refusal) (told after : Option (List ℕ)) (status : Status) → FoldsAt trees number hives next.moment follows → Appends is told (start_text next.kind follows) → GoesToEnd start.limit start.can_read follows next.line rest told after status
-    → RunsFrom start trees number hives known was after (with_refusal next.has_refusal status)
+    → RunsFrom start origin trees number hives known was after (with_refusal next.has_refusal status)

@@ -1,9 +1,8 @@
 -- What the lines of a script ask of a registry, and the replies to them.
-use Rattle.std.specs.Prelude.{◌≡◌, ℕ, ◌⊎◌, true, false, List, [], Option, Some, None, Result, Ok, Err}
+use Rattle.std.specs.Prelude.{◌≡◌, ℕ, ◌⊎◌, true, false, List, Option, Some, None, Result, Ok, Err}
 use Rattle.refusals.specs.declared.refusal.Refusal.{Refusal}
 use Rattle.refusals.specs.declared.refusal.Refusal.TheVariants.{NoMemory, NoSuchHandle}
 use Rattle.reg_tree.specs.Maps.{TreeMap}
-use Rattle.reg_tree.specs.declared.element.Element.{Element}
 use Rattle.script_runner.specs.Plays.{is_refusal}
 use Rattle.script_runner.specs.Requests.{operation_of}
 use Rattle.script_runner.specs.Scripts.{Names, SameNames}
@@ -12,13 +11,14 @@ use Rattle.script_syntax.specs.declared.line.Line.{Line}
 use Rattle.script_syntax.specs.declared.line.Line.TheVariants.{Hives, History, At, Session, End, Plain, Begin, Inside, Commit, Rollback, Close, Outcome, Kept, Flush, Fold, Lab}
 use Rattle.reply_lines.specs.declared.reply.ReplyLine.{ReplyLine}
 use Rattle.reply_lines.specs.declared.reply.ReplyLine.TheVariants as reply
+use Rattle.histories.specs.Points.{Point}
 use Rattle.store_model.specs.declared.event.Event.{Event}
 use Rattle.store_model.specs.declared.event.Event.TheVariants as event
 use Rattle.store_model.specs.declared.event.Reply.TheVariants as answer
 use Rattle.store_model.specs.declared.handle.Tx.{Tx}
 use Rattle.ktm_calls.specs.Denials.{IsTurnDenied}
 use Rattle.ktm_calls.specs.Kinds.{Told}
-use Rattle.ktm_calls.specs.Moments.{NumberedList, Tells}
+use Rattle.ktm_calls.specs.Moments.{NumberedSight, SeesMore, Sight, Tells}
 use Rattle.ktm_calls.specs.declared.registry.Denied.{Denied}
 use Rattle.registry_runner.specs.declared.script.LineAnswer.{LineAnswer}
 use Rattle.registry_runner.specs.declared.script.LineAnswer.TheVariants as answered
@@ -28,7 +28,7 @@ use Rattle.registry_runner.specs.Heard.{GoesOn, Hears, HearsAlone, HearsDurably,
 -- each label names
 pub record Script : Type 0 where
   pub moment : ℕ
-  pub session : NumberedList
+  pub session : NumberedSight
   pub labels : List ℕ → Option Tx
 
 -- a refusal that changes nothing
@@ -53,40 +53,41 @@ IsLabelled None asks old reported new = IsRefused old NoSuchHandle reported new
 abbrev pub InSession : Script → Script → Type 0
 InSession old new = new ≡ record old { session = new.session }
 
-abbrev pub Asks : List TreeMap → ℕ → ℕ → Script → Event → ReplyLine → Script → Type 0
-Asks trees number hives old event reported new = Hears trees number hives old.session event reported new.session × InSession old new
+abbrev pub Asks : Point → List TreeMap → ℕ → ℕ → Script → Event → ReplyLine → Script → Type 0
+Asks origin trees number hives old event reported new = Hears origin trees number hives old.session event reported new.session × InSession old new
 
-abbrev pub AsksDurably : List TreeMap → ℕ → ℕ → Script → Event → (ℕ → ReplyLine) → ReplyLine → Script → Type 0
-AsksDurably trees number hives old event tell reported new = HearsDurably trees number hives old.session event tell reported new.session × InSession old new
+abbrev pub AsksDurably : Point → List TreeMap → ℕ → ℕ → Script → Event → (ℕ → ReplyLine) → ReplyLine → Script → Type 0
+AsksDurably origin trees number hives old event tell reported new = HearsDurably origin trees number hives old.session event tell reported new.session × InSession old new
 
-abbrev pub AsksAlone : List TreeMap → ℕ → ℕ → Script → Operation → ReplyLine → Script → Type 0
-AsksAlone trees number hives old asked reported new = HearsAlone trees number hives old.moment old.session asked reported new.session × InSession old new
+abbrev pub AsksAlone : Point → List TreeMap → ℕ → ℕ → Script → Operation → ReplyLine → Script → Type 0
+AsksAlone origin trees number hives old asked reported new = HearsAlone origin trees number hives old.moment old.session asked reported new.session × InSession old new
 
-abbrev pub AsksInside : List TreeMap → ℕ → ℕ → Script → Tx → Operation → ReplyLine → Script → Type 0
-AsksInside trees number hives old tx asked reported new = HearsInside trees number hives old.moment tx old.session asked reported new.session × InSession old new
+abbrev pub AsksInside : Point → List TreeMap → ℕ → ℕ → Script → Tx → Operation → ReplyLine → Script → Type 0
+AsksInside origin trees number hives old tx asked reported new = HearsInside origin trees number hives old.moment tx old.session asked reported new.session × InSession old new
 
 -- Why no session is opened: there is no memory, or a machine of the registry refused the event so; or the one that is
 -- asked for is open, and a machine refused another event so
-abbrev pub MayNotEnter : List TreeMap → ℕ → ℕ → Refusal → Type 0
-MayNotEnter trees number hives why =
-    (why ≡ NoMemory) ⊎ ((event : Event) × (was is : List Element) × (told : Told) × Tells trees number hives was is event told × (told.reply ≡ answer.Refused why))
+abbrev pub MayNotEnter : Point → List TreeMap → ℕ → ℕ → Refusal → Type 0
+MayNotEnter origin trees number hives why =
+    (why ≡ NoMemory) ⊎ ((event : Event) × (was is : Sight) × (told : Told) × Tells origin trees number hives was is event told × (told.reply ≡ answer.Refused why))
 
--- another session is the current one, or none is opened
-abbrev pub Enters : List TreeMap → ℕ → ℕ → Script → ReplyLine → Script → Type 0
-Enters trees number hives old reported new =
-    ((reported ≡ reply.Done) × InSession old new) ⊎ ((why : Refusal) × MayNotEnter trees number hives why × IsRefused old why reported new)
+-- another session is the current one, which has seen what the one before it had; or none is opened
+abbrev pub Enters : Point → List TreeMap → ℕ → ℕ → Script → ReplyLine → Script → Type 0
+Enters origin trees number hives old reported new =
+    ((reported ≡ reply.Done) × InSession old new × SeesMore old.session.seen new.session.seen) ⊎ ((why : Refusal) × MayNotEnter origin trees number hives why × IsRefused old why reported new)
 
--- a session that is open ends, or none of this number is open; if it was the current one, another is, which isn't open
-abbrev pub Ends : List TreeMap → ℕ → ℕ → Script → ReplyLine → Script → Type 0
-Ends trees number hives old reported new =
+-- A session that is open ends, or none of this number is open. If it was the current one, another is, which isn't open.
+-- What the current session had seen is a beginning of what was seen before the end, and that of what is seen then.
+abbrev pub Ends : Point → List TreeMap → ℕ → ℕ → Script → ReplyLine → Script → Type 0
+Ends origin trees number hives old reported new =
     IsRefused old NoSuchHandle reported new
-    ⊎ ((session : ℕ) × (is : List Element) × IsHeard trees number hives (record { number = session; list = [] }) (event.EndSession session) reported (record { number = session; list = is }) × InSession old new)
+    ⊎ ((session : ℕ) × (was is : Sight) × IsHeard origin trees number hives (record { number = session; seen = was }) (event.EndSession session) reported (record { number = session; seen = is }) × InSession old new × SeesMore old.session.seen was × SeesMore is new.session.seen)
 
 -- a transaction is begun, and the label names it from now on
-pub record Begins (trees : List TreeMap) (number hives : ℕ) (old : Script) (label id : List ℕ) (reported : ReplyLine) (new : Script) : Type 0 where
+pub record Begins (origin : Point) (trees : List TreeMap) (number hives : ℕ) (old : Script) (label id : List ℕ) (reported : ReplyLine) (new : Script) : Type 0 where
   pub tx : Tx
   pub told : Told
-  pub tells : Tells trees number hives old.session.list new.session.list (event.Begin old.session.number id) told
+  pub tells : Tells origin trees number hives old.session.seen new.session.seen (event.Begin old.session.number id) told
   pub begun : told.reply ≡ answer.Begun tx
   pub goes_on : GoesOn old.session new.session
   pub done : reported ≡ reply.Done
@@ -94,59 +95,59 @@ pub record Begins (trees : List TreeMap) (number hives : ℕ) (old : Script) (la
   pub names : Names old.labels new.labels label tx
 
 -- no transaction is begun, and each label names what it named
-pub record BeginsNothing (trees : List TreeMap) (number hives : ℕ) (old : Script) (id : List ℕ) (reported : ReplyLine) (new : Script) : Type 0 where
-  pub hears : Hears trees number hives old.session (event.Begin old.session.number id) reported new.session
+pub record BeginsNothing (origin : Point) (trees : List TreeMap) (number hives : ℕ) (old : Script) (id : List ℕ) (reported : ReplyLine) (new : Script) : Type 0 where
+  pub hears : Hears origin trees number hives old.session (event.Begin old.session.number id) reported new.session
   pub rest : new ≡ record old { session = new.session; labels = new.labels }
   pub names : SameNames old.labels new.labels
 
 -- a unit's commit is told by what the current session has seen, or by the machine
-abbrev pub TellsKept : List TreeMap → ℕ → ℕ → Script → List ℕ → ReplyLine → Script → Type 0
-TellsKept trees number hives old id reported new =
-    (HearsOutcome trees number hives old.session id reported new.session × InSession old new) ⊎ Asks trees number hives old (event.OutcomeOf id) reported new
+abbrev pub TellsKept : Point → List TreeMap → ℕ → ℕ → Script → List ℕ → ReplyLine → Script → Type 0
+TellsKept origin trees number hives old id reported new =
+    (HearsOutcome origin trees number hives old.session id reported new.session × InSession old new) ⊎ Asks origin trees number hives old (event.OutcomeOf id) reported new
 
 -- all that was accepted is made durable
-abbrev pub Flushes : List TreeMap → ℕ → ℕ → Script → ReplyLine → Script → Type 0
-Flushes trees number hives old reported new = AsksDurably trees number hives old event.FlushAsk reply.Flushed reported new
+abbrev pub Flushes : Point → List TreeMap → ℕ → ℕ → Script → ReplyLine → Script → Type 0
+Flushes origin trees number hives old reported new = AsksDurably origin trees number hives old event.FlushAsk reply.Flushed reported new
 
 -- all that was accepted is made durable, and that isn't refused
-abbrev pub IsFlushed : List TreeMap → ℕ → ℕ → Script → Script → Type 0
-IsFlushed trees number hives old new = (flushed : ReplyLine) × Flushes trees number hives old flushed new × (is_refusal flushed ≡ false)
+abbrev pub IsFlushed : Point → List TreeMap → ℕ → ℕ → Script → Script → Type 0
+IsFlushed origin trees number hives old new = (flushed : ReplyLine) × Flushes origin trees number hives old flushed new × (is_refusal flushed ≡ false)
 
 -- The history isn't folded: the flush before it is refused; or a step is that moves into the hives what they lack.
-abbrev pub RefusesFold : List TreeMap → ℕ → ℕ → Script → ReplyLine → Script → Type 0
-RefusesFold trees number hives old reported new =
-    (Flushes trees number hives old reported new × (is_refusal reported ≡ true))
-    ⊎ (IsFlushed trees number hives old new × (why : Denied) × IsTurnDenied why × (reported ≡ denied_reply why))
+abbrev pub RefusesFold : Point → List TreeMap → ℕ → ℕ → Script → ReplyLine → Script → Type 0
+RefusesFold origin trees number hives old reported new =
+    (Flushes origin trees number hives old reported new × (is_refusal reported ≡ true))
+    ⊎ (IsFlushed origin trees number hives old new × (why : Denied) × IsTurnDenied why × (reported ≡ denied_reply why))
 
 -- From old, the line may be answered this reply over a registry whose list begins with these trees after this number,
 -- and leave new. Its names are tested first: the path, then a value's name; then its label. A line `fold` is answered
 -- here only if it is refused.
-abbrev pub Answers : List TreeMap → ℕ → ℕ → Script → Line → ReplyLine → Script → Type 0
-Answers trees number hives old (Hives count) reported new = ⊥
-Answers trees number hives old (History limit) reported new = ⊥
-Answers trees number hives old (At moment) reported new = (reported ≡ reply.Done) × (new ≡ record old { moment = moment })
-Answers trees number hives old (Session wanted) reported new = Enters trees number hives old reported new
-Answers trees number hives old (End wanted) reported new = Ends trees number hives old reported new
-Answers trees number hives old (Plain request) reported new =
-    OrNoMemory old reported new (IsNamed (operation_of request) (λ asked. AsksAlone trees number hives old asked reported new) old reported new)
-Answers trees number hives old (Inside label request) reported new =
-    OrNoMemory old reported new (IsNamed (operation_of request) (λ asked. IsLabelled (old.labels label) (λ tx. AsksInside trees number hives old tx asked reported new) old reported new) old reported new)
-Answers trees number hives old (Begin label id) reported new =
-    OrNoMemory old reported new (Begins trees number hives old label id reported new ⊎ BeginsNothing trees number hives old id reported new)
-Answers trees number hives old (Commit label) reported new =
-    IsLabelled (old.labels label) (λ tx. AsksDurably trees number hives old (event.CommitAccept old.session.number tx old.moment) reply.Committed reported new) old reported new
-Answers trees number hives old (Rollback label) reported new =
-    IsLabelled (old.labels label) (λ tx. Asks trees number hives old (event.Rollback old.session.number tx) reported new) old reported new
-Answers trees number hives old (Close label) reported new =
-    IsLabelled (old.labels label) (λ tx. Asks trees number hives old (event.Close old.session.number tx) reported new) old reported new
-Answers trees number hives old (Outcome label) reported new =
-    IsLabelled (old.labels label) (λ tx. Asks trees number hives old (event.Outcome old.session.number tx) reported new) old reported new
-Answers trees number hives old (Kept id) reported new = TellsKept trees number hives old id reported new
-Answers trees number hives old Flush reported new = Flushes trees number hives old reported new
-Answers trees number hives old Fold reported new = RefusesFold trees number hives old reported new
-Answers trees number hives old (Lab line) reported new = ⊥
+abbrev pub Answers : Point → List TreeMap → ℕ → ℕ → Script → Line → ReplyLine → Script → Type 0
+Answers origin trees number hives old (Hives count) reported new = ⊥
+Answers origin trees number hives old (History limit) reported new = ⊥
+Answers origin trees number hives old (At moment) reported new = (reported ≡ reply.Done) × (new ≡ record old { moment = moment })
+Answers origin trees number hives old (Session wanted) reported new = Enters origin trees number hives old reported new
+Answers origin trees number hives old (End wanted) reported new = Ends origin trees number hives old reported new
+Answers origin trees number hives old (Plain request) reported new =
+    OrNoMemory old reported new (IsNamed (operation_of request) (λ asked. AsksAlone origin trees number hives old asked reported new) old reported new)
+Answers origin trees number hives old (Inside label request) reported new =
+    OrNoMemory old reported new (IsNamed (operation_of request) (λ asked. IsLabelled (old.labels label) (λ tx. AsksInside origin trees number hives old tx asked reported new) old reported new) old reported new)
+Answers origin trees number hives old (Begin label id) reported new =
+    OrNoMemory old reported new (Begins origin trees number hives old label id reported new ⊎ BeginsNothing origin trees number hives old id reported new)
+Answers origin trees number hives old (Commit label) reported new =
+    IsLabelled (old.labels label) (λ tx. AsksDurably origin trees number hives old (event.CommitAccept old.session.number tx old.moment) reply.Committed reported new) old reported new
+Answers origin trees number hives old (Rollback label) reported new =
+    IsLabelled (old.labels label) (λ tx. Asks origin trees number hives old (event.Rollback old.session.number tx) reported new) old reported new
+Answers origin trees number hives old (Close label) reported new =
+    IsLabelled (old.labels label) (λ tx. Asks origin trees number hives old (event.Close old.session.number tx) reported new) old reported new
+Answers origin trees number hives old (Outcome label) reported new =
+    IsLabelled (old.labels label) (λ tx. Asks origin trees number hives old (event.Outcome old.session.number tx) reported new) old reported new
+Answers origin trees number hives old (Kept id) reported new = TellsKept origin trees number hives old id reported new
+Answers origin trees number hives old Flush reported new = Flushes origin trees number hives old reported new
+Answers origin trees number hives old Fold reported new = RefusesFold origin trees number hives old reported new
+Answers origin trees number hives old (Lab line) reported new = ⊥
 
 -- a line is answered by a reply; or it is `fold`, for which all was made durable
-abbrev pub AnswersLine : List TreeMap → ℕ → ℕ → Script → Line → LineAnswer → Script → Type 0
-AnswersLine trees number hives old asked (answered.Reply reported) new = Answers trees number hives old asked reported new
-AnswersLine trees number hives old asked answered.ToFold new = (asked ≡ Fold) × IsFlushed trees number hives old new
+abbrev pub AnswersLine : Point → List TreeMap → ℕ → ℕ → Script → Line → LineAnswer → Script → Type 0
+AnswersLine origin trees number hives old asked (answered.Reply reported) new = Answers origin trees number hives old asked reported new
+AnswersLine origin trees number hives old asked answered.ToFold new = (asked ≡ Fold) × IsFlushed origin trees number hives old new

@@ -1,26 +1,28 @@
 //! The registry as a script calls it, and the replies to lines.
 ghost use Rattle.std.specs.Prelude.{◌≡◌, ℕ, List, IfErr, IfOk};
 ghost use Rattle.reg_tree.specs.Maps.{TreeMap};
-ghost use Rattle.reg_tree.specs.declared.element.Element.{Element};
+ghost use Rattle.histories.specs.Points.{Point};
 ghost use Rattle.store_model.specs.declared.event.Event.{Event};
 ghost use Rattle.ktm_calls.specs.Denials.{IsDenied, IsOpened};
 ghost use Rattle.ktm_calls.specs.Kinds.{Told as AnyTold};
+ghost use Rattle.ktm_calls.specs.Moments.{SeesMore, Sight as AnySight};
 ghost use Rattle.registry_runner.specs.Heard.{HearsAlone, HearsInside, denied_reply, told_reply};
 ghost use Rattle.registry_runner.specs.Scripts.{MayNotEnter};
 
-use ktm_calls::{Denied, Key, Registry, Session, StoreEngine, Told};
-use published_trees::Origin;
+use histories::Start;
+use ktm_calls::{Denied, Key, Registry, Session, Told};
 use refusals::Refusal;
 use reply_lines::ReplyLine;
 use script_runner::{Operation, reply_of};
 use std::alloc::Global;
 use std::sync::Wait;
+use store_engine::StoreEngine;
 use store_model::{Reply, Tx};
 use uuid::Uuid;
 
 /// A registry, and with what it is called.
 #[derive(Drop)]
-pub struct Caller<'a, E: StoreEngine, O: Origin, R> {
+pub struct Caller<'a, E: StoreEngine, O: Start, R> {
     /// By what it is waited.
     pub rt: &'a R,
     /// From where memory is taken.
@@ -29,10 +31,10 @@ pub struct Caller<'a, E: StoreEngine, O: Origin, R> {
     pub registry: &'a Registry<E, O>,
 }
 
-impl<'a, E: StoreEngine, O: Origin, R: Wait> Caller<'a, E, O, R> {
+impl<'a, E: StoreEngine, O: Start, R: Wait> Caller<'a, E, O, R> {
     /// The reply to a request alone, at a moment.
     pub fn reply_alone(&self, session: &mut Session<O>, moment: u64, asked: Operation) -> ReplyLine
-        ensures { HearsAlone O.trees O.number O.hives moment session.old asked result session.new }
+        ensures { HearsAlone O.start O.trees O.number O.hives moment session.old asked result session.new }
     {
         match asked {
             Operation::Write { op } => {
@@ -58,7 +60,7 @@ impl<'a, E: StoreEngine, O: Origin, R: Wait> Caller<'a, E, O, R> {
         tx: Tx,
         asked: Operation,
     ) -> ReplyLine
-        ensures { HearsInside O.trees O.number O.hives moment tx session.old asked result session.new }
+        ensures { HearsInside O.start O.trees O.number O.hives moment tx session.old asked result session.new }
     {
         match asked {
             Operation::Write { op } => {
@@ -85,10 +87,22 @@ impl<'a, E: StoreEngine, O: Origin, R: Wait> Caller<'a, E, O, R> {
 
     /// Opens a session. Refused as it is.
     pub fn open_session(&self) -> Result<Session<O>, Refusal>
-        ensures opened { IfOk result (λ session. (told : AnyTold) × IsOpened O.trees O.number O.hives session told) }
-        ensures refused { IfErr result (MayNotEnter O.trees O.number O.hives) }
+        ensures opened { IfOk result (λ session. (told : AnyTold) × (was : AnySight)
+            × IsOpened O.start O.trees O.number O.hives was session told) }
+        ensures refused { IfErr result (MayNotEnter O.start O.trees O.number O.hives) }
     {
         match self.registry.session(self.rt) {
+            Ok((session, _told)) => Ok(session),
+            Err(denied) => Err(refusal_of(denied)),
+        }
+    }
+
+    /// The same, of a session that has seen what another has.
+    pub fn open_session_after(&self, before: &Session<O>) -> Result<Session<O>, Refusal>
+        ensures opened { IfOk result (λ session. SeesMore before.now.seen session.seen) }
+        ensures refused { IfErr result (MayNotEnter O.start O.trees O.number O.hives) }
+    {
+        match self.registry.session_after(self.rt, before.sight()) {
             Ok((session, _told)) => Ok(session),
             Err(denied) => Err(refusal_of(denied)),
         }
@@ -97,7 +111,7 @@ impl<'a, E: StoreEngine, O: Origin, R: Wait> Caller<'a, E, O, R> {
     /// Whether a session could be opened but for a seat. Refused with `Faulted` if the device has failed, and with
     /// `NoMemory`.
     pub fn check_not_faulted(&self) -> Result<(), Refusal>
-        ensures { IfErr result (MayNotEnter O.trees O.number O.hives) }
+        ensures { IfErr result (MayNotEnter O.start O.trees O.number O.hives) }
     {
         // a session that isn't open begins no transaction, but is refused for the device first
         let mut nobody = self.registry.closed_session(self.rt);
@@ -145,8 +159,8 @@ pub fn denied_reply(denied: Denied) -> ReplyLine
 
 // the refusal that a call was denied with. There is one in each denial
 fn refusal_of(denied: Denied) -> Refusal
-    ensures { (trees : List TreeMap) (number hives : ℕ) (was is : List Element) (event : Event) →
-        IsDenied trees number hives was is event denied → MayNotEnter trees number hives result }
+    ensures { (origin : Point) (trees : List TreeMap) (number hives : ℕ) (was is : AnySight) (event : Event) →
+        IsDenied origin trees number hives was is event denied → MayNotEnter origin trees number hives result }
 {
     match denied.refusal() {
         Some(refusal) => refusal,

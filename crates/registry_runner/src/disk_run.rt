@@ -1,8 +1,7 @@
 //! Runs a script over the store that is on a disk.
-ghost use Rattle.std.specs.Prelude.{◌<◌, ◌⊎◌, [], Some, IfOk, true, false};
-ghost use Rattle.recovery.specs.Recovered.{seen_in};
+ghost use Rattle.std.specs.Prelude.{◌<◌, [], Some, true, false};
 ghost use Rattle.store_driver.specs.Openings.{LeavesLife};
-ghost use Rattle.registry_runner.specs.Running.{IsRun, LeavesStore};
+ghost use Rattle.registry_runner.specs.Running.{IsRun};
 
 use crate::parts::{PartKind, PartStart, run_parts};
 use crate::run_end::write_refusal;
@@ -24,8 +23,9 @@ use store_driver::open_engine;
 /// Before the store waits for the disk, and after each commit and flush, the replies so far are written out.
 ///
 /// If no store is opened, or no script begins on it, the reason is written, and no line is read. The disk is handed back
-/// in any case, even if a write fails. Whatever a crash leaves of it from then on recovers a beginning of what was
-/// accepted. `Err` says that a write failed, which ends the run.
+/// in any case, even if a write fails. One history leads from the opening to the end: at each of its moments, whatever a
+/// crash leaves recovers a beginning of what was accepted by then. So what is left is what a life of the store leaves, and
+/// runs in a row are lives. `Err` says that a write failed, which ends the run.
 pub fn run<D: Disk + Drop + Send, R: Threads + Wait + Sync, B: BufRead, W: Write>(
     rt: &R,
     alloc: Global,
@@ -33,13 +33,10 @@ pub fn run<D: Disk + Drop + Send, R: Threads + Wait + Sync, B: BufRead, W: Write
     reader: &mut B,
     writer: &mut W,
 ) -> (D, io::Result<Status>)
-    ensures runs { IfOk result.1 (λ status. IsRun D.faithful (D.failures disk < D.failures result.0)
-        (D.faithful result.0) (seen_in (D.state_at disk (D.clock disk))) true
-        (B.remaining reader.old) (W.contents writer.old) (W.contents writer.new) status) }
+    ensures runs { IsRun D.faithful D.state_at D.clock D.failures disk result.0 true
+        (B.remaining reader.old) (W.contents writer.old) (W.contents writer.new) result.1 }
     ensures left { LeavesLife (D.failures disk < D.failures result.0) (D.faithful result.0)
-        (D.state_at disk (D.clock disk)) (D.state_at result.0 (D.clock result.0))
-        ⊎ LeavesStore D.faithful (seen_in (D.state_at disk (D.clock disk))) (D.faithful result.0)
-        (D.state_at result.0) (D.clock result.0) }
+        (D.state_at disk (D.clock disk)) (D.state_at result.0 (D.clock result.0)) }
 {
     run_on(rt, alloc, disk, true, reader, writer)
 }
@@ -52,13 +49,10 @@ pub fn run_unread<D: Disk + Drop + Send, R: Threads + Wait + Sync, W: Write>(
     disk: D,
     writer: &mut W,
 ) -> (D, io::Result<Status>)
-    ensures runs { IfOk result.1 (λ status. IsRun D.faithful (D.failures disk < D.failures result.0)
-        (D.faithful result.0) (seen_in (D.state_at disk (D.clock disk))) false
-        (Some []) (W.contents writer.old) (W.contents writer.new) status) }
+    ensures runs { IsRun D.faithful D.state_at D.clock D.failures disk result.0 false
+        (Some []) (W.contents writer.old) (W.contents writer.new) result.1 }
     ensures left { LeavesLife (D.failures disk < D.failures result.0) (D.faithful result.0)
-        (D.state_at disk (D.clock disk)) (D.state_at result.0 (D.clock result.0))
-        ⊎ LeavesStore D.faithful (seen_in (D.state_at disk (D.clock disk))) (D.faithful result.0)
-        (D.state_at result.0) (D.clock result.0) }
+        (D.state_at disk (D.clock disk)) (D.state_at result.0 (D.clock result.0)) }
 {
     let mut nothing = b"".as_slice();
     run_on(rt, alloc, disk, false, &mut nothing, writer)
@@ -73,13 +67,10 @@ fn run_on<D: Disk + Drop + Send, R: Threads + Wait + Sync, B: BufRead, W: Write>
     reader: &mut B,
     writer: &mut W,
 ) -> (D, io::Result<Status>)
-    ensures runs { IfOk result.1 (λ status. IsRun D.faithful (D.failures disk < D.failures result.0)
-        (D.faithful result.0) (seen_in (D.state_at disk (D.clock disk))) can_read
-        (B.remaining reader.old) (W.contents writer.old) (W.contents writer.new) status) }
+    ensures runs { IsRun D.faithful D.state_at D.clock D.failures disk result.0 can_read
+        (B.remaining reader.old) (W.contents writer.old) (W.contents writer.new) result.1 }
     ensures left { LeavesLife (D.failures disk < D.failures result.0) (D.faithful result.0)
-        (D.state_at disk (D.clock disk)) (D.state_at result.0 (D.clock result.0))
-        ⊎ LeavesStore D.faithful (seen_in (D.state_at disk (D.clock disk))) (D.faithful result.0)
-        (D.state_at result.0) (D.clock result.0) }
+        (D.state_at disk (D.clock disk)) (D.state_at result.0 (D.clock result.0)) }
 {
     match open_engine(alloc, disk) {
         Ok((engine, number)) => {

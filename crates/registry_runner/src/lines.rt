@@ -10,8 +10,7 @@ use crate::caller::Caller;
 use crate::history_use::{HistoryUse, number_told};
 use crate::parts::{NextPart, PartKind, PartStart};
 use crate::script::{LineAnswer, Script};
-use ktm_calls::StoreEngine;
-use published_trees::Origin;
+use histories::Start;
 use refusals::Refusal;
 use reply_lines::{ReplyLine, Status};
 use script_loop::{Answerer, LineTurn, LoopEnd, run_lines};
@@ -21,6 +20,7 @@ use std::io;
 use std::io::{BufRead, Write};
 use std::sync::Wait;
 use store_driver::BUSY_ROOM;
+use store_engine::StoreEngine;
 
 /// How a part's lines end.
 pub enum LinesEnd {
@@ -45,7 +45,7 @@ enum BetweenLines {
 }
 
 /// The lines of a part: its script, and what is kept beside it.
-pub struct PartLines<O: Origin> {
+pub struct PartLines<O: Start> {
     /// The script.
     pub script: Script<O>,
     /// How much of its history the part has used.
@@ -54,7 +54,7 @@ pub struct PartLines<O: Origin> {
     pub has_failed: bool,
 }
 
-impl<O: Origin> Drop for PartLines<O> {
+impl<O: Start> Drop for PartLines<O> {
     // one drop for all that own them, whose proofs see no more of it than that
     fn drop(self) {
         let PartLines {
@@ -65,7 +65,7 @@ impl<O: Origin> Drop for PartLines<O> {
     }
 }
 
-impl<O: Origin> PartLines<O> {
+impl<O: Start> PartLines<O> {
     ghost use Rattle.std.specs.Prelude.{◌≡◌, true, IfOk};
     ghost use Rattle.registry_runner.specs.Interpreters.{part_of, script_of};
     ghost use Rattle.registry_runner.specs.Plays.{LinesCome};
@@ -94,7 +94,7 @@ impl<O: Origin> PartLines<O> {
         requires first { self.old.history.first ≡ O.number }
         requires limit { self.old.history.limit ≡ start.limit }
         ensures { IfOk result (λ end. LinesCome start.limit true
-            (part_of O.trees O.number O.hives self.old.script) start.line (B.remaining reader.old)
+            (part_of O.start O.trees O.number O.hives self.old.script) start.line (B.remaining reader.old)
             (W.contents writer.old) end (script_of self.new.script) (B.remaining reader.new)
             (W.contents writer.new)) }
     {
@@ -113,7 +113,7 @@ impl<O: Origin> PartLines<O> {
     }
 }
 
-impl<'a, E: StoreEngine, O: Origin, R: Wait> Answerer<Caller<'a, E, O, R>> for PartLines<O> {
+impl<'a, E: StoreEngine, O: Start, R: Wait> Answerer<Caller<'a, E, O, R>> for PartLines<O> {
     type Stop = PartKind;
 
     ghost use Rattle.std.specs.Prelude.{◌≡◌, None};
@@ -121,9 +121,9 @@ impl<'a, E: StoreEngine, O: Origin, R: Wait> Answerer<Caller<'a, E, O, R>> for P
     ghost use Rattle.registry_runner.specs.Interpreters.{part_of, script_of};
     ghost use Rattle.registry_runner.specs.PartLines.{AnswersInPart, StopsInPart, OverHistory};
 
-    ghost answers = { λ old line text refused new. OverHistory O.number old.history new.history (AnswersInPart old.history.limit (part_of O.trees O.number O.hives old.script) line text refused (script_of new.script)) };
+    ghost answers = { λ old line text refused new. OverHistory O.number old.history new.history (AnswersInPart old.history.limit (part_of O.start O.trees O.number O.hives old.script) line text refused (script_of new.script)) };
 
-    ghost stops = { λ old line text refused why new. OverHistory O.number old.history new.history (StopsInPart old.history.limit (part_of O.trees O.number O.hives old.script) line text refused why (script_of new.script)) };
+    ghost stops = { λ old line text refused why new. OverHistory O.number old.history new.history (StopsInPart old.history.limit (part_of O.start O.trees O.number O.hives old.script) line text refused why (script_of new.script)) };
 
     ghost is_none = { λ line. line_asked line ≡ None };
 
@@ -171,7 +171,7 @@ impl<'a, E: StoreEngine, O: Origin, R: Wait> Answerer<Caller<'a, E, O, R>> for P
 
 // What the store does between two lines. It frees the journal's room, if half of it is used. And it folds its history
 // if that is nearly full and the script has nothing that a fold ends: then a later line isn't refused since it is full.
-fn work_between_lines<E: StoreEngine, O: Origin, R: Wait, W: Write>(
+fn work_between_lines<E: StoreEngine, O: Start, R: Wait, W: Write>(
     caller: &Caller<'_, E, O, R>,
     script: &mut Script<O>,
     history: &mut HistoryUse,
@@ -179,7 +179,7 @@ fn work_between_lines<E: StoreEngine, O: Origin, R: Wait, W: Write>(
     writer: &mut W,
 ) -> io::Result<BetweenLines>
     ensures between { IfOk result (λ next. history.old.first ≡ O.number → Between history.old.limit
-        (part_of O.trees O.number O.hives script.old) told next (script_of script.new)) }
+        (part_of O.start O.trees O.number O.hives script.old) told next (script_of script.new)) }
     ensures kept { OnOk result (Keeps (W.contents writer.old) (W.contents writer.new)) }
     ensures same { (history.new.first ≡ history.old.first) × (history.new.limit ≡ history.old.limit) }
 {
@@ -211,7 +211,7 @@ fn is_fault(reply: &ReplyLine) -> bool {
 // Frees the journal's room if half of it is used: all durable changes go into the hives, and then it is trimmed. Less
 // would never lead to a trim while lines are written, for a trim needs each hive to have all that is durable. Answers
 // whether the device failed in it.
-fn free_room<E: StoreEngine, O: Origin, R: Wait, W: Write>(
+fn free_room<E: StoreEngine, O: Start, R: Wait, W: Write>(
     caller: &Caller<'_, E, O, R>,
     writer: &mut W,
 ) -> io::Result<bool>
@@ -225,7 +225,7 @@ fn free_room<E: StoreEngine, O: Origin, R: Wait, W: Write>(
 }
 
 // the device failed in the steps that free the journal's room. Other refusals of them are left to the end of the run
-fn has_failed_freeing<E: StoreEngine, O: Origin, R: Wait>(caller: &Caller<'_, E, O, R>) -> bool {
+fn has_failed_freeing<E: StoreEngine, O: Start, R: Wait>(caller: &Caller<'_, E, O, R>) -> bool {
     match caller.registry.checkpoint(caller.rt) {
         Ok(_receipt) => false,
         Err(denied) => matches!(denied.refusal(), Some(Refusal::DiskFault)),

@@ -1,6 +1,9 @@
 //! One part of a run: a script's lines over a registry, beside a flusher.
-ghost use Rattle.std.specs.Prelude.{◌≡◌, [], Ok, IfErr, IfOk};
+ghost use Rattle.std.specs.Prelude.{◌≡◌, ℕ, [], Ok, IfErr, IfOk};
 ghost use Rattle.std.specs.Io.KnownBytes.{Appends};
+ghost use Rattle.store_model.specs.Machine.{Machine};
+ghost use Rattle.histories.specs.Histories.{HasLed};
+ghost use Rattle.histories.specs.Points.{point_of};
 ghost use Rattle.ktm_calls.specs.Denials.{IsTurnDenied};
 ghost use Rattle.ktm_calls.specs.Moments.{IsOf};
 ghost use Rattle.registry_runner.specs.Interpreters.{part_of, script_of};
@@ -15,8 +18,9 @@ use crate::parts::{NextPart, PartEnd, PartKind, PartStart};
 use crate::run_end::{finish, write_refusal, written_out};
 use crate::script::Script;
 use flusher::try_run_beside;
-use ktm_calls::{Denied, Ended, Registry, Stopped, StoreEngine};
-use published_trees::{ChangeCount, Origin, SeenChanges};
+use histories::{EventCount, Start};
+use ktm_calls::{Denied, Ended, Registry, Stopped};
+use published_trees::{ChangeCount, SeenChanges};
 use reply_lines::{ReplyLine, Status};
 use script_loop::{EndOfScript, end};
 use std::alloc::Global;
@@ -24,11 +28,12 @@ use std::io;
 use std::io::{BufRead, Write};
 use std::sync::Wait;
 use std::thread::Threads;
+use store_engine::StoreEngine;
 
 /// Runs a part of a script over a registry of this engine, whose list of changes begins after the part's number. The
 /// engine is handed back.
 pub fn run_part<
-    O: Origin + Send + Sync,
+    O: Start + Send + Sync,
     E: StoreEngine + Send,
     R: Threads + Wait + Sync,
     B: BufRead,
@@ -37,6 +42,7 @@ pub fn run_part<
     rt: &R,
     alloc: Global,
     engine: E,
+    events: EventCount,
     count: ChangeCount,
     seen: SeenChanges,
     start: PartStart,
@@ -44,15 +50,24 @@ pub fn run_part<
     writer: &mut W,
 ) -> (E, PartEnd)
     requires book { (count ≡ O.book) × (seen ≡ record { book = O.book; list = [] }) }
+    requires events { events ≡ record { book = O.history; log = [] } }
+    requires store { E.store engine ≡ O.store }
+    requires start { point_of (E.machine engine) (E.clock engine) (E.failures engine) ≡ O.start }
+    requires faithful { E.faithful engine → O.faithful }
+    requires safe { (moment : ℕ) (machine : Machine) → O.safe moment machine → E.safe engine moment machine }
     requires engine { IsOf O.trees O.number O.hives (E.machine engine)
         × ((E.machine engine).accepted ≡ []) × ((E.machine engine).sessions ≡ []) }
     requires number { start.number ≡ O.number }
+    ensures store { E.store result.0 ≡ O.store }
+    ensures history { HasLed O.start O.safe O.faithful
+        (E.safe result.0) (E.faithful result.0) (point_of (E.machine result.0) (E.clock result.0) (E.failures result.0)) }
     ensures owner { IsOf O.trees O.number O.hives (E.machine result.0) }
     ensures sessions { (E.machine result.0).sessions ≡ [] }
-    ensures ends { EndsPart start O.trees O.number O.hives (B.remaining reader.old) (W.contents writer.old)
+    ensures ends { EndsPart start O.start O.trees O.number O.hives (B.remaining reader.old) (W.contents writer.old)
         result.1 (B.remaining reader.new) (W.contents writer.new) }
 {
-    let registry = match Registry::<E, O>::new(alloc, rt, engine, count, seen) {
+    engine.keeps_a_prefix(); // for the prover
+    let registry = match Registry::<E, O>::new(alloc, rt, engine, events, count, seen) {
         Ok(registry) => registry,
         Err((why, engine)) => {
             let ran = write_refusal(writer, why);
@@ -67,22 +82,22 @@ pub fn run_part<
     let end = run_by(&caller, start, reader, writer);
     let Ended {
         engine,
+        events: _,
         durable: _,
-        strangers: _,
     } = registry.end(rt, Vec::new(alloc), Vec::new(alloc));
     (engine, end)
 }
 
 // begins a script, and runs it
 fn run_by<
-    O: Origin + Send + Sync,
+    O: Start + Send + Sync,
     E: StoreEngine + Send,
     R: Threads + Wait + Sync,
     B: BufRead,
     W: Write,
 >(caller: &Caller<'_, E, O, R>, start: PartStart, reader: &mut B, writer: &mut W) -> PartEnd
     requires number { start.number ≡ O.number }
-    ensures { EndsPart start O.trees O.number O.hives (B.remaining reader.old) (W.contents writer.old) result
+    ensures { EndsPart start O.start O.trees O.number O.hives (B.remaining reader.old) (W.contents writer.old) result
         (B.remaining reader.new) (W.contents writer.new) }
 {
     match Script::begin(caller, start.moment) {
@@ -95,7 +110,7 @@ fn run_by<
 
 // runs a script that was begun
 fn run_begun<
-    O: Origin + Send + Sync,
+    O: Start + Send + Sync,
     E: StoreEngine + Send,
     R: Threads + Wait + Sync,
     B: BufRead,
@@ -107,9 +122,9 @@ fn run_begun<
     reader: &mut B,
     writer: &mut W,
 ) -> PartEnd
-    requires begun { IsBegun O.trees O.number O.hives start.moment (script_of script) }
+    requires begun { IsBegun O.start O.trees O.number O.hives start.moment (script_of script) }
     requires number { start.number ≡ O.number }
-    ensures { EndsPart start O.trees O.number O.hives (B.remaining reader.old) (W.contents writer.old) result
+    ensures { EndsPart start O.start O.trees O.number O.hives (B.remaining reader.old) (W.contents writer.old) result
         (B.remaining reader.new) (W.contents writer.new) }
 {
     let mut lines = PartLines::new(script, start);
@@ -119,7 +134,7 @@ fn run_begun<
 
 // prints what the part prints first, and runs the script beside a flusher
 fn run_told<
-    O: Origin + Send + Sync,
+    O: Start + Send + Sync,
     E: StoreEngine + Send,
     R: Threads + Wait + Sync,
     B: BufRead,
@@ -132,11 +147,11 @@ fn run_told<
     reader: &mut B,
     writer: &mut W,
 ) -> PartEnd
-    requires begun { IsBegun O.trees O.number O.hives start.moment (script_of lines.old.script) }
+    requires begun { IsBegun O.start O.trees O.number O.hives start.moment (script_of lines.old.script) }
     requires first { lines.old.history.first ≡ O.number }
     requires limit { lines.old.history.limit ≡ start.limit }
     requires number { start.number ≡ O.number }
-    ensures { EndsPart start O.trees O.number O.hives (B.remaining reader.old) (W.contents writer.old) result
+    ensures { EndsPart start O.start O.trees O.number O.hives (B.remaining reader.old) (W.contents writer.old) result
         (B.remaining reader.new) (W.contents writer.new) }
 {
     if let Err(error) = write_start(writer, start.kind, start.number) {
@@ -175,7 +190,7 @@ fn write_start<W: Write>(writer: &mut W, kind: PartKind, number: u64) -> io::Res
 
 // reads the lines to their end or to a fold while a flusher waits at the gate, and lets it work then
 fn read_beside_flusher<
-    O: Origin + Send + Sync,
+    O: Start + Send + Sync,
     E: StoreEngine + Send,
     R: Threads + Wait + Sync,
     B: BufRead,
@@ -190,7 +205,7 @@ fn read_beside_flusher<
 ) -> (LinesEnded, Result<Stopped, Denied>)
     requires first { lines.old.history.first ≡ O.number }
     requires limit { lines.old.history.limit ≡ start.limit }
-    ensures ended { PartComes start.limit start.can_read (part_of O.trees O.number O.hives lines.old.script) start.line
+    ensures ended { PartComes start.limit start.can_read (part_of O.start O.trees O.number O.hives lines.old.script) start.line
         (B.remaining reader.old) (W.contents writer.old) result.0 (script_of lines.new.script)
         (B.remaining reader.new) (W.contents writer.new) }
     ensures flushed { IfErr result.1 IsTurnDenied }
@@ -202,7 +217,7 @@ fn read_beside_flusher<
         &mut || -> LinesEnded
             requires { (lines.now.history.first ≡ O.number) × (lines.now.history.limit ≡ start.limit) }
             ensures { PartComes start.limit start.can_read
-                (part_of O.trees O.number O.hives lines.entry.now.script) start.line (B.remaining reader.entry.now)
+                (part_of O.start O.trees O.number O.hives lines.entry.now.script) start.line (B.remaining reader.entry.now)
                 (W.contents writer.entry.now) result (script_of lines.exit.now.script)
                 (B.remaining reader.exit.now) (W.contents writer.exit.now) }
         { read_to_end(caller, gate, lines, start, reader, writer) },
@@ -225,7 +240,7 @@ enum LinesEnded {
 
 // reads the lines; at their end it writes out what was written, and makes all that was accepted durable; and then it
 // lets the flusher work
-fn read_to_end<O: Origin, E: StoreEngine, R: Wait, B: BufRead, W: Write>(
+fn read_to_end<O: Start, E: StoreEngine, R: Wait, B: BufRead, W: Write>(
     caller: &Caller<'_, E, O, R>,
     gate: &EndOfLines<'_, R>,
     lines: &mut PartLines<O>,
@@ -235,7 +250,7 @@ fn read_to_end<O: Origin, E: StoreEngine, R: Wait, B: BufRead, W: Write>(
 ) -> LinesEnded
     requires first { lines.old.history.first ≡ O.number }
     requires limit { lines.old.history.limit ≡ start.limit }
-    ensures { PartComes start.limit start.can_read (part_of O.trees O.number O.hives lines.old.script) start.line
+    ensures { PartComes start.limit start.can_read (part_of O.start O.trees O.number O.hives lines.old.script) start.line
         (B.remaining reader.old) (W.contents writer.old) result (script_of lines.new.script)
         (B.remaining reader.new) (W.contents writer.new) }
 {
@@ -259,7 +274,7 @@ fn read_to_end<O: Origin, E: StoreEngine, R: Wait, B: BufRead, W: Write>(
 }
 
 // reads the lines, or reports that they can't be read
-fn read_if<O: Origin, E: StoreEngine, R: Wait, B: BufRead, W: Write>(
+fn read_if<O: Start, E: StoreEngine, R: Wait, B: BufRead, W: Write>(
     caller: &Caller<'_, E, O, R>,
     lines: &mut PartLines<O>,
     start: PartStart,
@@ -269,7 +284,7 @@ fn read_if<O: Origin, E: StoreEngine, R: Wait, B: BufRead, W: Write>(
     requires first { lines.old.history.first ≡ O.number }
     requires limit { lines.old.history.limit ≡ start.limit }
     ensures { IfOk result (λ end. LinesCome start.limit start.can_read
-        (part_of O.trees O.number O.hives lines.old.script) start.line (B.remaining reader.old)
+        (part_of O.start O.trees O.number O.hives lines.old.script) start.line (B.remaining reader.old)
         (W.contents writer.old) end (script_of lines.new.script) (B.remaining reader.new)
         (W.contents writer.new)) }
 {

@@ -4,13 +4,15 @@ ghost use Rattle.reply_lines.specs.Statuses.{with_refusal};
 ghost use Rattle.store_model.specs.Steps.{Step};
 ghost use Rattle.store_model.specs.declared.event.Event.TheVariants as event;
 ghost use Rattle.store_model.specs.declared.event.Reply.TheVariants as reply;
+ghost use Rattle.histories.specs.Histories.{HasLed};
+ghost use Rattle.histories.specs.Points.{point_of};
 ghost use Rattle.registry_runner.specs.Folding.{HistoryStays, IsFoldedAt, IsIdle};
 ghost use Rattle.registry_runner.specs.Parts.{MayNotFold};
 ghost use Rattle.registry_runner.specs.Running.{IsOfStore, RunsFrom};
 
 use crate::part_run::run_part;
 use crate::run_end::write_refusal;
-use ktm_calls::StoreEngine;
+use histories::EventCount;
 use published_trees::ChangeCount;
 use refusals::Refusal;
 use reply_lines::Status;
@@ -20,6 +22,7 @@ use std::io::{BufRead, Write};
 use std::marker::Brand;
 use std::sync::Wait;
 use std::thread::Threads;
+use store_engine::StoreEngine;
 use store_model::laws::openings_stay;
 use store_model::{Event, Reply};
 
@@ -90,19 +93,33 @@ pub fn run_parts<E: StoreEngine + Send, R: Threads + Wait + Sync, B: BufRead, W:
 ) -> (E, io::Result<Status>)
     requires engine { IsIdle (E.machine engine) }
     requires number { start.number ≡ (E.machine engine).before }
+    ensures store { E.store result.0 ≡ E.store engine }
+    ensures history { HasLed
+        (point_of (E.machine engine) (E.clock engine) (E.failures engine)) (E.safe engine) (E.faithful engine)
+        (E.safe result.0) (E.faithful result.0) (point_of (E.machine result.0) (E.clock result.0) (E.failures result.0)) }
     ensures owner { IsOfStore (E.machine engine).opened (E.machine engine).before
         (E.machine engine).bounds.hives (E.machine result.0) }
-    ensures runs { IfOk result.1 (λ status. RunsFrom start (E.machine engine).opened
+    ensures runs { IfOk result.1 (λ status. RunsFrom start (point_of (E.machine engine) (E.clock engine) (E.failures engine))
+        (E.machine engine).opened
         (E.machine engine).before (E.machine engine).bounds.hives (B.remaining reader.old)
         (W.contents writer.old) (W.contents writer.new) status) }
 {
     let mut engine = engine;
     let mut start = start;
     let mut has_refusal = false;
+    engine.keeps_a_prefix(); // for the prover
     for _ in rt.forever() {
         let (count, seen) = ChangeCount::open();
         let (ended, end) = run_part::<Brand, E, R, B, W>(
-            rt, alloc, engine, count, seen, start, reader, writer,
+            rt,
+            alloc,
+            engine,
+            EventCount::open(),
+            count,
+            seen,
+            start,
+            reader,
+            writer,
         );
         engine = ended;
         let next = match end {
@@ -156,11 +173,16 @@ impl PartStart {
 // durable all the same, it is made so first.
 fn fold<E: StoreEngine, R: Wait>(rt: &R, engine: &mut E) -> Result<u64, Refusal>
     requires sessions { (E.machine engine.old).sessions ≡ [] }
+    ensures store { E.store engine.new ≡ E.store engine.old }
+    ensures history { HasLed
+        (point_of (E.machine engine.old) (E.clock engine.old) (E.failures engine.old)) (E.safe engine.old) (E.faithful engine.old)
+        (E.safe engine.new) (E.faithful engine.new) (point_of (E.machine engine.new) (E.clock engine.new) (E.failures engine.new)) }
     ensures folded { IfOk result (IsFoldedAt (E.machine engine.old) (E.machine engine.new)) }
     ensures refused { IfErr result MayNotFold }
     ensures stays { OnErr result (HistoryStays (E.machine engine.old) (E.machine engine.new)) }
 {
     openings_stay();
+    engine.keeps_a_prefix(); // for the prover
     for _ in rt.forever() {
         if let Some(number) = ask_fold(engine)? {
             return Ok(number);
@@ -172,6 +194,10 @@ fn fold<E: StoreEngine, R: Wait>(rt: &R, engine: &mut E) -> Result<u64, Refusal>
 
 // asks for a fold, and answers its number; `None` if some accepted change isn't durable
 fn ask_fold<E: StoreEngine>(engine: &mut E) -> Result<Option<u64>, Refusal>
+    ensures store { E.store engine.new ≡ E.store engine.old }
+    ensures history { HasLed
+        (point_of (E.machine engine.old) (E.clock engine.old) (E.failures engine.old)) (E.safe engine.old) (E.faithful engine.old)
+        (E.safe engine.new) (E.faithful engine.new) (point_of (E.machine engine.new) (E.clock engine.new) (E.failures engine.new)) }
     ensures folded { IfOk result (λ made. IfSome made (λ number.
         Step (E.machine engine.old) event.Fold (reply.Folded number) (E.machine engine.new))) }
     ensures waits { IfOk result (λ made. IfNone made
@@ -179,7 +205,7 @@ fn ask_fold<E: StoreEngine>(engine: &mut E) -> Result<Option<u64>, Refusal>
     ensures refused { IfErr result MayNotFold }
     ensures stays { OnErr result (HistoryStays (E.machine engine.old) (E.machine engine.new)) }
 {
-    match engine.event(Event::Fold) {
+    match put(engine, Event::Fold) {
         Reply::Folded { number } => Ok(Some(number)),
         Reply::Refused { refusal } => Err(refusal),
         _ => Ok(None),
@@ -188,11 +214,27 @@ fn ask_fold<E: StoreEngine>(engine: &mut E) -> Result<Option<u64>, Refusal>
 
 // makes one step of the journal
 fn make_durable<E: StoreEngine>(engine: &mut E) -> Result<(), Refusal>
+    ensures store { E.store engine.new ≡ E.store engine.old }
+    ensures history { HasLed
+        (point_of (E.machine engine.old) (E.clock engine.old) (E.failures engine.old)) (E.safe engine.old) (E.faithful engine.old)
+        (E.safe engine.new) (E.faithful engine.new) (point_of (E.machine engine.new) (E.clock engine.new) (E.failures engine.new)) }
     ensures refused { IfErr result MayNotFold }
     ensures stays { HistoryStays (E.machine engine.old) (E.machine engine.new) }
 {
-    match engine.event(Event::JournalStep) {
+    match put(engine, Event::JournalStep) {
         Reply::Refused { refusal } => Err(refusal),
         _ => Ok(()),
     }
+}
+
+// puts an event to an engine, which is the whole history from there on
+fn put<E: StoreEngine>(engine: &mut E, event: Event) -> Reply
+    ensures store { E.store engine.new ≡ E.store engine.old }
+    ensures step { Step (E.machine engine.old) event result (E.machine engine.new) }
+    ensures history { HasLed
+        (point_of (E.machine engine.old) (E.clock engine.old) (E.failures engine.old)) (E.safe engine.old) (E.faithful engine.old)
+        (E.safe engine.new) (E.faithful engine.new) (point_of (E.machine engine.new) (E.clock engine.new) (E.failures engine.new)) }
+{
+    engine.keeps_a_prefix(); // for the prover
+    engine.event(event)
 }

@@ -12,8 +12,8 @@ ghost use Rattle.registry_runner.specs.Scripts.{Answers, AnswersLine, MayNotEnte
 use crate::caller::Caller;
 use crate::labels::tx_of;
 use crate::parts::{NextPart, PartKind};
-use ktm_calls::{Key, Session, StoreEngine};
-use published_trees::Origin;
+use histories::Start;
+use ktm_calls::{Key, Session};
 use refusals::Refusal;
 use reg_names::Path;
 use reply_lines::ReplyLine;
@@ -21,18 +21,19 @@ use script_runner::{Labels, operation_of};
 use script_syntax::{Label, Line, Request, read_line};
 use std::alloc::AllocError;
 use std::sync::Wait;
+use store_engine::StoreEngine;
 use store_model::Tx;
 use word_syntax::ParseError;
 
 /// A session that is open and isn't the current one.
-pub struct OpenSession<O: Origin> {
+pub struct OpenSession<O: Start> {
     /// The number that the script gave it.
     pub number: u32,
     /// The session.
     pub session: Session<O>,
 }
 
-impl<O: Origin> Drop for OpenSession<O> {
+impl<O: Start> Drop for OpenSession<O> {
     // one drop for all that own one, whose proofs see no more of it than that
     fn drop(self) {
         let OpenSession {
@@ -42,7 +43,7 @@ impl<O: Origin> Drop for OpenSession<O> {
     }
 }
 
-impl<O: Origin> OpenSession<O> {
+impl<O: Start> OpenSession<O> {
     /// The session alone.
     pub fn into_session(self) -> Session<O>
         ensures { result ≡ self.session }
@@ -65,7 +66,7 @@ pub enum LineAnswer {
 
 /// A script between two lines: the current moment and session, the other sessions that it opened, and the transaction
 /// that each label names.
-pub struct Script<O: Origin> {
+pub struct Script<O: Start> {
     pub(crate) moment: u64,
     // none before the first label
     pub(crate) labels: Option<Labels>,
@@ -78,7 +79,7 @@ pub struct Script<O: Origin> {
     pub(crate) root: Key,
 }
 
-impl<O: Origin> Drop for Script<O> {
+impl<O: Start> Drop for Script<O> {
     // one drop for all that own one, whose proofs see no more of it than that
     fn drop(self) {
         let Script {
@@ -93,15 +94,15 @@ impl<O: Origin> Drop for Script<O> {
     }
 }
 
-impl<O: Origin> Script<O> {
+impl<O: Start> Script<O> {
     /// A script before its first line: no label names anything, and session 0 is open and the current one. Refused as
     /// that session is, and with `NoMemory`.
     pub fn begin<E: StoreEngine, R: Wait>(
         caller: &Caller<'_, E, O, R>,
         moment: u64,
     ) -> Result<Script<O>, Refusal>
-        ensures begun { IfOk result (λ script. IsBegun O.trees O.number O.hives moment (script_of script)) }
-        ensures refused { IfErr result (MayNotEnter O.trees O.number O.hives) }
+        ensures begun { IfOk result (λ script. IsBegun O.start O.trees O.number O.hives moment (script_of script)) }
+        ensures refused { IfErr result (MayNotEnter O.start O.trees O.number O.hives) }
     {
         let root = Key::new(0, Path::root(caller.alloc)?);
         let session = caller.open_session()?;
@@ -128,7 +129,7 @@ impl<O: Origin> Script<O> {
         ensures err { OnErr result (self.new ≡ self.old) }
         ensures some { IfOk result (λ made. IfSome made
             (λ answer. (asked : AnyLine) × (line_asked bytes.now ≡ Some asked)
-            × AnswersLine O.trees O.number O.hives (script_of self.old) asked answer (script_of self.new))) }
+            × AnswersLine O.start O.trees O.number O.hives (script_of self.old) asked answer (script_of self.new))) }
     {
         match read_line(caller.alloc, bytes) {
             Ok(line) => Ok(self.answer(caller, line)),
@@ -145,7 +146,7 @@ impl<O: Origin> Script<O> {
     ) -> Option<LineAnswer>
         ensures answered { MatchOption result ((later_line (Some line) ≡ None) × (self.new ≡ self.old))
             (λ answer. (later_line (Some line) ≡ Some line)
-            × AnswersLine O.trees O.number O.hives (script_of self.old) line answer (script_of self.new)) }
+            × AnswersLine O.start O.trees O.number O.hives (script_of self.old) line answer (script_of self.new)) }
     {
         let answered = match line {
             Line::Hives { .. } | Line::History { .. } | Line::Lab { .. } => return None,
@@ -179,9 +180,9 @@ impl<O: Origin> Script<O> {
         caller: &Caller<'_, E, O, R>,
         request: Request,
     ) -> Result<ReplyLine, Refusal>
-        ensures ok { IfOk result (λ reported. Answers O.trees O.number O.hives (script_of self.old) (Plain request)
+        ensures ok { IfOk result (λ reported. Answers O.start O.trees O.number O.hives (script_of self.old) (Plain request)
             reported (script_of self.new)) }
-        ensures refused { IfErr result (λ refusal. Answers O.trees O.number O.hives (script_of self.old)
+        ensures refused { IfErr result (λ refusal. Answers O.start O.trees O.number O.hives (script_of self.old)
             (Plain request) (Refused refusal) (script_of self.new)) }
     {
         let asked = operation_of(caller.alloc, request)?;
@@ -194,9 +195,9 @@ impl<O: Origin> Script<O> {
         label: Label,
         request: Request,
     ) -> Result<ReplyLine, Refusal>
-        ensures ok { IfOk result (λ reported. Answers O.trees O.number O.hives (script_of self.old) (Inside label request)
+        ensures ok { IfOk result (λ reported. Answers O.start O.trees O.number O.hives (script_of self.old) (Inside label request)
             reported (script_of self.new)) }
-        ensures refused { IfErr result (λ refusal. Answers O.trees O.number O.hives (script_of self.old)
+        ensures refused { IfErr result (λ refusal. Answers O.start O.trees O.number O.hives (script_of self.old)
             (Inside label request) (Refused refusal) (script_of self.new)) }
     {
         let asked = operation_of(caller.alloc, request)?;

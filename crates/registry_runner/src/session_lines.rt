@@ -2,29 +2,31 @@
 ghost use Rattle.std.specs.Prelude.{◌≡◌, ◌<◌, IfErr, IfNone, IfOk, IfSome};
 ghost use Rattle.std.specs.Vec.{vec_capacity, vec_len};
 ghost use Rattle.script_syntax.specs.declared.line.Line.TheVariants as line;
+ghost use Rattle.ktm_calls.specs.Moments.{SeesMore};
 ghost use Rattle.reply_lines.specs.declared.reply.ReplyLine.TheVariants.{Refused};
 ghost use Rattle.registry_runner.specs.Interpreters.{script_of};
 ghost use Rattle.registry_runner.specs.Scripts.{Answers, InSession};
 
 use crate::caller::{Caller, reply_to};
 use crate::script::{OpenSession, Script};
-use ktm_calls::{Session, StoreEngine};
-use published_trees::Origin;
+use histories::Start;
+use ktm_calls::Session;
 use refusals::Refusal;
 use reply_lines::ReplyLine;
 use std::mem;
 use std::sync::Wait;
+use store_engine::StoreEngine;
 
-impl<O: Origin> Script<O> {
+impl<O: Start> Script<O> {
     // opens the session of this number unless it is open, and makes it the current one
     pub(crate) fn enter<E: StoreEngine, R: Wait>(
         &mut self,
         caller: &Caller<'_, E, O, R>,
         number: u32,
     ) -> Result<ReplyLine, Refusal>
-        ensures ok { IfOk result (λ reported. Answers O.trees O.number O.hives (script_of self.old) (line.Session number)
+        ensures ok { IfOk result (λ reported. Answers O.start O.trees O.number O.hives (script_of self.old) (line.Session number)
             reported (script_of self.new)) }
-        ensures refused { IfErr result (λ refusal. Answers O.trees O.number O.hives (script_of self.old)
+        ensures refused { IfErr result (λ refusal. Answers O.start O.trees O.number O.hives (script_of self.old)
             (line.Session number) (Refused refusal) (script_of self.new)) }
     {
         if self.is_open && number == self.number {
@@ -35,12 +37,24 @@ impl<O: Origin> Script<O> {
         let session = match self.place_of(number) {
             Some(place) => {
                 caller.check_not_faulted()?;
-                self.others.swap_remove(place).into_session()
+                self.take_other(place)
             }
-            None => caller.open_session()?,
+            None => caller.open_session_after(&self.session)?,
         };
         self.make_current(number, session);
         Ok(ReplyLine::Done)
+    }
+
+    // takes one of the other sessions, which has seen what the current one has
+    fn take_other(&mut self, place: usize) -> Session<O>
+        requires there { place < vec_len self.old.others }
+        ensures same { script_of self.new ≡ script_of self.old }
+        ensures room { vec_len self.new.others < vec_capacity self.new.others }
+        ensures seen { SeesMore (script_of self.old).session.seen result.seen }
+    {
+        let mut session = self.others.swap_remove(place).into_session();
+        session.see(self.session.sight());
+        session
     }
 
     // the place of the session of this number among those that aren't the current one
@@ -74,22 +88,23 @@ impl<O: Origin> Script<O> {
         caller: &Caller<'_, E, O, R>,
         number: u32,
     ) -> Result<ReplyLine, Refusal>
-        ensures ok { IfOk result (λ reported. Answers O.trees O.number O.hives (script_of self.old) (line.End number)
+        ensures ok { IfOk result (λ reported. Answers O.start O.trees O.number O.hives (script_of self.old) (line.End number)
             reported (script_of self.new)) }
-        ensures refused { IfErr result (λ refusal. Answers O.trees O.number O.hives (script_of self.old)
+        ensures refused { IfErr result (λ refusal. Answers O.start O.trees O.number O.hives (script_of self.old)
             (line.End number) (Refused refusal) (script_of self.new)) }
     {
         match self.take(caller, number) {
             Some(session) => {
-                let answer = caller.registry.end_session(caller.rt, session);
+                let (answer, seen) = caller.registry.leave_session(caller.rt, session);
+                self.session.see(&seen);
                 Ok(reply_to(answer))
             }
             None => Err(Refusal::NoSuchHandle),
         }
     }
 
-    // takes the session of this number out of those that are open. After the current one, what follows is asked in a
-    // session that isn't open
+    // Takes the session of this number out of those that are open. It has seen what the current one has. After the current
+    // one, what follows is asked in a session that isn't open
     fn take<E: StoreEngine, R: Wait>(
         &mut self,
         caller: &Caller<'_, E, O, R>,
@@ -97,13 +112,18 @@ impl<O: Origin> Script<O> {
     ) -> Option<Session<O>>
         ensures some { InSession (script_of self.old) (script_of self.new) }
         ensures none { IfNone result (script_of self.new ≡ script_of self.old) }
+        ensures seen { IfSome result (λ session. SeesMore (script_of self.old).session.seen session.seen) }
     {
         if self.is_open && number == self.number {
             self.is_open = false;
-            let closed = caller.registry.closed_session(caller.rt);
+            let closed = caller
+                .registry
+                .closed_session_after(caller.rt, self.session.sight());
             return Some(mem::replace(&mut self.session, closed));
         }
         let place = self.place_of(number)?;
-        Some(self.others.swap_remove(place).into_session())
+        let mut session = self.others.swap_remove(place).into_session();
+        session.see(self.session.sight());
+        Some(session)
     }
 }

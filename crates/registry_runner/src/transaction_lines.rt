@@ -8,16 +8,16 @@ ghost use Rattle.registry_runner.specs.Scripts.{Answers, AnswersLine};
 use crate::caller::{Caller, denied_reply, reply_to};
 use crate::labels::{make_room, name};
 use crate::script::{LineAnswer, Script};
-use ktm_calls::StoreEngine;
-use published_trees::Origin;
+use histories::Start;
 use refusals::Refusal;
 use reply_lines::ReplyLine;
 use script_runner::{is_refusal, reply_of};
 use script_syntax::Label;
 use std::sync::Wait;
+use store_engine::StoreEngine;
 use uuid::Uuid;
 
-impl<O: Origin> Script<O> {
+impl<O: Start> Script<O> {
     // begins a transaction that the label names; room for the label is made first, so each transaction that is begun is
     // named
     pub(crate) fn begin_as<E: StoreEngine, R: Wait>(
@@ -26,9 +26,9 @@ impl<O: Origin> Script<O> {
         label: Label,
         id: Uuid,
     ) -> Result<ReplyLine, Refusal>
-        ensures ok { IfOk result (λ reported. Answers O.trees O.number O.hives (script_of self.old) (Begin label id)
+        ensures ok { IfOk result (λ reported. Answers O.start O.trees O.number O.hives (script_of self.old) (Begin label id)
             reported (script_of self.new)) }
-        ensures refused { IfErr result (λ refusal. Answers O.trees O.number O.hives (script_of self.old)
+        ensures refused { IfErr result (λ refusal. Answers O.start O.trees O.number O.hives (script_of self.old)
             (Begin label id) (Refused refusal) (script_of self.new)) }
     {
         make_room(&mut self.labels, caller.alloc, label)?;
@@ -50,9 +50,9 @@ impl<O: Origin> Script<O> {
         caller: &Caller<'_, E, O, R>,
         label: Label,
     ) -> Result<ReplyLine, Refusal>
-        ensures ok { IfOk result (λ reported. Answers O.trees O.number O.hives (script_of self.old) (Commit label)
+        ensures ok { IfOk result (λ reported. Answers O.start O.trees O.number O.hives (script_of self.old) (Commit label)
             reported (script_of self.new)) }
-        ensures refused { IfErr result (λ refusal. Answers O.trees O.number O.hives (script_of self.old)
+        ensures refused { IfErr result (λ refusal. Answers O.start O.trees O.number O.hives (script_of self.old)
             (Commit label) (Refused refusal) (script_of self.new)) }
     {
         let tx = self.tx(label)?;
@@ -72,9 +72,9 @@ impl<O: Origin> Script<O> {
         caller: &Caller<'_, E, O, R>,
         label: Label,
     ) -> Result<ReplyLine, Refusal>
-        ensures ok { IfOk result (λ reported. Answers O.trees O.number O.hives (script_of self.old) (Rollback label)
+        ensures ok { IfOk result (λ reported. Answers O.start O.trees O.number O.hives (script_of self.old) (Rollback label)
             reported (script_of self.new)) }
-        ensures refused { IfErr result (λ refusal. Answers O.trees O.number O.hives (script_of self.old)
+        ensures refused { IfErr result (λ refusal. Answers O.start O.trees O.number O.hives (script_of self.old)
             (Rollback label) (Refused refusal) (script_of self.new)) }
     {
         let tx = self.tx(label)?;
@@ -89,9 +89,9 @@ impl<O: Origin> Script<O> {
         caller: &Caller<'_, E, O, R>,
         label: Label,
     ) -> Result<ReplyLine, Refusal>
-        ensures ok { IfOk result (λ reported. Answers O.trees O.number O.hives (script_of self.old) (Close label)
+        ensures ok { IfOk result (λ reported. Answers O.start O.trees O.number O.hives (script_of self.old) (Close label)
             reported (script_of self.new)) }
-        ensures refused { IfErr result (λ refusal. Answers O.trees O.number O.hives (script_of self.old)
+        ensures refused { IfErr result (λ refusal. Answers O.start O.trees O.number O.hives (script_of self.old)
             (Close label) (Refused refusal) (script_of self.new)) }
     {
         let tx = self.tx(label)?;
@@ -106,9 +106,9 @@ impl<O: Origin> Script<O> {
         caller: &Caller<'_, E, O, R>,
         label: Label,
     ) -> Result<ReplyLine, Refusal>
-        ensures ok { IfOk result (λ reported. Answers O.trees O.number O.hives (script_of self.old) (Outcome label)
+        ensures ok { IfOk result (λ reported. Answers O.start O.trees O.number O.hives (script_of self.old) (Outcome label)
             reported (script_of self.new)) }
-        ensures refused { IfErr result (λ refusal. Answers O.trees O.number O.hives (script_of self.old)
+        ensures refused { IfErr result (λ refusal. Answers O.start O.trees O.number O.hives (script_of self.old)
             (Outcome label) (Refused refusal) (script_of self.new)) }
     {
         let tx = self.tx(label)?;
@@ -125,7 +125,7 @@ impl<O: Origin> Script<O> {
         caller: &Caller<'_, E, O, R>,
         id: Uuid,
     ) -> ReplyLine
-        ensures { Answers O.trees O.number O.hives (script_of self.old) (Kept id) result (script_of self.new) }
+        ensures { Answers O.start O.trees O.number O.hives (script_of self.old) (Kept id) result (script_of self.new) }
     {
         if self.is_open {
             return match self.session.outcome_of(&id) {
@@ -141,7 +141,7 @@ impl<O: Origin> Script<O> {
 
     /// Makes all accepted changes durable, as the line `flush` does.
     pub fn flush<E: StoreEngine, R: Wait>(&mut self, caller: &Caller<'_, E, O, R>) -> ReplyLine
-        ensures { Answers O.trees O.number O.hives (script_of self.old) Flush result (script_of self.new) }
+        ensures { Answers O.start O.trees O.number O.hives (script_of self.old) Flush result (script_of self.new) }
     {
         match caller
             .registry
@@ -157,7 +157,7 @@ impl<O: Origin> Script<O> {
     /// Makes ready for a fold: makes all accepted changes durable, as the line `flush` does, and moves them into the
     /// hives. If one of the two is refused, that is the reply.
     pub fn fold<E: StoreEngine, R: Wait>(&mut self, caller: &Caller<'_, E, O, R>) -> LineAnswer
-        ensures { AnswersLine O.trees O.number O.hives (script_of self.old) Fold result (script_of self.new) }
+        ensures { AnswersLine O.start O.trees O.number O.hives (script_of self.old) Fold result (script_of self.new) }
     {
         let reply = self.flush(caller);
         if is_refusal(&reply) {

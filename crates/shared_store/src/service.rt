@@ -1,21 +1,27 @@
 //! The service of a store to the threads of a client.
-ghost use Rattle.std.specs.Prelude.{◌≡◌, ◌⊎◌, ◌<◌, [], IfOk, IfErr};
+ghost use Rattle.std.specs.Prelude.{◌≡◌, ◌⊎◌, ◌<◌, ℕ, [], IfOk, IfErr};
 ghost use Rattle.refusals.specs.declared.refusal.Refusal.TheVariants.{NoMemory, NoSeat};
 ghost use Rattle.recovery.specs.Recovered.{seen_in};
+ghost use Rattle.store_model.specs.Machine.{Machine};
+ghost use Rattle.store_driver.specs.Openings.{LeavesLife};
+ghost use Rattle.histories.specs.Histories.{HasLed};
+ghost use Rattle.histories.specs.Points.{point_of};
 ghost use Rattle.ktm_calls.specs.Moments.{IsOf};
 ghost use Rattle.shared_store.specs.Serving.{KeepsStore, MayNotServe};
 
 use crate::client::Client;
 use disk_model::Disk;
 use flusher::{Worker, run_beside_from, run_workers};
-use ktm_calls::{Ended, Registry, Stopped, StoreEngine, Told};
-use published_trees::{ChangeCount, Origin, SeenChanges};
+use histories::{EventCount, Start};
+use ktm_calls::{Ended, Registry, Stopped, Told};
+use published_trees::{ChangeCount, SeenChanges};
 use refusals::Refusal;
 use std::alloc::Global;
 use std::marker::Brand;
 use std::sync::Wait;
 use std::thread::Threads;
 use store_driver::{BUSY_ROOM, open_engine};
+use store_engine::StoreEngine;
 
 /// What came of a client's use of a store.
 #[derive(Clone, Copy, Debug, PartialEq, Eq)]
@@ -29,7 +35,9 @@ pub struct Served {
 }
 
 /// Opens the store that is on a disk, and runs a client of its registry on so many threads, with a flusher on one more.
-/// When all have ended, all that was accepted is made durable and moved into the hives. The disk is handed back.
+/// When all have ended, all that was accepted is made durable and moved into the hives. The disk is handed back. One
+/// history leads from the opening to the end: at each of its moments, whatever a crash leaves recovers a beginning of what
+/// was accepted by then.
 ///
 /// Refused if the store isn't opened, and with `NoMemory` or `NoSeat` if there can be no registry; the client doesn't
 /// run then.
@@ -40,8 +48,10 @@ pub fn serve<D: Disk + Send, C: Client<R> + Sync, R: Threads + Wait + Sync>(
     client: &C,
     threads: usize,
 ) -> (D, Result<Served, Refusal>)
-    ensures kept { IfOk result.1 (λ served. KeepsStore D.faithful (seen_in (D.state_at disk (D.clock disk)))
-        served.opened served.durable (D.faithful result.0) (D.state_at result.0) (D.clock result.0)) }
+    ensures kept { IfOk result.1 (λ served. KeepsStore D.faithful D.state_at D.clock D.failures
+        (seen_in (D.state_at disk (D.clock disk))) result.0 served.opened served.durable) }
+    ensures left { LeavesLife (D.failures disk < D.failures result.0) (D.faithful result.0)
+        (D.state_at disk (D.clock disk)) (D.state_at result.0 (D.clock result.0)) }
     ensures refused { IfErr result.1 (MayNotServe (D.failures disk < D.failures result.0) (D.faithful result.0)
         (seen_in (D.state_at disk (D.clock disk)))) }
 {
@@ -54,6 +64,7 @@ pub fn serve<D: Disk + Send, C: Client<R> + Sync, R: Threads + Wait + Sync>(
         rt,
         alloc,
         engine,
+        EventCount::open(),
         count,
         seen,
         Sharing {
@@ -77,7 +88,7 @@ struct Sharing<'a, C> {
 
 // the same over an engine that was just opened, with an empty list of changes
 fn serve_over<
-    O: Origin + Send + Sync,
+    O: Start + Send + Sync,
     E: StoreEngine + Send,
     C: Client<R> + Sync,
     R: Threads + Wait + Sync,
@@ -85,19 +96,29 @@ fn serve_over<
     rt: &R,
     alloc: Global,
     engine: E,
+    events: EventCount,
     count: ChangeCount,
     seen: SeenChanges,
     sharing: Sharing<'_, C>,
 ) -> (E, Result<Served, Refusal>)
     requires book { (count ≡ O.book) × (seen ≡ record { book = O.book; list = [] }) }
+    requires events { events ≡ record { book = O.history; log = [] } }
+    requires store { E.store engine ≡ O.store }
+    requires start { point_of (E.machine engine) (E.clock engine) (E.failures engine) ≡ O.start }
+    requires faithful { E.faithful engine → O.faithful }
+    requires safe { (moment : ℕ) (machine : Machine) → O.safe moment machine → E.safe engine moment machine }
     requires engine { IsOf O.trees O.number O.hives (E.machine engine)
         × ((E.machine engine).accepted ≡ []) × ((E.machine engine).sessions ≡ []) }
+    ensures store { E.store result.0 ≡ O.store }
+    ensures history { HasLed O.start O.safe O.faithful (E.safe result.0) (E.faithful result.0)
+        (point_of (E.machine result.0) (E.clock result.0) (E.failures result.0)) }
     ensures owner { IsOf O.trees O.number O.hives (E.machine result.0) }
     ensures numbers { IfOk result.1 (λ served. (served.opened ≡ sharing.entry.opened)
         × (served.durable ≡ (E.machine result.0).durable)) }
     ensures refused { IfErr result.1 (λ why. (why ≡ NoMemory) ⊎ (why ≡ NoSeat)) }
 {
-    let registry = match Registry::<E, O>::new(alloc, rt, engine, count, seen) {
+    engine.keeps_a_prefix(); // for the prover
+    let registry = match Registry::<E, O>::new(alloc, rt, engine, events, count, seen) {
         Ok(registry) => registry,
         Err((why, engine)) => return (engine, Err(why)),
     };
@@ -105,8 +126,8 @@ fn serve_over<
     let flushed = share(rt, &registry, sharing);
     let Ended {
         engine,
+        events: _,
         durable,
-        strangers: _,
     } = registry.end(rt, Vec::new(alloc), Vec::new(alloc));
     let served = Served {
         opened,
@@ -122,8 +143,7 @@ struct ClientThreads<'a, C> {
     client: &'a C,
 }
 
-impl<'a, C: Client<R>, E: StoreEngine, O: Origin, R: Wait> Worker<E, O, R>
-    for ClientThreads<'a, C> {
+impl<'a, C: Client<R>, E: StoreEngine, O: Start, R: Wait> Worker<E, O, R> for ClientThreads<'a, C> {
     fn work(&self, rt: &R, registry: &Registry<E, O>, index: usize) {
         self.client.run(rt, registry, index);
     }
@@ -131,7 +151,7 @@ impl<'a, C: Client<R>, E: StoreEngine, O: Origin, R: Wait> Worker<E, O, R>
 
 // runs a client on its threads, with a flusher beside
 fn share<
-    O: Origin + Send + Sync,
+    O: Start + Send + Sync,
     E: StoreEngine + Send,
     C: Client<R> + Sync,
     R: Threads + Wait + Sync,

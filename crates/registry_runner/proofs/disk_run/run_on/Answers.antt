@@ -4,7 +4,8 @@ use denote.Param.Send.{param_send, arg_send}
 use Rattle.std.proofs.Common.{ℕ, inl, inr, subst, sym}
 use Rattle.engine_send.proofs.EngineCrossing.{engine_send}
 use Rattle.script_loop.proofs.Texts.{if_ok}
-use Rattle.store_driver.specs.Openings.{LeavesPrefix}
+use Rattle.histories.specs.Points.{point_of}
+use Rattle.histories.proofs.Lives.{leaves_history, leaves_life}
 use Rattle.registry_runner.specs.Running.{IsOfStore, RunsFrom}
 use Rattle.registry_runner.specs.declared.parts.PartKind.TheVariants.{Opened}
 use Rattle.registry_runner.specs.declared.parts.PartStart.{PartStart}
@@ -23,43 +24,42 @@ run_parts-engine-requires-clause-number g c κs within = let opened = c.in-Ok.en
 
 pub returns-in-Ok-clause-runs : goal.returns-in-Ok-clause-runs
 returns-in-Ok-clause-runs g c =
+    let D = g.D.Disk in
     let engine = c.in-Ok.engine in
     let opened = c.in-Ok.ensures.ok in
     let number = c.in-Ok.number in
+    let at = point_of engine.machine (D.clock engine.disk) (D.failures engine.disk) in
+    let last = c.run_parts-engine.result.0 in
     let known = g.B.Read.remaining c.args.reader.now in
     let before = g.W.Write.contents c.args.writer.now in
     let after = g.W.Write.contents c.run_parts-engine.new.writer in
     let start : ℕ → PartStart = λ limit. record { kind = Opened; number = number; limit = limit; can_read = c.args.can_read; line = 1; moment = 0 } in
     let same = begins_before engine.store.hives number opened.room opened.trees engine.machine opened.begins in
-    if_ok (λ status. RunsFrom (start c.history_limit.result) engine.machine.opened engine.machine.before engine.machine.bounds.hives known before after status) _ c.run_parts-engine.result.1
-    (λ status runs. inr (record {
+    inr (record {
       first = engine.disk;
       store = engine.store;
       number = number;
       machine = engine.machine;
       opened = opened;
-      runs = run_from engine.machine.bounds.changes number engine.machine.bounds.hives c.args.can_read engine.machine.opened known before after status
-          (subst (λ limit. RunsFrom (start limit) engine.machine.opened number engine.machine.bounds.hives known before after status) c.history_limit.ensures (subst (λ n. RunsFrom (start c.history_limit.result) engine.machine.opened n engine.machine.bounds.hives known before after status) same runs));
-    }))
-    c.run_parts-engine.ensures.runs
+      runs = if_ok (λ status. RunsFrom (start c.history_limit.result) at engine.machine.opened engine.machine.before engine.machine.bounds.hives known before after status) _ c.run_parts-engine.result.1
+          (λ status runs. run_from engine.machine.bounds.changes number engine.machine.bounds.hives c.args.can_read at engine.machine.opened known before after status
+          (subst (λ limit. RunsFrom (start limit) at engine.machine.opened number engine.machine.bounds.hives known before after status) c.history_limit.ensures (subst (λ n. RunsFrom (start c.history_limit.result) at engine.machine.opened n engine.machine.bounds.hives known before after status) same runs)))
+          c.run_parts-engine.ensures.runs;
+      history = c.run_parts-engine.ensures.history.0;
+      last = last.machine;
+      owner = subst (λ n. IsOfStore engine.machine.opened n engine.machine.bounds.hives last.machine) same c.run_parts-engine.ensures.owner;
+      left = (leaves_history D.faithful D.state_at D.clock D.failures engine.store last.store engine.disk last.disk c.into_disk.result engine.machine last.machine c.into_disk.ensures c.run_parts-engine.ensures.store c.run_parts-engine.ensures.history
+          (λ f e. c.reads_a_prefix.ensures.honest f (inl e)) (λ f e. c.reads_a_prefix.ensures.prefix f (inl e)));
+    })
 
 pub returns-in-Ok-clause-left : goal.returns-in-Ok-clause-left
 returns-in-Ok-clause-left g c =
     let D = g.D.Disk in
     let engine = c.in-Ok.engine in
-    let opened = c.in-Ok.ensures.ok in
     let last = c.run_parts-engine.result.0 in
-    inr (record {
-      first = engine.disk;
-      found = engine.store;
-      number = c.in-Ok.number;
-      begun = engine.machine;
-      opened = opened;
-      store = last.store;
-      machine = last.machine;
-      owner = subst (λ n. IsOfStore engine.machine.opened n engine.machine.bounds.hives last.machine) (begins_before c.in-Ok.engine.store.hives c.in-Ok.number opened.room opened.trees engine.machine opened.begins) c.run_parts-engine.ensures.owner;
-      left = subst (λ d. LeavesPrefix (D.faithful d) (D.state_at d) (D.clock d) last.store last.machine) (sym c.into_disk.ensures) (λ f. (c.keeps_a_prefix.ensures f, λ e. c.reads_a_prefix.ensures.prefix f (inl e)));
-    })
+    leaves_life D.faithful D.state_at D.clock D.failures engine.store c.in-Ok.number c.args.disk engine.disk c.into_disk.result engine.machine last.machine c.run_parts-engine.ensures.history.0 c.in-Ok.ensures.failures c.in-Ok.ensures.ok
+    (leaves_history D.faithful D.state_at D.clock D.failures engine.store last.store engine.disk last.disk c.into_disk.result engine.machine last.machine c.into_disk.ensures c.run_parts-engine.ensures.store c.run_parts-engine.ensures.history
+    (λ f e. c.reads_a_prefix.ensures.honest f (inl e)) (λ f e. c.reads_a_prefix.ensures.prefix f (inl e)))
 
 pub returns-in-Err-clause-runs : goal.returns-in-Err-clause-runs
-returns-in-Err-clause-runs g c = if_ok _ _ c.write_refusal.result (λ status said. inl (record { why = c.in-Err.why; may_be = c.in-Err.ensures.err; reported = said.1; status_is = said.0 })) c.write_refusal.ensures
+returns-in-Err-clause-runs g c = inl (if_ok _ _ c.write_refusal.result (λ status said. record { why = c.in-Err.why; may_be = c.in-Err.ensures.err; reported = said.1; status_is = said.0 }) c.write_refusal.ensures)

@@ -18,8 +18,8 @@ returns g c =
     let mid = contents read.new.writer in
     let rest = g.B.Read.remaining read.new.reader in
     let status = c.match-played.status in
-    let on : IfOk status (Plays start.limit start.can_read O.trees O.number O.hives start.line known was old end rest mid) = elim c.match-played.branch [
-      | in-Ok-Ended w ↦ plays start.limit start.can_read O.trees O.number O.hives start.line known was old end rest mid read.result w.in-Ok-Ended.field-0 w.in-Ok-Ended.status status w.in-Ok-Ended.is (rw w.in-Ok-Ended.is at w.in-Ok-Ended.field-0-is) w.status-is read.ensures
-      | in-Err w ↦ if_err (Plays start.limit start.can_read O.trees O.number O.hives start.line known was old end rest mid) w.in-Err.error status w.status-is
+    let on : IfOk status (Plays start.limit start.can_read g.O.Start.start O.trees O.number O.hives start.line known was old end rest mid) = elim c.match-played.branch [
+      | in-Ok-Ended w ↦ plays start.limit start.can_read g.O.Start.start O.trees O.number O.hives start.line known was old end rest mid read.result w.in-Ok-Ended.field-0 w.in-Ok-Ended.status status w.in-Ok-Ended.is (rw w.in-Ok-Ended.is at w.in-Ok-Ended.field-0-is) w.status-is read.ensures
+      | in-Err w ↦ if_err (Plays start.limit start.can_read g.O.Start.start O.trees O.number O.hives start.line known was old end rest mid) w.in-Err.error status w.status-is
     ] in
-    ended start.limit start.can_read O.trees O.number O.hives start.line known was old end (script_of c.flush-flush.new.self) mid (contents c.written_out-played.new.writer) c.flush-flush.result status c.written_out-played.result on c.written_out-played.ensures.same c.flush-flush.ensures
+    ended start.limit start.can_read g.O.Start.start O.trees O.number O.hives start.line known was old end (script_of c.flush-flush.new.self) mid (contents c.written_out-played.new.writer) c.flush-flush.result status c.written_out-played.result on c.written_out-played.ensures.same c.flush-flush.ensures

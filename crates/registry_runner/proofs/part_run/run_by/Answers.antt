@@ -6,4 +6,4 @@ pub returns-in-Err : goal.returns-in-Err
 returns-in-Err g c =
     let O = g.O.Origin in
     let contents = g.W.Write.contents in
-    begins_not c.args.start O.trees O.number O.hives (g.B.Read.remaining c.args.reader.now) (contents c.args.writer.now) (contents c.write_refusal.new.writer) c.in-Err.why c.write_refusal.result (inr (inr c.in-Err.ensures.refused)) c.write_refusal.ensures
+    begins_not c.args.start g.O.Start.start O.trees O.number O.hives (g.B.Read.remaining c.args.reader.now) (contents c.args.writer.now) (contents c.write_refusal.new.writer) c.in-Err.why c.write_refusal.result (inr (inr c.in-Err.ensures.refused)) c.write_refusal.ensures

@@ -22,8 +22,8 @@ returns-in-ToFold g c =
     let rest = remaining call.new.reader in
     let mid = contents call.new.writer in
     let told = subst (λ n. Appends before opened (kind_text start.kind n)) c.requires.number c.in_default.ensures in
-    folds_from start O.trees O.number O.hives known before opened script c.requires.begun told c.in-ToFold.next last rest mid
-    (subst (λ e. PartComes start.limit start.can_read (part O.trees O.number O.hives script) start.line known opened e last rest mid) c.in-ToFold.is call.ensures.ended)
+    folds_from start g.O.Start.start O.trees O.number O.hives known before opened script c.requires.begun told c.in-ToFold.next last rest mid
+    (subst (λ e. PartComes start.limit start.can_read (part g.O.Start.start O.trees O.number O.hives script) start.line known opened e last rest mid) c.in-ToFold.is call.ensures.ended)
 
 pub returns-in-AtEnd : goal.returns-in-AtEnd
 returns-in-AtEnd g c =
@@ -40,5 +40,5 @@ returns-in-AtEnd g c =
     let mid = contents call.new.writer in
     let told = subst (λ n. Appends before opened (kind_text start.kind n)) c.requires.number c.in_default.ensures in
     let at = c.in-AtEnd in
-    ran start O.trees O.number O.hives known before opened script c.requires.begun told mid (contents c.finish.new.writer) last at.flush c.finish.result at.played c.finish.ensures.played c.finish.ensures.reported
-    (subst (λ e. PartComes start.limit start.can_read (part O.trees O.number O.hives script) start.line known opened e last (remaining call.new.reader) mid) at.is call.ensures.ended)
+    ran start g.O.Start.start O.trees O.number O.hives known before opened script c.requires.begun told mid (contents c.finish.new.writer) last at.flush c.finish.result at.played c.finish.ensures.played c.finish.ensures.reported
+    (subst (λ e. PartComes start.limit start.can_read (part g.O.Start.start O.trees O.number O.hives script) start.line known opened e last (remaining call.new.reader) mid) at.is call.ensures.ended)

@@ -1,9 +1,12 @@
-use Rattle.std.proofs.Common.{ℕ, Option, subst}
+use Rattle.std.proofs.Common.{◌∙◌, ℕ, Option, rules, subst}
 use Rattle.std.specs.Prelude.{IfSome}
 use Rattle.store_model.specs.Steps.{Step}
 use Rattle.store_model.specs.declared.event.Event.TheVariants as event
 use Rattle.store_model.specs.declared.event.Reply.TheVariants as reply
-use Rattle.registry_runner.proofs.Folding.{folded_at}
+use Rattle.histories.specs.Points.{point_of}
+use Rattle.histories.proofs.Leading.{led_on}
+use Rattle.registry_runner.specs.Folding.{HistoryStays}
+use Rattle.registry_runner.proofs.Folding.{folded_at, stays_again}
 use Rattle.registry_runner.proofs.parts.fold.Goals as goal
 
 pub returns-in-Some-2-clause-folded : goal.returns-in-Some-2-clause-folded
@@ -13,4 +16,48 @@ returns-in-Some-2-clause-folded g c =
     let new = machine c.ask_fold.new.engine in
     let number = c.in-Some-2.number in
     let step = subst (λ (made : Option ℕ). IfSome made (λ number. Step old event.Fold (reply.Folded number) new)) c.in-Some-2.is c.in_ok-number.ensures.folded in
-    folded_at (machine c.args.engine.now) old new number c.loop.invariant c.requires.sessions step
+    folded_at (machine c.args.engine.now) old new number c.loop.invariant.0 c.requires.sessions step
+
+pub returns-in-Some-2-clause-history : goal.returns-in-Some-2-clause-history
+returns-in-Some-2-clause-history g c =
+    let E = g.E.StoreEngine in
+    let first = c.args.engine.now in
+    let begin = c.loop.engine in
+    let asked = c.ask_fold.new.engine in
+    led_on (point_of (E.machine first) (E.clock first) (E.failures first)) (point_of (E.machine begin) (E.clock begin) (E.failures begin)) (point_of (E.machine asked) (E.clock asked) (E.failures asked))
+    (E.safe first) (E.safe begin) (E.safe asked) (E.faithful first) (E.faithful begin) (E.faithful asked) c.loop.invariant.2 c.ask_fold.ensures.history
+
+pub returns-in_err-number-clause-history : goal.returns-in_err-number-clause-history
+returns-in_err-number-clause-history g c =
+    let E = g.E.StoreEngine in
+    let first = c.args.engine.now in
+    let begin = c.loop.engine in
+    let asked = c.ask_fold.new.engine in
+    led_on (point_of (E.machine first) (E.clock first) (E.failures first)) (point_of (E.machine begin) (E.clock begin) (E.failures begin)) (point_of (E.machine asked) (E.clock asked) (E.failures asked))
+    (E.safe first) (E.safe begin) (E.safe asked) (E.faithful first) (E.faithful begin) (E.faithful asked) c.loop.invariant.2 c.ask_fold.ensures.history
+
+pub returns-in_err-make_durable-clause-history : goal.returns-in_err-make_durable-clause-history
+returns-in_err-make_durable-clause-history g c =
+    let E = g.E.StoreEngine in
+    let first = c.args.engine.now in
+    let begin = c.loop.engine in
+    let asked = c.ask_fold.new.engine in
+    let made = c.make_durable.new.engine in
+    led_on (point_of (E.machine first) (E.clock first) (E.failures first)) (point_of (E.machine asked) (E.clock asked) (E.failures asked)) (point_of (E.machine made) (E.clock made) (E.failures made))
+    (E.safe first) (E.safe asked) (E.safe made) (E.faithful first) (E.faithful asked) (E.faithful made) (led_on (point_of (E.machine first) (E.clock first) (E.failures first)) (point_of (E.machine begin) (E.clock begin) (E.failures begin)) (point_of (E.machine asked) (E.clock asked) (E.failures asked))
+    (E.safe first) (E.safe begin) (E.safe asked) (E.faithful first) (E.faithful begin) (E.faithful asked) c.loop.invariant.2 c.ask_fold.ensures.history) c.make_durable.ensures.history
+
+pub loop-preserved : goal.loop-preserved
+loop-preserved g c =
+    let E = g.E.StoreEngine in
+    let first = c.args.engine.now in
+    let begin = c.loop.engine in
+    let asked = c.ask_fold.new.engine in
+    let made = c.make_durable.new.engine in
+    let waited : HistoryStays (E.machine begin) (E.machine asked) = search rules in (
+      stays_again (E.machine first) (E.machine asked) (E.machine made) (stays_again (E.machine first) (E.machine begin) (E.machine asked) c.loop.invariant.0 waited) c.make_durable.ensures.stays,
+      c.make_durable.ensures.store ∙ c.ask_fold.ensures.store ∙ c.loop.invariant.1,
+      led_on (point_of (E.machine first) (E.clock first) (E.failures first)) (point_of (E.machine asked) (E.clock asked) (E.failures asked)) (point_of (E.machine made) (E.clock made) (E.failures made))
+          (E.safe first) (E.safe asked) (E.safe made) (E.faithful first) (E.faithful asked) (E.faithful made) (led_on (point_of (E.machine first) (E.clock first) (E.failures first)) (point_of (E.machine begin) (E.clock begin) (E.failures begin)) (point_of (E.machine asked) (E.clock asked) (E.failures asked))
+          (E.safe first) (E.safe begin) (E.safe asked) (E.faithful first) (E.faithful begin) (E.faithful asked) c.loop.invariant.2 c.ask_fold.ensures.history) c.make_durable.ensures.history,
+    )

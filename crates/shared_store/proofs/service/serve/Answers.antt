@@ -4,7 +4,8 @@ use denote.Exit.{no}
 use denote.Param.{param}
 use denote.Param.Send.{param_send, arg_send}
 use Rattle.engine_send.proofs.EngineCrossing.{engine_send}
-use Rattle.store_driver.specs.Openings.{IsOpenedOn, LeavesPrefix}
+use Rattle.store_driver.specs.Openings.{IsOpenedOn}
+use Rattle.histories.proofs.Lives.{leaves_history, leaves_life}
 use Rattle.recovery.specs.Recovered.{seen_in}
 use Rattle.shared_store.proofs.service.serve.Goals as goal
 
@@ -16,16 +17,27 @@ pub returns-clause-kept : goal.returns-clause-kept
 returns-clause-kept g c =
     let D = g.D.Disk in
     let first = c.in-Ok.begun.0 in
-    let engine = c.serve_over-engine.result.0 in
-    let left = subst (λ d. LeavesPrefix (D.faithful d) (D.state_at d) (D.clock d) engine.store engine.machine) (sym c.into_disk.ensures) (λ f. (c.keeps_a_prefix.ensures f, λ e. c.reads_a_prefix.ensures.prefix f (inl e))) in
-    IfOk-weaker c.serve_over-engine.result.1 _ _ (λ served is. record {
+    let call = c.serve_over-engine in
+    let engine = call.result.0 in
+    IfOk-weaker call.result.1 _ _ (λ served is. record {
       first = first.disk;
-      found = first.store;
+      store = first.store;
       begun = first.machine;
       opened = subst (λ n. IsOpenedOn (D.faithful first.disk) (seen_in (D.state_at c.args.disk (D.clock c.args.disk))) first.store n [] first.machine) (sym is.0) c.in-Ok.ensures.ok;
-      store = engine.store;
+      history = call.ensures.history.0;
       last = engine.machine;
-      owner = c.serve_over-engine.ensures.owner;
+      owner = call.ensures.owner;
       durable_is = sym is.1;
-      left = left;
-    }) c.serve_over-engine.ensures.numbers
+      left = leaves_history D.faithful D.state_at D.clock D.failures first.store engine.store first.disk engine.disk c.into_disk.result first.machine engine.machine c.into_disk.ensures call.ensures.store call.ensures.history
+          (λ f e. c.reads_a_prefix.ensures.honest f (inl e)) (λ f e. c.reads_a_prefix.ensures.prefix f (inl e));
+    }) call.ensures.numbers
+
+pub returns-clause-left : goal.returns-clause-left
+returns-clause-left g c =
+    let D = g.D.Disk in
+    let first = c.in-Ok.begun.0 in
+    let call = c.serve_over-engine in
+    let engine = call.result.0 in
+    leaves_life D.faithful D.state_at D.clock D.failures first.store c.in-Ok.begun.1 c.args.disk first.disk c.into_disk.result first.machine engine.machine call.ensures.history.0 c.in-Ok.ensures.failures c.in-Ok.ensures.ok
+    (leaves_history D.faithful D.state_at D.clock D.failures first.store engine.store first.disk engine.disk c.into_disk.result first.machine engine.machine c.into_disk.ensures call.ensures.store call.ensures.history
+    (λ f e. c.reads_a_prefix.ensures.honest f (inl e)) (λ f e. c.reads_a_prefix.ensures.prefix f (inl e)))

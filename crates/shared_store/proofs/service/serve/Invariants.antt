@@ -1,5 +1,13 @@
+use Rattle.engine_invariant.specs.Prefixes.{IsSafeAt}
+use Rattle.histories.specs.Points.{point_of}
 use Rattle.shared_store.proofs.service.serve.Given as goal
 
 -- the registry over the store that was just opened
-abbrev pub ghosts-serve_over : goal.ghosts-serve_over
-ghosts-serve_over g a = record { book = a.count; trees = a.engine.machine.opened; number = a.engine.machine.before; hives = a.engine.machine.bounds.hives }
+abbrev pub ghosts-serve_over-O-Origin : goal.ghosts-serve_over-O-Origin
+ghosts-serve_over-O-Origin g a = record { book = a.count; trees = a.engine.machine.opened; number = a.engine.machine.before; hives = a.engine.machine.bounds.hives }
+
+abbrev pub ghosts-serve_over-O-Start : goal.ghosts-serve_over-O-Start
+ghosts-serve_over-O-Start g a =
+    let D = g.D.Disk in
+    let disk = a.engine.disk in
+    record { history = a.events.book; start = point_of a.engine.machine (D.clock disk) (D.failures disk); store = a.engine.store; faithful = D.faithful disk; safe = λ moment machine. IsSafeAt a.engine.store (D.state_at disk) moment machine }

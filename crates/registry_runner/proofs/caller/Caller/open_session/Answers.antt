@@ -1,8 +1,7 @@
-use Rattle.std.proofs.Common.{[]}
 use Rattle.store_model.specs.declared.event.Event.TheVariants as event
 use Rattle.registry_runner.proofs.caller.Caller.open_session.Goals as goal
 
 pub returns-in-Err-clause-refused : goal.returns-in-Err-clause-refused
 returns-in-Err-clause-refused g c =
     let d = c.in-Err.ensures.denied in
-    c.refusal_of.ensures g.O.Origin.trees g.O.Origin.number g.O.Origin.hives [] d.1 (event.StartSession d.0) d.2
+    c.refusal_of.ensures g.O.Start.start g.O.Origin.trees g.O.Origin.number g.O.Origin.hives d.0 d.1.1 (event.StartSession d.1.0) d.1.2

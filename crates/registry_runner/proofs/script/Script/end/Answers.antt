@@ -1,11 +1,20 @@
-use Rattle.std.proofs.Common.{inr}
+use Rattle.std.proofs.Common.{ap, inr}
 use Rattle.store_model.specs.declared.event.Event.TheVariants as event
+use Rattle.registry_runner.specs.Scripts.{Script}
 use Rattle.registry_runner.proofs.Hearing.{ends_heard}
 use Rattle.registry_runner.proofs.script.Script.end.Goals as goal
 
 pub returns-in-Some-clause-ok : goal.returns-in-Some-clause-ok
 returns-in-Some-clause-ok g c =
     let O = g.O.Origin in
-    let session = c.in-Some.session.number in
-    let heard = ends_heard O.trees O.number O.hives session (event.EndSession session) c.end_session-answer.result c.reply_to.result c.reply_to.ensures c.end_session-answer.ensures.told c.end_session-answer.ensures.denied in
-    inr (session, heard.0, heard.1, c.take.ensures.some)
+    let session = c.in-Some.session in
+    let call = c.leave_session-answer in
+    inr (
+      session.number,
+      session.seen,
+      call.result.1,
+      ends_heard g.O.Start.start O.trees O.number O.hives session.number session.seen call.result.1 (event.EndSession session.number) call.result.0 c.reply_to.result c.reply_to.ensures call.ensures.told call.ensures.denied,
+      ap (λ (s : Script). record s { session = c.see.new.self }) c.take.ensures.some,
+      c.in-Some.ensures.seen,
+      c.see.ensures.learnt,
+    )
