@@ -6,3 +6,4 @@ pub mod Joined
 pub mod FieldTexts
 pub mod Columns
 pub mod Singles
+mod Blocks

@@ -1,11 +1,13 @@
 //! How the units of a registration file become bytes.
-ghost use Rattle.std.specs.Prelude.{◌≡◌, OnOk, ◌∷◌, []};
+ghost use Rattle.std.specs.Prelude.{◌≡◌, ◌+◌, ◌≤◌, ◌++◌, ℕ, List, OnOk, ◌∷◌, []};
+ghost use Rattle.arrayvec.specs.ArrayVec.{array_vec_len};
 ghost use Rattle.std.specs.List.{flat_map, list_all};
 ghost use Rattle.std.specs.Int.{w16, to_le_bytes};
 ghost use Rattle.std.specs.Io.KnownBytes.{Appends};
 ghost use Rattle.reg_export.specs.Characters.{IsSurrogatePair};
 ghost use Rattle.reg_export.specs.Encodings.{Prints, is_ascii, mark};
 
+use crate::block::{BLOCK_BYTES, Block, add};
 use crate::characters::{pair_char, write_found};
 use std::io;
 use std::io::{ErrorKind, Write};
@@ -120,13 +122,28 @@ fn write_wide_unit<W: Write>(writer: &mut W, unit: u16) -> io::Result<()>
     writer.write_all(&unit.to_le_bytes())
 }
 
-// two bytes for each unit
+// two bytes for each unit, a block at a time
 fn write_wide<W: Write>(writer: &mut W, text: &[u8]) -> io::Result<()>
     ensures { OnOk result (Appends (W.contents writer.old) (W.contents writer.new)
         (flat_map (to_le_bytes w16) text.now)) }
 {
+    let mut block = Block::new();
     for byte in text {
-        writer.write_all(&u16::from(*byte).to_le_bytes())?;
+        make_room(writer, &mut block)?;
+        add(&mut block, &u16::from(*byte).to_le_bytes());
+    }
+    writer.write_all(block.as_slice())
+}
+
+// writes the bytes of a block that has no room for another unit
+fn make_room<W: Write>(writer: &mut W, block: &mut Block) -> io::Result<()>
+    ensures room { OnOk result (array_vec_len block.new + 2 ≤ 128) }
+    ensures written { OnOk result ((text : List ℕ) × Appends (W.contents writer.old) (W.contents writer.new) text
+        × (text ++ block.new.items ≡ block.old.items)) }
+{
+    if block.len() > BLOCK_BYTES - 2 {
+        writer.write_all(block.as_slice())?;
+        block.clear();
     }
     Ok(())
 }

@@ -8,6 +8,7 @@
 //! A text is written in small pieces: whoever calls hands in a writer with a buffer.
 #![tactic(auto)]
 
+mod block;
 mod byte_units;
 mod characters;
 mod encoding;

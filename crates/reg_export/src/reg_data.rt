@@ -1,5 +1,6 @@
 //! Types and data of values in a registration file.
-ghost use Rattle.std.specs.Prelude.{◌≡◌, ◌*◌, OnOk, IfOk, length};
+ghost use Rattle.std.specs.Prelude.{◌≡◌, ◌+◌, ◌*◌, ◌≤◌, ◌++◌, ℕ, List, OnOk, IfOk, length};
+ghost use Rattle.arrayvec.specs.ArrayVec.{array_vec_len};
 ghost use Rattle.hex.specs.Hex.{encode_lower};
 ghost use Rattle.std.specs.List.{flat_map, list_all};
 ghost use Rattle.reg_names.specs.Printable.{is_printable};
@@ -7,6 +8,7 @@ ghost use Rattle.reg_export.specs.ByteUnits.{units_of, is_plain_text, front_unit
 ghost use Rattle.reg_export.specs.Encodings.{Prints};
 ghost use Rattle.reg_export.specs.RegTexts.{data_text, number_text, list_text, list_label, byte_list, quoted, next_byte, separator, next_column, at_columns};
 
+use crate::block::{BLOCK_BYTES, Block, add};
 use crate::byte_units::first_unit;
 use crate::encoding::{Encoding, write_text};
 use crate::reg_units::write_quoted_byte_units;
@@ -35,6 +37,9 @@ const LINE_START: usize = 2;
 
 /// The columns of a byte and the comma after it.
 const BYTE_COLUMNS: usize = 3;
+
+/// The most bytes of text that a byte after another takes: a comma, a line's end, two blanks and two digits.
+const NEXT_BYTES: usize = 8;
 
 /// Writes type and data of a value, whose line has so many units before them.
 pub(crate) fn write_data<W: Write>(
@@ -164,7 +169,7 @@ fn write_bytes<W: Write>(
     write_next_bytes(writer, encoding, column_after(column), rest)
 }
 
-// bytes after another, the first of them at this column
+// bytes after another, the first of them at this column; they are written a block at a time
 fn write_next_bytes<W: Write>(
     writer: &mut W,
     encoding: Encoding,
@@ -175,35 +180,50 @@ fn write_next_bytes<W: Write>(
         (flat_map next_byte (at_columns column bytes.now))) }
 {
     let mut column = column;
+    let mut block = Block::new();
     for byte in bytes {
-        write_next_byte(writer, encoding, column, *byte)?;
+        make_room(writer, encoding, &mut block)?;
+        add_next_byte(&mut block, column, *byte);
         column = column_after(column);
+    }
+    write_text(writer, encoding, block.as_slice())
+}
+
+// writes the text of a block that has no room for another byte
+fn make_room<W: Write>(writer: &mut W, encoding: Encoding, block: &mut Block) -> io::Result<()>
+    ensures room { OnOk result (array_vec_len block.new + 8 ≤ 128) }
+    ensures printed { OnOk result ((text : List ℕ)
+        × Prints encoding (W.contents writer.old) (W.contents writer.new) text
+        × (text ++ block.new.items ≡ block.old.items)) }
+{
+    if block.len() > BLOCK_BYTES - NEXT_BYTES {
+        write_text(writer, encoding, block.as_slice())?;
+        block.clear();
     }
     Ok(())
 }
 
 // a byte after another, at this column
-fn write_next_byte<W: Write>(
-    writer: &mut W,
-    encoding: Encoding,
-    column: usize,
-    byte: u8,
-) -> io::Result<()>
-    ensures { OnOk result (Prints encoding (W.contents writer.old) (W.contents writer.new)
-        (next_byte (column, byte))) }
+fn add_next_byte(block: &mut Block, column: usize, byte: u8)
+    requires room { array_vec_len block.old + 8 ≤ 128 }
+    ensures { block.new.items ≡ block.old.items ++ next_byte (column, byte) }
 {
-    write_separator(writer, encoding, column)?;
-    write_digits(writer, encoding, &[byte], &mut [0; 2])
+    let mut digits = [0; 2];
+    if hex::encode_to_slice(&[byte], &mut digits).is_err() {
+        unreachable!()
+    }
+    add(block, separator(column));
+    add(block, &digits);
 }
 
 // what stands before a byte at this column and after another
-fn write_separator<W: Write>(writer: &mut W, encoding: Encoding, column: usize) -> io::Result<()>
-    ensures { OnOk result (Prints encoding (W.contents writer.old) (W.contents writer.new)
-        (separator column)) }
+fn separator(column: usize) -> &'static [u8]
+    ensures text { result.now ≡ separator column }
+    ensures fits { length result.now ≤ 6 }
 {
     match column {
-        LINE_START => write_text(writer, encoding, b",\\\r\n  "),
-        _ => write_text(writer, encoding, b","),
+        LINE_START => b",\\\r\n  ".as_slice(),
+        _ => b",".as_slice(),
     }
 }
 
