@@ -2,13 +2,14 @@
 use Rattle.std.proofs.Common.{◌≡◌, ℕ, ◌+◌, ◌<◌, ◌≤◌, true, List, [], ◌∷◌, ◌++◌, map, refl, ap, sym, subst, ◌∙◌, arith, append_assoc, le_refl, ◌⊎◌, ⊎_elim, inl, inr}
 use Rattle.std.proofs.lemmas.Bool.Decides.{nat_tests}
 use mathlib.Core.List.{IsPrefix}
+use Rattle.refusals.specs.declared.refusal.Refusal.{Refusal}
 use Rattle.refusals.specs.declared.refusal.Refusal.TheVariants.{DiskFault}
-use Rattle.store_model.specs.Machine.{Machine}
-use Rattle.store_model.specs.Steps.{Run}
+use Rattle.store_model.specs.Machine.{Machine, is_of_device}
+use Rattle.store_model.specs.Steps.{Run, Step}
 use Rattle.store_model.specs.declared.event.Reply.{Reply}
 use Rattle.store_model.specs.declared.event.Reply.TheVariants.{Refused}
 use Rattle.store_model.proofs.Accepting.{bounds_stay}
-use Rattle.store_model.proofs.Failing.{faults}
+use Rattle.store_model.proofs.Failing.{faults, told_faulted}
 use Rattle.histories.specs.Points.{HistoryEntry, Point}
 use Rattle.histories.specs.Histories.{AreSafe, Continues, HasBoundary, IsHistory, end_of}
 
@@ -135,6 +136,25 @@ faulted_since from (x ∷ xs) h is =
         | inr broke ↦ inr (let rose = h.0.failed broke.0 in let all : from.failures < (end_of x.after xs).failures = omega (arith, rose, more) in all)
       ]
       | inr rose ↦ inr (let first = failed_or_not from x h.0 in let all : from.failures < (end_of x.after xs).failures = omega (arith, first, rose) in all)
+    ]
+
+-- a refusal about the device is told only if the store was faulted at the start, or the device has failed since
+pub fault_told : (start : Point) (past rest : List HistoryEntry) (x : HistoryEntry) (why : Refusal) → IsHistory start (past ++ x ∷ rest) → x.reply ≡ Refused why → is_of_device why ≡ true → (start.machine.faulted ≡ true) ⊎ (start.failures < (end_of start (past ++ x ∷ rest)).failures)
+fault_told start [] rest x why h told about =
+    let more = failures_grow x.after rest h.1 in
+    let step = subst (λ (r : Reply). Step start.machine x.event r x.after.machine) told h.0.step in
+    elim (faults start.machine x.after.machine x.event x.reply h.0.step) [
+      | inl same ↦ inl (sym same ∙ told_faulted start.machine x.after.machine why about x.event step)
+      | inr broke ↦ inr (let rose = h.0.failed broke.0 in let all : start.failures < (end_of x.after rest).failures = omega (arith, rose, more) in all)
+    ]
+fault_told start (y ∷ past) rest x why h told about =
+    let more = failures_grow y.after (past ++ x ∷ rest) h.1 in
+    elim (fault_told y.after past rest x why h.1 told about) [
+      | inl was ↦ elim (faults start.machine y.after.machine y.event y.reply h.0.step) [
+        | inl same ↦ inl (sym same ∙ was)
+        | inr broke ↦ inr (let rose = h.0.failed broke.0 in let all : start.failures < (end_of y.after (past ++ x ∷ rest)).failures = omega (arith, rose, more) in all)
+      ]
+      | inr rose ↦ inr (let first = failed_or_not start y h.0 in let all : start.failures < (end_of y.after (past ++ x ∷ rest)).failures = omega (arith, first, rose) in all)
     ]
 
 -- a history is a run of the machine

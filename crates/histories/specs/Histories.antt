@@ -1,19 +1,22 @@
 -- Histories: events one after another, and what a crash at each moment of them leaves.
-use Rattle.std.specs.Prelude.{◌≡◌, ℕ, ◌+◌, ◌<◌, ◌≤◌, List, [], ◌∷◌, ◌++◌, ⊤}
+use Rattle.std.specs.Prelude.{◌≡◌, ℕ, ◌+◌, ◌<◌, ◌≤◌, false, List, [], ◌∷◌, ◌++◌, ⊤}
 use Rattle.refusals.specs.declared.refusal.Refusal.TheVariants.{DiskFault}
-use Rattle.store_model.specs.Machine.{Machine}
+use Rattle.disk_model.specs.declared.progress.Progress.TheVariants.{Idle}
+use Rattle.store_model.specs.Machine.{Machine, last_number}
 use Rattle.store_model.specs.Steps.{Step}
-use Rattle.store_model.specs.declared.event.Reply.TheVariants.{Refused}
+use Rattle.store_model.specs.declared.event.Event.TheVariants.{JournalStep}
+use Rattle.store_model.specs.declared.event.Reply.TheVariants.{Refused, Stepped}
 use Rattle.histories.specs.Points.{Point, HistoryEntry}
 
 -- An event is a step of the machine, with at most one call of the device. That the device failed is answered exactly if
--- it did, in this event.
+-- it did, in this event. A step of the journal is answered that there is nothing to do only if all is durable.
 pub record Continues (from : Point) (entry : HistoryEntry) : Type 0 where
   pub step : Step from.machine entry.event entry.reply entry.after.machine
   pub later : from.clock ≤ entry.after.clock
   pub one : entry.after.clock ≤ from.clock + 1
   pub failed : entry.reply ≡ Refused DiskFault → from.failures < entry.after.failures
   pub works : ¬ (entry.reply ≡ Refused DiskFault) → entry.after.failures ≡ from.failures
+  pub idle : from.machine.faulted ≡ false → entry.event ≡ JournalStep → entry.reply ≡ Stepped Idle → from.machine.durable ≡ last_number from.machine
 
 -- events one after another, from a moment on
 abbrev pub IsHistory : Point → List HistoryEntry → Type 0

@@ -1,6 +1,9 @@
-//! A law of histories.
-ghost use Rattle.std.specs.Prelude.{◌≤◌, ℕ, List};
+//! Laws of histories.
+ghost use Rattle.std.specs.Prelude.{◌≡◌, ◌⊎◌, ◌<◌, ◌≤◌, ◌++◌, ◌∷◌, ℕ, List, true};
 ghost use mathlib.Core.List.{IsPrefix};
+ghost use Rattle.refusals.specs.declared.refusal.Refusal.{Refusal};
+ghost use Rattle.store_model.specs.Machine.{is_of_device};
+ghost use Rattle.store_model.specs.declared.event.Reply.TheVariants.{Refused};
 ghost use Rattle.histories.specs.Points.{HistoryEntry, Point};
 ghost use Rattle.histories.specs.Histories.{AreSafe, HasBoundary, IsHistory, end_of};
 
@@ -20,3 +23,11 @@ pub fn moments_are_safe<E: StoreEngine>(engine: &E)
 {
     let _ = engine;
 }
+
+/// A refusal that is about the device is answered in a history only if the device failed in it. Or the store was faulted
+/// as it began.
+pub fn faults_are_failures()
+    ensures { (start : Point) (past rest : List HistoryEntry) (entry : HistoryEntry) (why : Refusal) →
+        IsHistory start (past ++ entry ∷ rest) → entry.reply ≡ Refused why → is_of_device why ≡ true →
+        (start.machine.faulted ≡ true) ⊎ (start.failures < (end_of start (past ++ entry ∷ rest)).failures) }
+{}
