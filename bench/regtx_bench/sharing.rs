@@ -57,7 +57,7 @@ fn measure_shared<
         engine: _,
         events: _,
         durable: _,
-    } = registry.end(rt, Vec::new(alloc), Vec::new(alloc));
+    } = registry.end(rt, &[], &[]);
     done
 }
 

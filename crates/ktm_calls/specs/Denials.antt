@@ -41,24 +41,35 @@ abbrev pub IsOpened : Point → List TreeMap → ℕ → ℕ → Sight → Numbe
 IsOpened start trees number hives was session told = Tells start trees number hives was session.seen (event.StartSession session.number) told × SeesMore was session.seen × ¬ (IsRefusal told.reply)
 
 -- a session was not opened: there was no memory, or its event was refused
-abbrev pub IsNotOpened : Point → List TreeMap → ℕ → ℕ → Sight → Denied → Type 0
-IsNotOpened start trees number hives was why = (session : ℕ) × (is : Sight) × IsDenied start trees number hives was is (event.StartSession session) why
+abbrev pub IsNotOpened : Point → List TreeMap → ℕ → ℕ → Sight → Sight → Denied → Type 0
+IsNotOpened start trees number hives was is why = (session : ℕ) × IsDenied start trees number hives was is (event.StartSession session) why
 
--- what became of a session that was to be opened
-abbrev pub OpensOrNot : {O : Type 0} → Point → List TreeMap → ℕ → ℕ → Sight → OpenResult O → Type 0
-OpensOrNot start trees number hives was (opening.Session session told) = IsOpened start trees number hives was session told
-OpensOrNot start trees number hives was (opening.Refused told) = (session : ℕ) × (is : Sight) × Tells start trees number hives was is (event.StartSession session) told × IsRefusal told.reply
-OpensOrNot start trees number hives was opening.NoMemory = ⊤
+-- what became of a session that was to be opened, and what is seen then
+abbrev pub OpensOrNot : {O : Type 0} → Point → List TreeMap → ℕ → ℕ → Sight → Sight → OpenResult O → Type 0
+OpensOrNot start trees number hives was is (opening.Session session told) = IsOpened start trees number hives was session told × (session.seen ≡ is)
+OpensOrNot start trees number hives was is (opening.Refused told) = (session : ℕ) × Tells start trees number hives was is (event.StartSession session) told × IsRefusal told.reply
+OpensOrNot start trees number hives was is opening.NoMemory = ⊤
 
--- what was waited for was refused since the device failed, or there was no memory for a step of the journal
-abbrev pub IsWaitDenied : ℕ → Denied → Type 0
-IsWaitDenied number denied.NoMemory = ⊤
-IsWaitDenied number (denied.Told told) = WaitFails number told
+-- What was waited for was refused since the device failed, as the last of what is seen then. Or there was no memory for a
+-- step of the journal.
+abbrev pub IsWaitDenied : Point → List TreeMap → ℕ → ℕ → ℕ → Sight → Denied → Type 0
+IsWaitDenied start trees number hives awaited is denied.NoMemory = ⊤
+IsWaitDenied start trees number hives awaited is (denied.Told told) = (was : Sight) × WaitFails start trees number hives awaited was is told
+
+-- The event was answered with a number, and the wait for it was refused: the change that it may have accepted stays.
+pub record IsUndecided (start : Point) (trees : List TreeMap) (number hives : ℕ) (was is : Sight) (event : Event) (why : Denied) : Type 0 where
+  pub mid : Sight
+  pub told : Told
+  pub own : Tells start trees number hives was mid event told
+  pub later : SeesMore mid is
+  pub awaited : ℕ
+  pub answer : told.reply ≡ reply.Awaits awaited
+  pub denied : IsWaitDenied start trees number hives awaited is why
 
 -- The call's own event was refused; or it was answered, and the wait for what it answered was refused.
-abbrev pub IsCommitDenied : Point → List TreeMap → ℕ → ℕ → Sight → Event → Denied → Type 0
-IsCommitDenied start trees number hives was event why =
-    ((is : Sight) × IsDenied start trees number hives was is event why) ⊎ ((awaited : ℕ) × IsWaitDenied awaited why)
+abbrev pub IsCommitDenied : Point → List TreeMap → ℕ → ℕ → Sight → Sight → Event → Denied → Type 0
+IsCommitDenied start trees number hives was is event why =
+    IsDenied start trees number hives was is event why ⊎ IsUndecided start trees number hives was is event why
 
 abbrev pub IsStepOrStop : Turn → Type 0
 IsStepOrStop (turn.Step told) = is_step_kind told.kind ≡ true

@@ -1,6 +1,8 @@
 -- What becomes of the holds of those who wait for a change, and of the flusher.
-use Rattle.std.specs.Prelude.{◌≡◌, ℕ, ◌<◌, ◌+◌, ◌⊎◌, Bool, true, false, length, ⊤}
+use Rattle.std.specs.Prelude.{◌≡◌, ℕ, ◌<◌, ◌+◌, ◌⊎◌, Bool, true, false, List, length, ⊤}
 use Rattle.refusals.specs.declared.refusal.Refusal.TheVariants.{DiskFault, Faulted}
+use Rattle.reg_tree.specs.Maps.{TreeMap}
+use Rattle.histories.specs.Points.{Point}
 use Rattle.store_model.specs.Machine.{Machine}
 use Rattle.store_model.specs.declared.event.Event.{Event}
 use Rattle.store_model.specs.declared.event.Event.TheVariants as event
@@ -9,7 +11,7 @@ use Rattle.store_model.specs.declared.event.Reply.TheVariants as reply
 use Rattle.ktm_calls.specs.declared.event_kind.EventKind.{EventKind}
 use Rattle.ktm_calls.specs.declared.event_kind.EventKind.TheVariants as kind
 use Rattle.ktm_calls.specs.Kinds.{Told}
-use Rattle.ktm_calls.specs.Moments.{Sight}
+use Rattle.ktm_calls.specs.Moments.{Sight, Tells}
 use Rattle.ktm_calls.specs.declared.waiting.WaitResult.{WaitResult}
 use Rattle.ktm_calls.specs.declared.waiting.WaitResult.TheVariants as waited
 use Rattle.ktm_calls.specs.declared.waiting.CheckpointResult.{CheckpointResult}
@@ -22,16 +24,18 @@ abbrev pub HasFailed : Reply → Type 0
 HasFailed (reply.Refused why) = (why ≡ DiskFault) ⊎ (why ≡ Faulted)
 HasFailed _ = ⊥
 
--- the question whether a number is durable, or a step of the journal, was refused since the device failed
-abbrev pub WaitFails : ℕ → Told → Type 0
-WaitFails number told = ((told.kind ≡ kind.Acked number) ⊎ (told.kind ≡ kind.JournalStep)) × HasFailed told.reply
+-- The question whether a number is durable, or a step of the journal, was refused since the device failed. That is the
+-- last of what is seen then.
+abbrev pub WaitFails : Point → List TreeMap → ℕ → ℕ → ℕ → Sight → Sight → Told → Type 0
+WaitFails start trees number hives awaited was is told =
+    (Tells start trees number hives was is (event.Acked awaited) told ⊎ Tells start trees number hives was is event.JournalStep told) × HasFailed told.reply
 
 -- a receipt has the number that was asked for, and all that is seen
-abbrev pub EndsWait : {O : Type 0} → ℕ → Sight → WaitResult O → Type 0
-EndsWait number seen (waited.Again mode) = ⊤
-EndsWait number seen (waited.Done receipt) = receipt ≡ record { number = number; seen = seen }
-EndsWait number seen (waited.Refused told) = WaitFails number told
-EndsWait number seen waited.NoMemory = ⊤
+abbrev pub EndsWait : {O : Type 0} → Point → List TreeMap → ℕ → ℕ → ℕ → Sight → Sight → WaitResult O → Type 0
+EndsWait start trees number hives awaited was is (waited.Again mode) = ⊤
+EndsWait start trees number hives awaited was is (waited.Done receipt) = receipt ≡ record { number = awaited; seen = is }
+EndsWait start trees number hives awaited was is (waited.Refused told) = WaitFails start trees number hives awaited was is told
+EndsWait start trees number hives awaited was is waited.NoMemory = ⊤
 
 -- the kinds of the flusher's events
 abbrev pub is_step_kind : EventKind → Bool

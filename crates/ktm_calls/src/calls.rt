@@ -325,7 +325,8 @@ impl<E: StoreEngine, O: Start> Registry<E, O> {
         ensures told { IfOk result (λ r. TellsDurably O.start O.trees O.number O.hives session.old.seen session.new.seen
             event.FlushAsk r.0 r.1) }
         ensures all { IfOk result (λ r. O.number + length session.old.seen.list ≤ r.0.number) }
-        ensures denied { IfErr result (IsCommitDenied O.start O.trees O.number O.hives session.old.seen event.FlushAsk) }
+        ensures denied { IfErr result (IsCommitDenied O.start O.trees O.number O.hives session.old.seen session.new.seen
+            event.FlushAsk) }
     {
         let answer = self.serve_durably(rt, session, Event::FlushAsk, MemoryPolicy::GiveUp)?;
         Ok(answer)

@@ -399,14 +399,14 @@ impl<E: StoreEngine, O: Start> Locked<E, O> {
         }
     }
 
-    /// Opens a session that has seen more than this, whose number is its reader's place. If all readers are out, the
-    /// engine is asked with the number of none, and refuses.
-    pub(crate) fn start_session<R: Wait>(&mut self, rt: &R, mine: Sight<O>) -> OpenResult<O>
-        ensures { OpensOrNot O.start O.trees O.number O.hives mine result }
+    /// Opens a session after what was seen, whose number is its reader's place. What is seen then ends with its event. If
+    /// all readers are out, the engine is asked with the number of none, and refuses.
+    pub(crate) fn start_session<R: Wait>(&mut self, rt: &R, mine: &mut Sight<O>) -> OpenResult<O>
+        ensures seen { SeesMore mine.old mine.new }
+        ensures opens { OpensOrNot O.start O.trees O.number O.hives mine.old mine.new result }
     {
-        let mut mine = mine;
         let (number, reader) = take_reader(&mut self.readers);
-        let answer = self.serve(rt, &mut mine, Event::StartSession { session: number });
+        let answer = self.serve(rt, mine, Event::StartSession { session: number });
         let Ok(told) = answer else {
             self.give_back(number, reader);
             return OpenResult::NoMemory;
@@ -416,7 +416,10 @@ impl<E: StoreEngine, O: Start> Locked<E, O> {
             return OpenResult::Refused(told);
         }
         let hives = self.hives();
-        OpenResult::Session(Session::new(self.alloc, number, reader, mine, hives), told)
+        OpenResult::Session(
+            Session::new(self.alloc, number, reader, mine.again(), hives),
+            told,
+        )
     }
 
     /// Ends a session. Its reader is there again, also if the event is refused.

@@ -163,27 +163,30 @@ impl<E: StoreEngine, O: Start> Registry<E, O> {
     pub fn session<R: Wait>(&self, rt: &R) -> Result<(Session<O>, Told), Denied>
         ensures opened { IfOk result (λ made. (was : AnySight)
             × IsOpened O.start O.trees O.number O.hives was made.0 made.1) }
-        ensures denied { IfErr result (λ why. (was : AnySight)
-            × IsNotOpened O.start O.trees O.number O.hives was why) }
+        ensures denied { IfErr result (λ why. (was is : AnySight)
+            × IsNotOpened O.start O.trees O.number O.hives was is why) }
     {
         let mut guard = self.lock.lock(rt);
-        let all = (&*guard).sight();
-        let opened = (&mut *guard).start_session(rt, all);
+        let mut all = (&*guard).sight();
+        let opened = (&mut *guard).start_session(rt, &mut all);
         let _ = MutexGuard::unlock(guard);
         open_result(opened)
     }
 
-    /// The same after what was seen, such as by another session of the caller's. The session has seen that, too.
+    /// The same after what was seen, such as by another session of the caller's. The session has seen that, too. What is
+    /// seen then ends with the session's event, also if it is refused.
     pub fn session_after<R: Wait>(
         &self,
         rt: &R,
-        seen: &Sight<O>,
+        seen: &mut Sight<O>,
     ) -> Result<(Session<O>, Told), Denied>
-        ensures opened { IfOk result (λ made. IsOpened O.start O.trees O.number O.hives seen.now made.0 made.1) }
-        ensures denied { IfErr result (IsNotOpened O.start O.trees O.number O.hives seen.now) }
+        ensures seen { SeesMore seen.old seen.new }
+        ensures opened { IfOk result (λ made. IsOpened O.start O.trees O.number O.hives seen.old made.0 made.1
+            × (made.0.seen ≡ seen.new)) }
+        ensures denied { IfErr result (IsNotOpened O.start O.trees O.number O.hives seen.old seen.new) }
     {
         let mut guard = self.lock.lock(rt);
-        let opened = (&mut *guard).start_session(rt, seen.again());
+        let opened = (&mut *guard).start_session(rt, seen);
         let _ = MutexGuard::unlock(guard);
         open_result(opened)
     }
@@ -230,7 +233,7 @@ impl<E: StoreEngine, O: Start> Registry<E, O> {
     ///
     /// If all that was accepted is durable, `Event::Fold` folds the history then, and [`Registry::new`] may take the
     /// engine again, as [`crate::laws`] says.
-    pub fn end<R: Wait>(self, rt: &R, sights: Vec<Sight<O>>, receipts: Vec<Receipt<O>>) -> Ended<E>
+    pub fn end<R: Wait>(self, rt: &R, sights: &[Sight<O>], receipts: &[Receipt<O>]) -> Ended<E>
         ensures owner { IsOf O.trees O.number O.hives (E.machine result.engine) }
         ensures closed { (E.machine result.engine).sessions ≡ [] }
         ensures durable { result.durable ≡ (E.machine result.engine).durable }
@@ -238,8 +241,8 @@ impl<E: StoreEngine, O: Start> Registry<E, O> {
         ensures history { LeadsTo O.start O.safe O.faithful (E.safe result.engine) (E.faithful result.engine)
             result.events.log
             (point_of (E.machine result.engine) (E.clock result.engine) (E.failures result.engine)) }
-        ensures receipts { (i : ℕ) (r : NumberedSight) → slice_get receipts.items i ≡ Some r → r.number ≤ result.durable }
-        ensures seen { (i : ℕ) (s : AnySight) → slice_get sights.items i ≡ Some s →
+        ensures receipts { (i : ℕ) (r : NumberedSight) → slice_get receipts.now i ≡ Some r → r.number ≤ result.durable }
+        ensures seen { (i : ℕ) (s : AnySight) → slice_get sights.now i ≡ Some s →
             IsPrefix s.list (E.machine result.engine).accepted × IsPrefix s.history result.events.log }
     {
         let Registry {
@@ -250,10 +253,10 @@ impl<E: StoreEngine, O: Start> Registry<E, O> {
             last_batch: _,
         } = self;
         let locked = lock.into_inner();
-        begin_list(rt, &locked, &sights); // for the prover
+        begin_list(rt, &locked, sights); // for the prover
         let (engine, events) = locked.close(rt);
-        begin_history::<O, R>(rt, &events, &sights); // for the prover
-        are_durable(rt, &events, &receipts); // for the prover
+        begin_history::<O, R>(rt, &events, sights); // for the prover
+        are_durable(rt, &events, receipts); // for the prover
         let durable = engine.durable();
         Ended {
             engine,
@@ -345,7 +348,8 @@ impl<E: StoreEngine, O: Start> Registry<E, O> {
         ensures number { session.new.number ≡ session.old.number }
         ensures told { IfOk result (λ r. TellsDurably O.start O.trees O.number O.hives
             session.old.seen session.new.seen event r.0 r.1) }
-        ensures denied { IfErr result (IsCommitDenied O.start O.trees O.number O.hives session.old.seen event) }
+        ensures denied { IfErr result (IsCommitDenied O.start O.trees O.number O.hives session.old.seen
+            session.new.seen event) }
     {
         let mut guard = self.lock_for(rt, &event);
         let answer = (&mut *guard).serve(rt, &mut session.seen, event);
@@ -375,7 +379,7 @@ impl<E: StoreEngine, O: Start> Registry<E, O> {
     ) -> Result<Receipt<O>, Denied>
         ensures seen { SeesMore mine.old mine.new }
         ensures receipt { IfOk result (λ r. r ≡ record { number = number; seen = mine.new }) }
-        ensures denied { IfErr result (IsWaitDenied number) }
+        ensures denied { IfErr result (IsWaitDenied O.start O.trees O.number O.hives number mine.new) }
     {
         let mut guard = held;
         let mut mode = (&mut *guard).first_mode(number);
@@ -563,10 +567,10 @@ impl<E: StoreEngine, O: Start> Registry<E, O> {
 
 // what is answered of a session that was to be opened
 fn open_result<O: Start>(opened: OpenResult<O>) -> Result<(Session<O>, Told), Denied>
-    ensures opened { IfOk result (λ made. (was : AnySight) → OpensOrNot O.start O.trees O.number O.hives was opened →
-        IsOpened O.start O.trees O.number O.hives was made.0 made.1) }
-    ensures denied { IfErr result (λ why. (was : AnySight) → OpensOrNot O.start O.trees O.number O.hives was opened →
-        IsNotOpened O.start O.trees O.number O.hives was why) }
+    ensures opened { IfOk result (λ made. (was is : AnySight) → OpensOrNot O.start O.trees O.number O.hives was is opened →
+        IsOpened O.start O.trees O.number O.hives was made.0 made.1 × (made.0.seen ≡ is)) }
+    ensures denied { IfErr result (λ why. (was is : AnySight) → OpensOrNot O.start O.trees O.number O.hives was is opened →
+        IsNotOpened O.start O.trees O.number O.hives was is why) }
 {
     match opened {
         OpenResult::Session(session, told) => Ok((session, told)),
@@ -588,10 +592,10 @@ fn judged(told: Told) -> Result<Told, Denied>
 }
 
 // each receipt is of a change that is durable
-fn are_durable<O: Start, R: Wait>(rt: &R, events: &EventCount, receipts: &Vec<Receipt<O>>)
+fn are_durable<O: Start, R: Wait>(rt: &R, events: &EventCount, receipts: &[Receipt<O>])
     requires book { events.now.book ≡ O.history }
     requires run { IsHistory O.start events.now.log }
-    ensures { (i : ℕ) (r : NumberedSight) → slice_get receipts.now.items i ≡ Some r →
+    ensures { (i : ℕ) (r : NumberedSight) → slice_get receipts.now i ≡ Some r →
         r.number ≤ (end_of O.start events.now.log).machine.durable }
 {
     for i in 0..receipts.len() {
@@ -600,12 +604,8 @@ fn are_durable<O: Start, R: Wait>(rt: &R, events: &EventCount, receipts: &Vec<Re
 }
 
 // what was seen of the list begins it
-fn begin_list<E: StoreEngine, O: Start, R: Wait>(
-    rt: &R,
-    locked: &Locked<E, O>,
-    sights: &Vec<Sight<O>>,
-)
-    ensures { (i : ℕ) (s : AnySight) → slice_get sights.now.items i ≡ Some s →
+fn begin_list<E: StoreEngine, O: Start, R: Wait>(rt: &R, locked: &Locked<E, O>, sights: &[Sight<O>])
+    ensures { (i : ℕ) (s : AnySight) → slice_get sights.now i ≡ Some s →
         IsPrefix s.list (E.machine locked.now.engine).accepted }
 {
     for i in 0..sights.len() {
@@ -615,12 +615,13 @@ fn begin_list<E: StoreEngine, O: Start, R: Wait>(
 }
 
 // what was seen of the history begins it
-fn begin_history<O: Start, R: Wait>(rt: &R, events: &EventCount, sights: &Vec<Sight<O>>)
+fn begin_history<O: Start, R: Wait>(rt: &R, events: &EventCount, sights: &[Sight<O>])
     requires book { events.now.book ≡ O.history }
-    ensures { (i : ℕ) (s : AnySight) → slice_get sights.now.items i ≡ Some s → IsPrefix s.history events.now.log }
+    ensures { (i : ℕ) (s : AnySight) → slice_get sights.now i ≡ Some s → IsPrefix s.history events.now.log }
 {
     for i in 0..sights.len() {
-        let mut seen = sights[i].events.again();
+        let sight = &sights[i];
+        let mut seen = sight.events.again();
         events.show(rt, &mut seen);
     }
 }

@@ -290,7 +290,7 @@ impl<E: StoreEngine, O: Start> Registry<E, O> {
         ensures told { IfOk result (λ r. TellsDurably O.start O.trees O.number O.hives session.old.seen session.new.seen
             (event.CommitAccept session.old.number tx moment) r.0 r.1) }
         ensures stands { IfOk result (λ r. CommitStands O.number session.new.seen.list moment r.1.reply) }
-        ensures denied { IfErr result (IsCommitDenied O.start O.trees O.number O.hives session.old.seen
+        ensures denied { IfErr result (IsCommitDenied O.start O.trees O.number O.hives session.old.seen session.new.seen
             (event.CommitAccept session.old.number tx moment)) }
     {
         self.commit(rt, session, tx, moment, MemoryPolicy::Retry)
@@ -310,7 +310,7 @@ impl<E: StoreEngine, O: Start> Registry<E, O> {
         ensures told { IfOk result (λ r. TellsDurably O.start O.trees O.number O.hives session.old.seen session.new.seen
             (event.CommitAccept session.old.number tx moment) r.0 r.1) }
         ensures stands { IfOk result (λ r. CommitStands O.number session.new.seen.list moment r.1.reply) }
-        ensures denied { IfErr result (IsCommitDenied O.start O.trees O.number O.hives session.old.seen
+        ensures denied { IfErr result (IsCommitDenied O.start O.trees O.number O.hives session.old.seen session.new.seen
             (event.CommitAccept session.old.number tx moment)) }
     {
         self.commit(rt, session, tx, moment, MemoryPolicy::GiveUp)
@@ -330,7 +330,7 @@ impl<E: StoreEngine, O: Start> Registry<E, O> {
         ensures told { IfOk result (λ r. TellsDurably O.start O.trees O.number O.hives session.old.seen session.new.seen
             (event.CommitAccept session.old.number tx moment) r.0 r.1) }
         ensures stands { IfOk result (λ r. CommitStands O.number session.new.seen.list moment r.1.reply) }
-        ensures denied { IfErr result (IsCommitDenied O.start O.trees O.number O.hives session.old.seen
+        ensures denied { IfErr result (IsCommitDenied O.start O.trees O.number O.hives session.old.seen session.new.seen
             (event.CommitAccept session.old.number tx moment)) }
     {
         let event = Event::CommitAccept {

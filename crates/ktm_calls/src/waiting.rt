@@ -102,7 +102,7 @@ impl<E: StoreEngine, O: Start> Locked<E, O> {
         policy: MemoryPolicy,
     ) -> WaitResult<O>
         ensures seen { SeesMore mine.old mine.new }
-        ensures ends { EndsWait number mine.new result }
+        ensures ends { EndsWait O.start O.trees O.number O.hives number mine.old mine.new result }
         ensures call { E.clock self.new.engine ≤ E.clock self.old.engine + 1 }
     {
         match mode {
@@ -120,7 +120,7 @@ impl<E: StoreEngine, O: Start> Locked<E, O> {
         leads: bool,
     ) -> WaitResult<O>
         ensures seen { SeesMore mine.old mine.new }
-        ensures ends { EndsWait number mine.new result }
+        ensures ends { EndsWait O.start O.trees O.number O.hives number mine.old mine.new result }
         ensures call { E.clock self.new.engine ≤ E.clock self.old.engine + 1 }
     {
         let Ok(told) = self.serve(rt, mine, Event::Acked { number }) else {
@@ -158,7 +158,7 @@ impl<E: StoreEngine, O: Start> Locked<E, O> {
         policy: MemoryPolicy,
     ) -> WaitResult<O>
         ensures seen { SeesMore mine.old mine.new }
-        ensures ends { EndsWait number mine.new result }
+        ensures ends { EndsWait O.start O.trees O.number O.hives number mine.old mine.new result }
         ensures call { E.clock self.new.engine ≤ E.clock self.old.engine + 1 }
     {
         let Ok(told) = self.serve(rt, mine, Event::JournalStep) else {
@@ -179,7 +179,7 @@ impl<E: StoreEngine, O: Start> Locked<E, O> {
     // there was no memory for a step of the journal
     fn lacks_memory(&mut self, policy: MemoryPolicy) -> WaitResult<O>
         ensures same { self.new ≡ self.old }
-        ensures ends { (number : ℕ) (seen : AnySight) → EndsWait number seen result }
+        ensures ends { (number : ℕ) (was is : AnySight) → EndsWait O.start O.trees O.number O.hives number was is result }
     {
         match policy {
             MemoryPolicy::Retry => WaitResult::Again(WaitMode::Lead),

@@ -128,7 +128,7 @@ fn serve_over<
         engine,
         events: _,
         durable,
-    } = registry.end(rt, Vec::new(alloc), Vec::new(alloc));
+    } = registry.end(rt, &[], &[]);
     let served = Served {
         opened,
         durable,

@@ -96,7 +96,7 @@ fn take_turn<O: Start, E: StoreEngine + Drop, R: Wait>(
         mut engine,
         events: _,
         durable: _,
-    } = registry.end(rt, Vec::new(alloc), Vec::new(alloc));
+    } = registry.end(rt, &[], &[]);
     let is_filled = filled?;
     folded_engines_are_shared_again();
     match engine.event(Event::Fold) {

@@ -100,7 +100,7 @@ fn play_over<O: Start, E: StoreEngine + Drop, R: Wait>(
         engine: _,
         events: _,
         durable: _,
-    } = registry.end(rt, Vec::new(alloc), Vec::new(alloc));
+    } = registry.end(rt, &[], &[]);
     is_well
 }
 

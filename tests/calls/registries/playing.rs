@@ -155,7 +155,7 @@ fn end<O: Start, E: StoreEngine + Drop, R: Wait>(
         mut engine,
         events: _,
         durable,
-    } = registry.end(rt, Vec::new(alloc), receipts);
+    } = registry.end(rt, &[], &receipts);
     Ok(Played {
         wrong: wrong?,
         durable,

@@ -256,7 +256,7 @@ fn live_over<O: Start, E: StoreEngine + Drop, R: Wait>(
         engine,
         events: _,
         durable: _,
-    } = registry.end(rt, Vec::new(alloc), Vec::new(alloc));
+    } = registry.end(rt, &[], &[]);
     Ok((engine, lived))
 }
 

@@ -1,4 +1,6 @@
-use Rattle.std.proofs.Common.{◌≡◌, ◌++◌, ◌∷◌, [], rules, arith}
+use Rattle.std.proofs.Common.{◌≡◌, ◌∙◌, ◌++◌, ◌∷◌, [], ap, rules, arith, sym}
+use Rattle.std.proofs.lemmas.Bool.{true≢false}
+use Rattle.store_model.specs.Steps.{may_accept}
 use Rattle.histories.specs.Histories.{Continues, LeadsTo}
 use Rattle.histories.specs.Points.{HistoryEntry, Point, entry_of, point_of}
 use Rattle.histories.proofs.Leading.{leads_still, leads_with}
@@ -50,6 +52,7 @@ returns-clause-leads g c =
       one = omega (arith, made.call);
       failed = search rules;
       works = λ _. made.works;
+      idle = λ sound is told. absurd (true≢false (sym c.requires.accepts ∙ ap may_accept is));
     } in
     rw added
     (leads_with O.start O.safe O.faithful (E.safe mid) (E.safe new) (E.faithful mid) (E.faithful new) c.args.events.now.log was entry follows made.backward made.past made.after still)

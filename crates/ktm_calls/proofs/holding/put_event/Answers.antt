@@ -16,5 +16,5 @@ returns-clause-leads g c =
     let added : c.note.new.events.log ≡ c.args.events.now.log ++ entry ∷ [] = search rules in
     rw added
     (leads_with O.start O.safe O.faithful (E.safe old) (E.safe new) (E.faithful old) (E.faithful new) c.args.events.now.log was entry
-    (record { step = made.step; later = made.call.0; one = made.call.1; failed = made.failed; works = made.works })
+    (record { step = made.step; later = made.call.0; one = made.call.1; failed = made.failed; works = made.works; idle = made.idle })
     made.backward made.past made.after c.requires.leads)

@@ -4,5 +4,5 @@ use Rattle.ktm_calls.specs.Moments.{Sight}
 use Rattle.ktm_calls.proofs.registry.begin_list.Given as goal
 
 abbrev pub invariant-loop-i : goal.invariant-loop-i
-invariant-loop-i g l = (j : ℕ) (s : Sight) → j < l.i → slice_get l.fn.sights.items j ≡ Some s →
+invariant-loop-i g l = (j : ℕ) (s : Sight) → j < l.i → slice_get l.fn.sights j ≡ Some s →
     IsPrefix s.list (g.E.StoreEngine.machine l.fn.locked.engine).accepted

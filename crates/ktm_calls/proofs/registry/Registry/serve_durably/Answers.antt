@@ -1,11 +1,12 @@
-use Rattle.std.proofs.Common.{◌∙◌, ap, inl, ℕ}
-use Rattle.ktm_calls.specs.Moments.{NumberedSight, no_sight}
+use Rattle.std.proofs.Common.{◌∙◌, ap, inl, inr, ℕ}
+use Rattle.std.proofs.lemmas.Result.{err_from_is_err_and}
+use Rattle.ktm_calls.specs.Moments.{NumberedSight}
 use Rattle.ktm_calls.proofs.Seen.{seen_trans}
 use Rattle.ktm_calls.proofs.Shapes.{refused_unless}
 use Rattle.ktm_calls.proofs.registry.Registry.serve_durably.Goals as goal
 
 pub returns-in_default-clause-denied : goal.returns-in_default-clause-denied
-returns-in_default-clause-denied g c = inl (no_sight, tt)
+returns-in_default-clause-denied g c = inl tt
 
 pub returns-in_default-reply : goal.returns-in_default-reply
 returns-in_default-reply g c = record {
@@ -13,15 +14,25 @@ returns-in_default-reply g c = record {
   number = ap (λ (m : NumberedSight). m.number) c.session.view_is;
   told = tt;
   denied = inl (
-    c.serve-answer.new.mine,
-    (
-      rw (← c.session.view_is) c.in-Ok.ensures.told,
-      refused_unless c.in-Ok.told.reply
-          (c.requires.awaited (g.E.StoreEngine.machine c.deref_mut.result.now.engine) (g.E.StoreEngine.machine c.serve-answer.new.self.engine) c.in-Ok.told.reply c.in-Ok.ensures.step)
-          (λ (n : ℕ) e. c.in_default-reply.not-Awaits n (c.reply.ensures ∙ e)),
-    ),
+    rw (← c.session.view_is) c.in-Ok.ensures.told,
+    refused_unless c.in-Ok.told.reply
+        (c.requires.awaited (g.E.StoreEngine.machine c.deref_mut.result.now.engine) (g.E.StoreEngine.machine c.serve-answer.new.self.engine) c.in-Ok.told.reply c.in-Ok.ensures.step)
+        (λ (n : ℕ) e. c.in_default-reply.not-Awaits n (c.reply.ensures ∙ e)),
   );
 }
+
+pub returns-in_err-receipt-clause-denied : goal.returns-in_err-receipt-clause-denied
+returns-in_err-receipt-clause-denied g c =
+    let failed = err_from_is_err_and c.from_residual.result c.from_residual.ensures.1 in
+    rw (failed.1, failed.2) (inr (record {
+      mid = c.serve-answer.new.mine;
+      told = c.in-Ok.told;
+      own = rw (← c.session.view_is) c.in-Ok.ensures.told;
+      later = c.in_err-receipt.ensures.seen;
+      awaited = c.in-Awaits.awaited;
+      answer = cc (c.reply.ensures, c.in-Awaits.is);
+      denied = c.in_err-receipt.ensures.denied;
+    }))
 
 pub returns-in_err-receipt-clause-seen : goal.returns-in_err-receipt-clause-seen
 returns-in_err-receipt-clause-seen g c = rw (← c.session.view_is) (seen_trans _ _ _ c.in-Ok.ensures.seen c.in_err-receipt.ensures.seen)
