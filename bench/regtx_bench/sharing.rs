@@ -53,11 +53,12 @@ fn measure_shared<
         Err((why, _engine)) => return Err(Trouble::Refused(why)),
     };
     let done = measure_on(rt, alloc, &registry, work, syncs);
+    let seen = registry.all_seen(rt);
     let Ended {
         engine: _,
         events: _,
         durable: _,
-    } = registry.end(rt, &[], &[]);
+    } = registry.end(rt, &seen, Vec::new(alloc));
     done
 }
 

@@ -227,13 +227,21 @@ impl<E: StoreEngine, O: Start> Registry<E, O> {
         }
     }
 
+    /// All that there is to see: what was accepted and the history, up to now.
+    pub fn all_seen<R: Wait>(&self, rt: &R) -> Sight<O> {
+        let guard = self.lock.lock(rt);
+        let seen = (&*guard).sight();
+        let _ = MutexGuard::unlock(guard);
+        seen
+    }
+
     /// Ends the registry and each session, and hands the engine back. One history leads to it from the start: at each
     /// moment of it, a crash leaves a prefix of the machine's changes of then. The change of each receipt is durable in it,
     /// and what was seen begins the changes accepted, and the history.
     ///
     /// If all that was accepted is durable, `Event::Fold` folds the history then, and [`Registry::new`] may take the
     /// engine again, as [`crate::laws`] says.
-    pub fn end<R: Wait>(self, rt: &R, sights: &[Sight<O>], receipts: &[Receipt<O>]) -> Ended<E>
+    pub fn end<R: Wait>(self, rt: &R, seen: &Sight<O>, receipts: Vec<Receipt<O>>) -> Ended<E>
         ensures owner { IsOf O.trees O.number O.hives (E.machine result.engine) }
         ensures closed { (E.machine result.engine).sessions ≡ [] }
         ensures durable { result.durable ≡ (E.machine result.engine).durable }
@@ -241,9 +249,9 @@ impl<E: StoreEngine, O: Start> Registry<E, O> {
         ensures history { LeadsTo O.start O.safe O.faithful (E.safe result.engine) (E.faithful result.engine)
             result.events.log
             (point_of (E.machine result.engine) (E.clock result.engine) (E.failures result.engine)) }
-        ensures receipts { (i : ℕ) (r : NumberedSight) → slice_get receipts.now i ≡ Some r → r.number ≤ result.durable }
-        ensures seen { (i : ℕ) (s : AnySight) → slice_get sights.now i ≡ Some s →
-            IsPrefix s.list (E.machine result.engine).accepted × IsPrefix s.history result.events.log }
+        ensures receipts { (i : ℕ) (r : NumberedSight) → slice_get receipts.items i ≡ Some r → r.number ≤ result.durable }
+        ensures seen { IsPrefix seen.now.list (E.machine result.engine).accepted
+            × IsPrefix seen.now.history result.events.log }
     {
         let Registry {
             lock,
@@ -253,10 +261,12 @@ impl<E: StoreEngine, O: Start> Registry<E, O> {
             last_batch: _,
         } = self;
         let locked = lock.into_inner();
-        begin_list(rt, &locked, sights); // for the prover
+        let mut all = seen.again();
+        locked.show(rt, &mut all); // for the prover
         let (engine, events) = locked.close(rt);
-        begin_history::<O, R>(rt, &events, sights); // for the prover
-        are_durable(rt, &events, receipts); // for the prover
+        let mut later = seen.events.again();
+        events.show(rt, &mut later); // for the prover
+        are_durable(rt, &events, &receipts); // for the prover
         let durable = engine.durable();
         Ended {
             engine,
@@ -592,36 +602,13 @@ fn judged(told: Told) -> Result<Told, Denied>
 }
 
 // each receipt is of a change that is durable
-fn are_durable<O: Start, R: Wait>(rt: &R, events: &EventCount, receipts: &[Receipt<O>])
+fn are_durable<O: Start, R: Wait>(rt: &R, events: &EventCount, receipts: &Vec<Receipt<O>>)
     requires book { events.now.book ≡ O.history }
     requires run { IsHistory O.start events.now.log }
-    ensures { (i : ℕ) (r : NumberedSight) → slice_get receipts.now i ≡ Some r →
+    ensures { (i : ℕ) (r : NumberedSight) → slice_get receipts.now.items i ≡ Some r →
         r.number ≤ (end_of O.start events.now.log).machine.durable }
 {
     for i in 0..receipts.len() {
         receipts[i].stays_durable(rt, events);
-    }
-}
-
-// what was seen of the list begins it
-fn begin_list<E: StoreEngine, O: Start, R: Wait>(rt: &R, locked: &Locked<E, O>, sights: &[Sight<O>])
-    ensures { (i : ℕ) (s : AnySight) → slice_get sights.now i ≡ Some s →
-        IsPrefix s.list (E.machine locked.now.engine).accepted }
-{
-    for i in 0..sights.len() {
-        let mut seen = sights[i].again();
-        locked.show(rt, &mut seen);
-    }
-}
-
-// what was seen of the history begins it
-fn begin_history<O: Start, R: Wait>(rt: &R, events: &EventCount, sights: &[Sight<O>])
-    requires book { events.now.book ≡ O.history }
-    ensures { (i : ℕ) (s : AnySight) → slice_get sights.now i ≡ Some s → IsPrefix s.history events.now.log }
-{
-    for i in 0..sights.len() {
-        let sight = &sights[i];
-        let mut seen = sight.events.again();
-        events.show(rt, &mut seen);
     }
 }

@@ -124,11 +124,12 @@ fn serve_over<
     };
     let opened = sharing.opened;
     let flushed = share(rt, &registry, sharing);
+    let seen = registry.all_seen(rt);
     let Ended {
         engine,
         events: _,
         durable,
-    } = registry.end(rt, &[], &[]);
+    } = registry.end(rt, &seen, Vec::new(alloc));
     let served = Served {
         opened,
         durable,

@@ -92,11 +92,12 @@ fn take_turn<O: Start, E: StoreEngine + Drop, R: Wait>(
         },
         numbers,
     );
+    let seen = registry.all_seen(rt);
     let Ended {
         mut engine,
         events: _,
         durable: _,
-    } = registry.end(rt, &[], &[]);
+    } = registry.end(rt, &seen, Vec::new(alloc));
     let is_filled = filled?;
     folded_engines_are_shared_again();
     match engine.event(Event::Fold) {

@@ -96,11 +96,12 @@ fn play_over<O: Start, E: StoreEngine + Drop, R: Wait>(
         alloc,
         registry: &registry,
     });
+    let seen = registry.all_seen(rt);
     let Ended {
         engine: _,
         events: _,
         durable: _,
-    } = registry.end(rt, &[], &[]);
+    } = registry.end(rt, &seen, Vec::new(alloc));
     is_well
 }
 

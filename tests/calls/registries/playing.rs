@@ -151,11 +151,12 @@ fn end<O: Start, E: StoreEngine + Drop, R: Wait>(
         transactions: _,
         receipts,
     } = left;
+    let seen = registry.all_seen(rt);
     let Ended {
         mut engine,
         events: _,
         durable,
-    } = registry.end(rt, &[], &receipts);
+    } = registry.end(rt, &seen, receipts);
     Ok(Played {
         wrong: wrong?,
         durable,

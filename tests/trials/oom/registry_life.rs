@@ -252,11 +252,12 @@ fn live_over<O: Start, E: StoreEngine + Drop, R: Wait>(
         },
         patience,
     );
+    let seen = registry.all_seen(rt);
     let Ended {
         engine,
         events: _,
         durable: _,
-    } = registry.end(rt, &[], &[]);
+    } = registry.end(rt, &seen, Vec::new(alloc));
     Ok((engine, lived))
 }
 
