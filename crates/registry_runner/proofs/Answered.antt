@@ -1,10 +1,11 @@
 -- The answer to a line, whichever line it is.
-use Rattle.std.proofs.Common.{◌≡◌, ℕ, List, Some, Result, Ok, sym, ◌∙◌, subst}
-use Rattle.std.specs.Prelude.{IfOk}
+use Rattle.std.proofs.Common.{◌≡◌, ℕ, List, Some, Result, Ok, Err, sym, ◌∙◌, subst}
+use Rattle.std.specs.Prelude.{IfErr, IfOk}
 use Rattle.refusals.specs.declared.refusal.Refusal.{Refusal}
 use Rattle.reg_tree.specs.Maps.{TreeMap}
 use Rattle.script_syntax.specs.declared.line.Line.{Line}
 use Rattle.reply_lines.specs.declared.reply.ReplyLine.{ReplyLine}
+use Rattle.reply_lines.specs.declared.reply.ReplyLine.TheVariants.{Refused}
 use Rattle.script_runner.specs.Scripts.{later_line}
 use Rattle.histories.specs.Points.{Point}
 use Rattle.registry_runner.specs.Scripts.{Script, Answers}
@@ -15,3 +16,10 @@ pub carried : (origin : Point) (trees : List TreeMap) (number hives : ℕ) (old 
 carried origin trees number hives old new then line one result reported reply is later from ok same said =
     let here = subst (λ r. IfOk r (λ t. Answers origin trees number hives old one t new)) (sym from ∙ ok) said in
     subst (λ l. (later_line (Some l) ≡ Some l) × Answers origin trees number hives old l reply then) (sym is) (later, subst (λ s. Answers origin trees number hives old one reply s) (sym same) here)
+
+-- and so is what it was refused with
+pub carried_refusal : (origin : Point) (trees : List TreeMap) (number hives : ℕ) (old new then : Script) (line one : Line) (result reported : Result ReplyLine Refusal) (why : Refusal) → line ≡ one → later_line (Some one) ≡ Some one → reported ≡ result → reported ≡ Err why → then ≡ new → IfErr result (λ refusal. Answers origin trees number hives old one (Refused refusal) new)
+    → (later_line (Some line) ≡ Some line) × Answers origin trees number hives old line (Refused why) then
+carried_refusal origin trees number hives old new then line one result reported why is later from err same said =
+    let here = subst (λ r. IfErr r (λ refusal. Answers origin trees number hives old one (Refused refusal) new)) (sym from ∙ err) said in
+    subst (λ l. (later_line (Some l) ≡ Some l) × Answers origin trees number hives old l (Refused why) then) (sym is) (later, subst (λ s. Answers origin trees number hives old one (Refused why) s) (sym same) here)

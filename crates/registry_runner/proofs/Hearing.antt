@@ -13,13 +13,14 @@ use Rattle.store_model.specs.declared.event.Reply.TheVariants as answer
 use Rattle.ktm_calls.specs.Denials.{IsDenied, denial_of, refusal_in}
 use Rattle.ktm_calls.specs.Kinds.{Told}
 use Rattle.ktm_calls.specs.Moments.{NumberedSight, SeesMore, Sight, Tells}
+use Rattle.ktm_calls.proofs.Seen.{seen_self}
 use Rattle.ktm_calls.specs.declared.registry.Denied.{Denied}
 use Rattle.ktm_calls.specs.declared.registry.Denied.TheVariants as denied
 use Rattle.reply_lines.specs.declared.reply.ReplyLine.{ReplyLine}
 use Rattle.script_runner.specs.Scripts.{reply_of}
 use Rattle.store_model.specs.declared.handle.Tx.{Tx}
 use Rattle.registry_runner.specs.Heard.{Hears, IsHeard, denied_reply, told_reply}
-use Rattle.registry_runner.specs.Scripts.{Script, IsLabelled, MayNotEnter}
+use Rattle.registry_runner.specs.Scripts.{Script, FlushesOn, IsLabelled, MayNotEnter, RefusesFold}
 
 module _ (origin : Point) (trees : List TreeMap) (number hives : ℕ) (old new : NumberedSight) (event : Event) where
   -- a denied call is heard
@@ -38,9 +39,9 @@ refused_so (answer.Refused told) why e = ap answer.Refused (subst (λ (o : Optio
 refused_so _ why e = absurd cc
 
 -- the refusal of a denied event is why no session is opened
-pub denied_enters : (why : Denied) (refusal : Refusal) → denial_of why ≡ Some refusal → (origin : Point) (trees : List TreeMap) (number hives : ℕ) (was is : Sight) (event : Event) → IsDenied origin trees number hives was is event why → MayNotEnter origin trees number hives refusal
-denied_enters denied.NoMemory refusal e origin trees number hives was is event d = inl (subst (λ (o : Option Refusal). IfSome o (λ w. w ≡ NoMemory)) e refl)
-denied_enters (denied.Told told) refusal e origin trees number hives was is event d = inr (event, was, is, told, d.0, refused_so told.reply refusal e)
+pub denied_enters : (why : Denied) (refusal : Refusal) → denial_of why ≡ Some refusal → (origin : Point) (trees : List TreeMap) (number hives : ℕ) (was mid is : Sight) (event : Event) → IsDenied origin trees number hives was mid event why → SeesMore mid is → MayNotEnter origin trees number hives is refusal
+denied_enters denied.NoMemory refusal e origin trees number hives was mid is event d later = inl (subst (λ (o : Option Refusal). IfSome o (λ w. w ≡ NoMemory)) e refl)
+denied_enters (denied.Told told) refusal e origin trees number hives was mid is event d later = inr (event, was, mid, told, d.0, later, refused_so told.reply refusal e)
 
 -- what is asked in a session, and the line's reply tells
 module _ (origin : Point) (trees : List TreeMap) (number hives : ℕ) (old new : NumberedSight) (event : Event) where
@@ -62,6 +63,11 @@ pub ends_heard : (origin : Point) (trees : List TreeMap) (number hives session :
     → IsHeard origin trees number hives (record { number = session; seen = was }) event reported (record { number = session; seen = is })
 ends_heard origin trees number hives session was is event r reported said t d =
     subst (λ s. IsHeard origin trees number hives (record { number = session; seen = was }) event s (record { number = session; seen = is })) (sym said) (heard origin trees number hives (record { number = session; seen = was }) (record { number = session; seen = is }) event r t d)
+
+-- a fold that is refused has flushed what was accepted, or was refused that
+pub fold_refused : (origin : Point) (trees : List TreeMap) (number hives : ℕ) (old new : Script) (reported : ReplyLine) → RefusesFold origin trees number hives old reported new → (flushed : ReplyLine) × FlushesOn origin trees number hives old flushed new
+fold_refused origin trees number hives old new reported (inl (flushes, refused)) = (reported, (new, flushes, (record { number = refl; seen = seen_self new.session.seen }, refl)))
+fold_refused origin trees number hives old new reported (inr (mid, (flushed, flushes, granted), on, why, may, told)) = (flushed, (mid, flushes, on))
 
 -- a refusal that can be this one alone
 pub err_so : {A E : Type 0} (P : E → Type 0) (r : Result A E) (e : E) → IfErr r (λ x. x ≡ e) → P e → IfErr r P

@@ -8,7 +8,7 @@ use Rattle.reg_tree.specs.Maps.{TreeMap}
 use Rattle.reply_lines.specs.declared.status.Status.{Status}
 use Rattle.reply_lines.specs.declared.status.Status.TheVariants.{Refused}
 use Rattle.script_loop.specs.Lines.{WereRead, lines_of}
-use Rattle.histories.specs.Points.{Point}
+use Rattle.histories.specs.Points.{HistoryEntry, Point}
 use Rattle.registry_runner.specs.Plays.{IsPlayedOn}
 use Rattle.registry_runner.specs.Parts.{Part, start_text}
 use Rattle.registry_runner.specs.Scripts.{Script}
@@ -26,15 +26,15 @@ continued_text (Ok part) = refl
 continued_text (Err why) = refl
 
 -- a part of these trees and this number
-abbrev pub part : Point → List TreeMap → ℕ → ℕ → Script → Part
-part origin trees number hives script = record { start = origin; trees = trees; number = number; hives = hives; script = script }
+abbrev pub part : List HistoryEntry → Point → List TreeMap → ℕ → ℕ → Script → Part
+part past origin trees number hives script = record { past = past; start = origin; trees = trees; number = number; hives = hives; script = script }
 
 nothing_read : (known : Option (List ℕ)) → WereRead known [] None
 nothing_read None = tt
 nothing_read (Some bytes) = (lines_of bytes, refl)
 
 -- no part follows: the reason is the last line
-pub stopped : (limit : ℕ) (can_read : Bool) (why : Refusal) (number : ℕ) (known before after : Option (List ℕ)) (status : Status) → can_read ≡ true → Appends before after (refusal_text why ++ 10 ∷ []) → status ≡ Refused → IsPlayedOn limit can_read (Err why) number known before after status (Err why)
-stopped limit can_read why number known before after status can written refused =
-    subst (λ (b : Bool). IsPlayedOn limit b (Err why) number known before after status (Err why)) (sym can)
+pub stopped : (whole : List HistoryEntry) (limit : ℕ) (can_read : Bool) (why : Refusal) (number : ℕ) (known before after : Option (List ℕ)) (status : Status) → can_read ≡ true → Appends before after (refusal_text why ++ 10 ∷ []) → status ≡ Refused → IsPlayedOn whole limit can_read (Err why) number known before after status (Err why)
+stopped whole limit can_read why number known before after status can written refused =
+    subst (λ (b : Bool). IsPlayedOn whole limit b (Err why) number known before after status (Err why)) (sym can)
     ([], None, refusal_text why ++ 10 ∷ [], nothing_read known, (record { last = refl; stopped = refl; printed = refl; refused = refused }, refl), written)

@@ -50,7 +50,7 @@ Hears origin trees number hives old event reported new = GoesOn old new × IsHea
 abbrev pub IsHeardDurably : Point → List TreeMap → ℕ → ℕ → NumberedSight → Event → (ℕ → ReplyLine) → ReplyLine → NumberedSight → Type 0
 IsHeardDurably origin trees number hives old event tell reported new =
     ((receipt : NumberedSight) × (told : Told) × TellsDurably origin trees number hives old.seen new.seen event receipt told × (reported ≡ tell receipt.number))
-    ⊎ ((why : Denied) × IsCommitDenied origin trees number hives old.seen event why × (reported ≡ denied_reply why))
+    ⊎ ((why : Denied) × IsCommitDenied origin trees number hives old.seen new.seen event why × (reported ≡ denied_reply why))
 
 abbrev pub HearsDurably : Point → List TreeMap → ℕ → ℕ → NumberedSight → Event → (ℕ → ReplyLine) → ReplyLine → NumberedSight → Type 0
 HearsDurably origin trees number hives old event tell reported new = GoesOn old new × IsHeardDurably origin trees number hives old event tell reported new

@@ -1,7 +1,7 @@
 -- What a script of the program shows.
 use Rattle.std.specs.Prelude.{ℕ, List, Option, Some, None}
 use Rattle.reg_tree.specs.Maps.{TreeMap}
-use Rattle.histories.specs.Points.{Point}
+use Rattle.histories.specs.Points.{HistoryEntry, Point}
 use Rattle.store_model.specs.declared.handle.Tx.{Tx}
 use Rattle.script_runner.specs.Labels.{HasRoom, named_by}
 use Rattle.script_runner.specs.declared.labels.Labels.{Labels}
@@ -22,6 +22,7 @@ HasRoomFor (Some labels) label = HasRoom labels label
 abbrev pub script_of : {O : Type 0} → Shown O → Script
 script_of shown = record { moment = shown.moment; session = shown.session; labels = named_in shown.labels }
 
--- the part of a run whose registry's history begins here, and its list of changes on these trees after this number
-abbrev pub part_of : {O : Type 0} → Point → List TreeMap → ℕ → ℕ → Shown O → Part
-part_of origin trees number hives shown = record { start = origin; trees = trees; number = number; hives = hives; script = script_of shown }
+-- the part of a run that comes after this past, whose registry's history begins here, and its list of changes on these
+-- trees after this number
+abbrev pub part_of : {O : Type 0} → List HistoryEntry → Point → List TreeMap → ℕ → ℕ → Shown O → Part
+part_of past origin trees number hives shown = record { past = past; start = origin; trees = trees; number = number; hives = hives; script = script_of shown }

@@ -1,26 +1,29 @@
 -- The parts of a script's run. Each calls a registry of its own, and the history is folded between two of them.
-use Rattle.std.specs.Prelude.{◌≡◌, ℕ, ◌+◌, ◌-◌, ◌*◌, ◌≤◌, ◌⊎◌, true, List, [], length, None, Result, Ok, Err}
+use Rattle.std.specs.Prelude.{◌≡◌, ℕ, ◌+◌, ◌-◌, ◌*◌, ◌≤◌, ◌⊎◌, true, List, [], ◌++◌, length, None, Result, Ok, Err}
+use mathlib.Core.List.{IsPrefix}
 use Rattle.refusals.specs.declared.refusal.Refusal.{Refusal}
 use Rattle.refusals.specs.declared.refusal.Refusal.TheVariants.{NoMemory, NoSeat}
 use Rattle.reg_tree.specs.Maps.{TreeMap}
 use Rattle.reg_tree.specs.Sequences.{after_elements}
-use Rattle.reg_tree.specs.declared.element.Element.{Element}
 use Rattle.reply_lines.specs.Replies.{reply_line}
 use Rattle.reply_lines.specs.declared.reply.ReplyLine.{ReplyLine}
 use Rattle.reply_lines.specs.declared.reply.ReplyLine.TheVariants as reply
 use Rattle.script_runner.specs.Plays.{opened_text}
-use Rattle.histories.specs.Points.{Point}
+use Rattle.histories.specs.Histories.{end_of}
+use Rattle.histories.specs.Points.{HistoryEntry, Point}
 use Rattle.store_model.specs.Machine.{is_of_device}
 use Rattle.ktm_calls.specs.Denials.{IsOpened}
 use Rattle.ktm_calls.specs.Kinds.{Told}
-use Rattle.ktm_calls.specs.Moments.{Sight}
-use Rattle.registry_runner.specs.Scripts.{Script, Flushes, IsFlushed, MayNotEnter}
+use Rattle.ktm_calls.specs.Moments.{SeesMore, Sight}
+use Rattle.registry_runner.specs.Scripts.{Script, FlushesOn, IsFlushed, MayNotEnter}
 use Rattle.registry_runner.specs.declared.parts.PartKind.{PartKind}
 use Rattle.registry_runner.specs.declared.parts.PartKind.TheVariants.{Opened, Folded, Continued}
 
--- a part of a run between two lines: where its registry's history begins, the trees on which its list of changes begins,
--- the number of the last change before that list, how many hives calls may name, and the script
+-- a part of a run between two lines: the run's history before the part, where its registry's history begins, the trees on
+-- which its list of changes begins, the number of the last change before that list, how many hives calls may name, and the
+-- script
 pub record Part : Type 0 where
+  pub past : List HistoryEntry
   pub start : Point
   pub trees : List TreeMap
   pub number : ℕ
@@ -38,30 +41,47 @@ pub record IsBegun (origin : Point) (trees : List TreeMap) (number hives current
   pub moment : script.moment ≡ current
   pub labels : (label : List ℕ) → script.labels label ≡ None
 
--- Why no part begins over an engine: there is no memory, no reader, or a machine refused session 0.
-abbrev pub MayNotBegin : Point → List TreeMap → ℕ → ℕ → Refusal → Type 0
-MayNotBegin origin trees number hives why = (why ≡ NoMemory) ⊎ (why ≡ NoSeat) ⊎ MayNotEnter origin trees number hives why
+-- all that there is to see of a registry after this history: the changes that were accepted in it, and the history
+abbrev pub sight_of : Point → List HistoryEntry → Sight
+sight_of start history = record { list = (end_of start history).machine.accepted; history = history }
 
--- a part begins on these trees after the change of this number, at this moment; or none does, and why
-abbrev pub BeginsOrNot : Point → List TreeMap → ℕ → ℕ → ℕ → Result Part Refusal → Type 0
-BeginsOrNot origin trees number hives moment (Ok part) = (part.start ≡ origin) × (part.trees ≡ trees) × (part.number ≡ number) × (part.hives ≡ hives) × IsBegun origin trees number hives moment part.script
-BeginsOrNot origin trees number hives moment (Err why) = MayNotBegin origin trees number hives why
+-- What was seen of a registry lies in the whole history of a run: the registry's own history comes there after this
+-- past, and what was seen begins what there is to see after it.
+pub record LiesIn (whole past : List HistoryEntry) (start : Point) (seen : Sight) : Type 0 where
+  pub own : List HistoryEntry
+  pub begins : SeesMore seen (sight_of start own)
+  pub within : IsPrefix (past ++ own) whole
+
+-- Why no part begins over an engine: there is no memory, no reader, or a machine of the whole history refused session 0.
+abbrev pub MayNotBegin : List HistoryEntry → List HistoryEntry → Point → List TreeMap → ℕ → ℕ → Refusal → Type 0
+MayNotBegin whole past origin trees number hives why =
+    (why ≡ NoMemory) ⊎ (why ≡ NoSeat) ⊎ ((seen : Sight) × LiesIn whole past origin seen × MayNotEnter origin trees number hives seen why)
+
+-- a part begins after this past, on these trees after the change of this number, at this moment; or none does, and why
+abbrev pub BeginsOrNot : List HistoryEntry → List HistoryEntry → Point → List TreeMap → ℕ → ℕ → ℕ → Result Part Refusal → Type 0
+BeginsOrNot whole past origin trees number hives moment (Ok part) = (part.past ≡ past) × (part.start ≡ origin) × (part.trees ≡ trees) × (part.number ≡ number) × (part.hives ≡ hives) × IsBegun origin trees number hives moment part.script
+BeginsOrNot whole past origin trees number hives moment (Err why) = MayNotBegin whole past origin trees number hives why
 
 -- why a history isn't folded of which all is durable: there is no memory, or the device has failed
 abbrev pub MayNotFold : Refusal → Type 0
 MayNotFold why = (why ≡ NoMemory) ⊎ (is_of_device why ≡ true)
 
--- The history of a registry is folded whose list of changes begins on these trees after this number. The next part
--- begins a history of its own, on the trees after the changes of that list, and its number is the last one plus their
--- count. Or no part follows, and why.
-abbrev pub FoldsAt : List TreeMap → ℕ → ℕ → ℕ → Result Part Refusal → Type 0
-FoldsAt trees number hives moment next =
-    ((origin : Point) × (accepted : List Element) × BeginsOrNot origin (after_elements trees accepted) (number + length accepted) hives moment next)
-    ⊎ ((why : Refusal) × MayNotFold why × (next ≡ Err why))
+-- The history of a registry is folded, after its own history, by further events of the run's. The next part comes after
+-- all of them. Its list of changes begins on the trees after the changes that this registry accepted, and its number is
+-- the last one plus their count.
+pub record NextBegins (whole past own : List HistoryEntry) (start : Point) (trees : List TreeMap) (number hives moment : ℕ) (next : Result Part Refusal) : Type 0 where
+  pub folding : List HistoryEntry
+  pub within : IsPrefix (past ++ (own ++ folding)) whole
+  pub begins : BeginsOrNot whole (past ++ (own ++ folding)) (end_of start (own ++ folding)) (after_elements trees (end_of start own).machine.accepted) (number + length (end_of start own).machine.accepted) hives moment next
+
+-- A registry of which this was seen ends, and its history is folded: the next part begins. Or no part follows, and why.
+abbrev pub FoldsAt : List HistoryEntry → List HistoryEntry → Point → List TreeMap → ℕ → ℕ → Sight → ℕ → Result Part Refusal → Type 0
+FoldsAt whole past start trees number hives seen moment next =
+    (stands : LiesIn whole past start seen) × (NextBegins whole past stands.own start trees number hives moment next ⊎ ((why : Refusal) × MayNotFold why × (next ≡ Err why)))
 
 -- the history of a part is folded, and the moment stays
-abbrev pub Folds : Part → Result Part Refusal → Type 0
-Folds old next = FoldsAt old.trees old.number old.hives old.script.moment next
+abbrev pub Folds : List HistoryEntry → Part → Result Part Refusal → Type 0
+Folds whole old next = FoldsAt whole old.past old.start old.trees old.number old.hives old.script.session.seen old.script.moment next
 
 -- what is printed as a part begins
 abbrev pub kind_text : PartKind → ℕ → List ℕ
@@ -93,9 +113,9 @@ IsUnlabelled script = (label : List ℕ) → script.labels label ≡ None
 -- After a line's reply nothing changes for the script. Or the history is folded before it is full, of which nothing is
 -- printed. That happens only if the reply tells that it is due, and if no label names anything: so each later reply
 -- may be one of the registry before the fold. If the fold is refused, the script goes on in the same registry.
-abbrev pub KeepsOrFolds : ℕ → Part → ReplyLine → Result Part Refusal → Type 0
-KeepsOrFolds limit old reported kept =
+abbrev pub KeepsOrFolds : List HistoryEntry → ℕ → Part → ReplyLine → Result Part Refusal → Type 0
+KeepsOrFolds whole limit old reported kept =
     (kept ≡ Ok old)
     ⊎ (IsDue limit old (number_told reported) × IsUnlabelled old.script
-    × (((flushed : ReplyLine) × (mid : Script) × Flushes old.start old.trees old.number old.hives old.script flushed mid × (kept ≡ Ok (with_script old mid)))
-    ⊎ ((mid : Script) × IsFlushed old.start old.trees old.number old.hives old.script mid × Folds (with_script old mid) kept)))
+    × (((flushed : ReplyLine) × (new : Script) × FlushesOn old.start old.trees old.number old.hives old.script flushed new × (kept ≡ Ok (with_script old new)))
+    ⊎ ((mid : Script) × IsFlushed old.start old.trees old.number old.hives old.script mid × Folds whole (with_script old mid) kept)))

@@ -18,17 +18,18 @@ use Rattle.store_driver.specs.Openings.{IsOpenedOn, MayNotOpen}
 use Rattle.script_runner.specs.Plays.{opened_text}
 use Rattle.script_loop.specs.declared.end_of_script.EndOfScript.{EndOfScript}
 use Rattle.recovery.specs.Recovered.{seen_in}
+use Rattle.histories.specs.Histories.{LeadsTo}
 use Rattle.histories.specs.Leaving.{LeavesHistory}
 use Rattle.histories.specs.Points.{HistoryEntry, Point, point_of}
 use Rattle.ktm_calls.specs.Denials.{denial_of}
-use Rattle.ktm_calls.specs.Moments.{IsOf}
+use Rattle.ktm_calls.specs.Moments.{IsOf, SeesMore, Sight}
 use Rattle.ktm_calls.specs.declared.registry.Denied.{Denied}
 use Rattle.commit_journal.specs.Store.{Store}
 use Rattle.disk_model.specs.FileState.{FileState}
 use Rattle.store_model.specs.Machine.{Machine}
-use Rattle.registry_runner.specs.Parts.{Part, BeginsOrNot, FoldsAt, IsBegun, MayNotBegin, start_text}
+use Rattle.registry_runner.specs.Parts.{Part, BeginsOrNot, FoldsAt, IsBegun, MayNotBegin, LiesIn, sight_of, start_text}
 use Rattle.registry_runner.specs.Plays.{IsPlayedOn, PlaysOn, WereReadIf}
-use Rattle.registry_runner.specs.Scripts.{Script, Answers}
+use Rattle.registry_runner.specs.Scripts.{Script, Answers, MayNotEnter}
 use Rattle.registry_runner.specs.declared.parts.PartStart.{PartStart}
 use Rattle.registry_runner.specs.declared.parts.PartEnd.{PartEnd}
 use Rattle.registry_runner.specs.declared.parts.PartEnd.TheVariants.{RunEnded, ToFold}
@@ -53,29 +54,38 @@ undone true flushed = Some DiskFault
 undone false (Ok stopped) = None
 undone false (Err why) = unless_faulted (denial_of why)
 
--- what the end of a run may report of steps that no line asked for: a failure of the device, or want of memory
-abbrev pub MayBeUndone : Option Refusal → Type 0
-MayBeUndone undone = (undone ≡ None) ⊎ (undone ≡ Some DiskFault) ⊎ (undone ≡ Some NoMemory)
+-- what may have ended the steps that no line asked for: nothing, a failure of the device, or want of memory
+abbrev pub MayHaveEnded : Option Refusal → Type 0
+MayHaveEnded ended = (ended ≡ None) ⊎ (ended ≡ Some DiskFault) ⊎ (ended ≡ Some NoMemory)
 
--- A script that reached this status ends: all is flushed, which is reported if it is refused, and then what is left
--- undone.
-pub record HasEnded (origin : Point) (trees : List TreeMap) (number hives : ℕ) (script : Script) (came_to : Status) (before after : Option (List ℕ)) (status : Status) : Type 0 where
+-- What the end of a run may report of them: the device has failed, if by what is seen then a machine of the registry
+-- refused an event for being faulted; or want of memory.
+abbrev pub MayBeUndone : Point → List TreeMap → ℕ → ℕ → Sight → Option Refusal → Type 0
+MayBeUndone origin trees number hives seen undone =
+    (undone ≡ None) ⊎ ((undone ≡ Some DiskFault) × MayNotEnter origin trees number hives seen Faulted) ⊎ (undone ≡ Some NoMemory)
+
+-- A script that reached this status ends in this part: all is flushed, which is reported if it is refused, and then what
+-- is left undone. What was seen by then stands in the run's whole history.
+pub record HasEnded (whole : List HistoryEntry) (part : Part) (came_to : Status) (before after : Option (List ℕ)) (status : Status) : Type 0 where
   pub reported : ReplyLine
   pub last : Script
-  pub flushed : Answers origin trees number hives script Flush reported last
+  pub flushed : Answers part.start part.trees part.number part.hives part.script Flush reported last
+  pub seen : Sight
+  pub later : SeesMore last.session.seen seen
+  pub stands : LiesIn whole part.past part.start seen
   pub undone : Option Refusal
-  pub may : MayBeUndone undone
+  pub may : MayBeUndone part.start part.trees part.number part.hives seen undone
   pub wrote : Appends before after (flushed_text reported ++ undone_text undone)
   pub status_is : status ≡ with_refusal (is_some undone) (with_refusal (is_refusal reported) came_to)
 
 -- how a run ends whose lines left it so, with this status: as a script does; or with nothing more, as no part followed
-abbrev pub EndsRun : Result Part Refusal → Status → Option (List ℕ) → Option (List ℕ) → Status → Type 0
-EndsRun (Ok part) came_to before after status = HasEnded part.start part.trees part.number part.hives part.script came_to before after status
-EndsRun (Err why) came_to before after status = Keeps before after × (status ≡ came_to)
+abbrev pub EndsRun : List HistoryEntry → Result Part Refusal → Status → Option (List ℕ) → Option (List ℕ) → Status → Type 0
+EndsRun whole (Ok part) came_to before after status = HasEnded whole part came_to before after status
+EndsRun whole (Err why) came_to before after status = Keeps before after × (status ≡ came_to)
 
 -- The store's number was reported; these lines were played over registries of the store, up to this end of the script;
--- and at the end all was flushed.
-pub record RunsOver (limit : ℕ) (origin : Point) (trees : List TreeMap) (number hives : ℕ) (lines : List (List ℕ)) (end_of_script : Option EndOfScript) (before after : Option (List ℕ)) (status : Status) : Type 0 where
+-- and at the end all was flushed. Each line was answered in this whole history of the run, in the order of the lines.
+pub record RunsOver (whole : List HistoryEntry) (limit : ℕ) (origin : Point) (trees : List TreeMap) (number hives : ℕ) (lines : List (List ℕ)) (end_of_script : Option EndOfScript) (before after : Option (List ℕ)) (status : Status) : Type 0 where
   pub opened : Option (List ℕ)
   pub told : Appends before opened (opened_text number)
   pub script : Script
@@ -83,10 +93,10 @@ pub record RunsOver (limit : ℕ) (origin : Point) (trees : List TreeMap) (numbe
   pub text : List ℕ
   pub came_to : Status
   pub end : Result Part Refusal
-  pub plays : PlaysOn limit (Ok (record { start = origin; trees = trees; number = number; hives = hives; script = script })) 1 lines end_of_script text came_to end
+  pub plays : PlaysOn whole limit (Ok (record { past = []; start = origin; trees = trees; number = number; hives = hives; script = script })) 1 lines end_of_script text came_to end
   pub played : Option (List ℕ)
   pub wrote : Appends opened played text
-  pub ends : EndsRun end came_to played after status
+  pub ends : EndsRun whole end came_to played after status
 
 -- nothing is read, and the reason is written
 pub record IsReported (may : Refusal → Type 0) (before after : Option (List ℕ)) (status : Status) : Type 0 where
@@ -96,10 +106,10 @@ pub record IsReported (may : Refusal → Type 0) (before after : Option (List �
   pub status_is : status ≡ Refused
 
 -- A script over an opened store: it doesn't begin, and the reason is written; or it runs.
-abbrev pub RunsOrNot : ℕ → Bool → Option (List ℕ) → Point → List TreeMap → ℕ → ℕ → Option (List ℕ) → Option (List ℕ) → Status → Type 0
-RunsOrNot limit can_read known origin trees number hives before after status =
-    IsReported (MayNotBegin origin trees number hives) before after status
-    ⊎ ((lines : List (List ℕ)) × (end_of_script : Option EndOfScript) × WereReadIf can_read known lines end_of_script × RunsOver limit origin trees number hives lines end_of_script before after status)
+abbrev pub RunsOrNot : List HistoryEntry → ℕ → Bool → Option (List ℕ) → Point → List TreeMap → ℕ → ℕ → Option (List ℕ) → Option (List ℕ) → Status → Type 0
+RunsOrNot whole limit can_read known origin trees number hives before after status =
+    IsReported (MayNotBegin whole [] origin trees number hives) before after status
+    ⊎ ((lines : List (List ℕ)) × (end_of_script : Option EndOfScript) × WereReadIf can_read known lines end_of_script × RunsOver whole limit origin trees number hives lines end_of_script before after status)
 
 -- a machine is of a registry of the store that was opened on these trees after the change of this number: some changes
 -- were folded, and its history begins after them
@@ -109,18 +119,23 @@ IsOfStore trees number hives machine = (folded : List Element) × IsOf (after_el
 -- A store was opened on these files, and a script ran over registries of it. The disk as it was after the opening is
 -- `first`: if it is faithful, the first registry's list begins with the number and the trees that the files recover. One
 -- history leads from there to the last registry's machine, and to the disk that is handed back. If all could be written,
--- what was written and the status are those of a run over this machine.
+-- what was written and the status are those of a run over this machine, in this history: each line's event stands in it
+-- with the reply that was written.
 pub record OpensAndRuns {D E : Type 0} (is_faithful : D → Type 0) (states_of : D → ℕ → ℕ → FileState) (clock_of failures_of : D → ℕ) (files : ℕ → List ℕ) (disk : D) (can_read : Bool) (known before after : Option (List ℕ)) (told : Result Status E) : Type 0 where
   pub first : D
   pub store : Store
   pub number : ℕ
   pub machine : Machine
   pub opened : IsOpenedOn (is_faithful first) files store number [] machine
-  pub runs : IfOk told (λ status. RunsOrNot machine.bounds.changes can_read known (point_of machine (clock_of first) (failures_of first)) machine.opened number machine.bounds.hives before after status)
   pub history : List HistoryEntry
   pub last : Machine
   pub owner : IsOfStore machine.opened number machine.bounds.hives last
   pub left : LeavesHistory is_faithful states_of clock_of failures_of store first machine disk history last
+  pub runs : IfOk told (λ status. RunsOrNot history machine.bounds.changes can_read known (point_of machine (clock_of first) (failures_of first)) machine.opened number machine.bounds.hives before after status)
+
+-- one history has led there, and this is so of it
+abbrev pub HasLedWith : Point → (ℕ → Machine → Type 0) → Type 0 → (ℕ → Machine → Type 0) → Type 0 → Point → (List HistoryEntry → Type 0) → Type 0
+HasLedWith start was_safe was_faithful safe faithful now so = (history : List HistoryEntry) × LeadsTo start was_safe was_faithful safe faithful history now × so history
 
 -- A run that begins with one disk and hands back another: no store was opened, and the reason is written; or one was.
 abbrev pub IsRun : {D E : Type 0} → (D → Type 0) → (D → ℕ → ℕ → FileState) → (D → ℕ) → (D → ℕ) → D → D → Bool → Option (List ℕ) → Option (List ℕ) → Option (List ℕ) → Result Status E → Type 0
@@ -129,20 +144,28 @@ IsRun is_faithful states_of clock_of failures_of old new can_read known before a
     ⊎ OpensAndRuns is_faithful states_of clock_of failures_of (seen_in (states_of old (clock_of old))) new can_read known before after told
 
 -- From here the lines were read to their end, and the run has ended; or no part follows, which is the last line.
-abbrev pub GoesToEnd : ℕ → Bool → Result Part Refusal → ℕ → Option (List ℕ) → Option (List ℕ) → Option (List ℕ) → Status → Type 0
-GoesToEnd limit can_read (Err why) line known was is status = Appends was is (refusal_text why ++ 10 ∷ []) × (status ≡ Refused)
-GoesToEnd limit can_read (Ok here) line known was is status =
-    (end : Result Part Refusal) × (came_to : Status) × (played : Option (List ℕ)) × IsPlayedOn limit can_read (Ok here) line known was played came_to end × EndsRun end came_to played is status
+abbrev pub GoesToEnd : List HistoryEntry → ℕ → Bool → Result Part Refusal → ℕ → Option (List ℕ) → Option (List ℕ) → Option (List ℕ) → Status → Type 0
+GoesToEnd whole limit can_read (Err why) line known was is status = Appends was is (refusal_text why ++ 10 ∷ []) × (status ≡ Refused)
+GoesToEnd whole limit can_read (Ok here) line known was is status =
+    (end : Result Part Refusal) × (came_to : Status) × (played : Option (List ℕ)) × IsPlayedOn whole limit can_read (Ok here) line known was played came_to end × EndsRun whole end came_to played is status
 
--- a part was to begin on these trees after the change of this number: from there the run went to its end
-abbrev pub RunsFrom : PartStart → Point → List TreeMap → ℕ → ℕ → Option (List ℕ) → Option (List ℕ) → Option (List ℕ) → Status → Type 0
-RunsFrom start origin trees number hives known was is status =
-    (first : Result Part Refusal) × (told : Option (List ℕ)) × BeginsOrNot origin trees number hives start.moment first × Appends was told (start_text start.kind first) × GoesToEnd start.limit start.can_read first start.line known told is status
+-- A part was to begin after this past, on these trees after the change of this number: from there the run went to its
+-- end.
+abbrev pub RunsFrom : List HistoryEntry → List HistoryEntry → PartStart → Point → List TreeMap → ℕ → ℕ → Option (List ℕ) → Option (List ℕ) → Option (List ℕ) → Status → Type 0
+RunsFrom whole past start origin trees number hives known was is status =
+    (first : Result Part Refusal) × (told : Option (List ℕ)) × BeginsOrNot whole past origin trees number hives start.moment first × Appends was told (start_text start.kind first) × GoesToEnd whole start.limit start.can_read first start.line known told is status
 
--- The run ended in a part that was to begin so. Or the part's history is to be folded: however the run goes to its end
--- then, that is how it does from the part's beginning.
-abbrev pub EndsPart : PartStart → Point → List TreeMap → ℕ → ℕ → Option (List ℕ) → Option (List ℕ) → PartEnd → Option (List ℕ) → Option (List ℕ) → Type 0
-EndsPart start origin trees number hives known was (RunEnded ran) rest is = IfOk ran (λ status. RunsFrom start origin trees number hives known was is status)
-EndsPart start origin trees number hives known was (ToFold next) rest is =
-    (follows : Result Part Refusal) (told after : Option (List ℕ)) (status : Status) → FoldsAt trees number hives next.moment follows → Appends is told (start_text next.kind follows) → GoesToEnd start.limit start.can_read follows next.line rest told after status
-    → RunsFrom start origin trees number hives known was after (with_refusal next.has_refusal status)
+-- The run ended in a part that was to begin so, and of which this was seen. Or the part's history is to be folded: however
+-- the run goes to its end then, that is how it does from the part's beginning. In each case what was seen stands in the
+-- whole history.
+abbrev pub EndsPart : List HistoryEntry → List HistoryEntry → PartStart → Point → List TreeMap → ℕ → ℕ → Sight → Option (List ℕ) → Option (List ℕ) → PartEnd → Option (List ℕ) → Option (List ℕ) → Type 0
+EndsPart whole past start origin trees number hives seen known was (RunEnded ran) rest is = LiesIn whole past origin seen → IfOk ran (λ status. RunsFrom whole past start origin trees number hives known was is status)
+EndsPart whole past start origin trees number hives seen known was (ToFold next) rest is =
+    (follows : Result Part Refusal) (told after : Option (List ℕ)) (status : Status) → FoldsAt whole past origin trees number hives seen next.moment follows → Appends is told (start_text next.kind follows) → GoesToEnd whole start.limit start.can_read follows next.line rest told after status
+    → RunsFrom whole past start origin trees number hives known was after (with_refusal next.has_refusal status)
+
+-- A part ends so over a registry that has this history of its own: something was seen of it, and wherever that history
+-- comes in a run's whole one, the part ends so.
+abbrev pub EndsPartAfter : List HistoryEntry → PartStart → Point → List TreeMap → ℕ → ℕ → Option (List ℕ) → Option (List ℕ) → PartEnd → Option (List ℕ) → Option (List ℕ) → Type 0
+EndsPartAfter own start origin trees number hives known was end rest is =
+    (seen : Sight) × SeesMore seen (sight_of origin own) × ((whole past : List HistoryEntry) → EndsPart whole past start origin trees number hives seen known was end rest is)

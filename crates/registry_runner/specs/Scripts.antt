@@ -1,7 +1,7 @@
 -- What the lines of a script ask of a registry, and the replies to them.
 use Rattle.std.specs.Prelude.{◌≡◌, ℕ, ◌⊎◌, true, false, List, Option, Some, None, Result, Ok, Err}
 use Rattle.refusals.specs.declared.refusal.Refusal.{Refusal}
-use Rattle.refusals.specs.declared.refusal.Refusal.TheVariants.{NoMemory, NoSuchHandle}
+use Rattle.refusals.specs.declared.refusal.Refusal.TheVariants.{Faulted, NoMemory, NoSuchHandle}
 use Rattle.reg_tree.specs.Maps.{TreeMap}
 use Rattle.script_runner.specs.Plays.{is_refusal}
 use Rattle.script_runner.specs.Requests.{operation_of}
@@ -12,17 +12,16 @@ use Rattle.script_syntax.specs.declared.line.Line.TheVariants.{Hives, History, A
 use Rattle.reply_lines.specs.declared.reply.ReplyLine.{ReplyLine}
 use Rattle.reply_lines.specs.declared.reply.ReplyLine.TheVariants as reply
 use Rattle.histories.specs.Points.{Point}
+use Rattle.store_model.specs.Machine.{is_of_device}
 use Rattle.store_model.specs.declared.event.Event.{Event}
 use Rattle.store_model.specs.declared.event.Event.TheVariants as event
 use Rattle.store_model.specs.declared.event.Reply.TheVariants as answer
 use Rattle.store_model.specs.declared.handle.Tx.{Tx}
-use Rattle.ktm_calls.specs.Denials.{IsTurnDenied}
 use Rattle.ktm_calls.specs.Kinds.{Told}
 use Rattle.ktm_calls.specs.Moments.{NumberedSight, SeesMore, Sight, Tells}
-use Rattle.ktm_calls.specs.declared.registry.Denied.{Denied}
 use Rattle.registry_runner.specs.declared.script.LineAnswer.{LineAnswer}
 use Rattle.registry_runner.specs.declared.script.LineAnswer.TheVariants as answered
-use Rattle.registry_runner.specs.Heard.{GoesOn, Hears, HearsAlone, HearsDurably, HearsInside, HearsOutcome, IsHeard, denied_reply}
+use Rattle.registry_runner.specs.Heard.{GoesOn, Hears, HearsAlone, HearsDurably, HearsInside, HearsOutcome, IsHeard}
 
 -- a script between two lines: the moment of what follows, the session in which it is asked, and the transaction that
 -- each label names
@@ -66,15 +65,18 @@ abbrev pub AsksInside : Point → List TreeMap → ℕ → ℕ → Script → Tx
 AsksInside origin trees number hives old tx asked reported new = HearsInside origin trees number hives old.moment tx old.session asked reported new.session × InSession old new
 
 -- Why no session is opened: there is no memory, or a machine of the registry refused the event so; or the one that is
--- asked for is open, and a machine refused another event so
-abbrev pub MayNotEnter : Point → List TreeMap → ℕ → ℕ → Refusal → Type 0
-MayNotEnter origin trees number hives why =
-    (why ≡ NoMemory) ⊎ ((event : Event) × (was is : Sight) × (told : Told) × Tells origin trees number hives was is event told × (told.reply ≡ answer.Refused why))
+-- asked for is open, and a machine refused another event so. What is seen then goes on from that refusal.
+abbrev pub MayNotEnter : Point → List TreeMap → ℕ → ℕ → Sight → Refusal → Type 0
+MayNotEnter origin trees number hives is why =
+    (why ≡ NoMemory) ⊎ ((event : Event) × (was mid : Sight) × (told : Told) × Tells origin trees number hives was mid event told × SeesMore mid is × (told.reply ≡ answer.Refused why))
 
--- another session is the current one, which has seen what the one before it had; or none is opened
+-- Another session is the current one, which has seen what the one before it had. Or none is opened, and the current one
+-- goes on.
 abbrev pub Enters : Point → List TreeMap → ℕ → ℕ → Script → ReplyLine → Script → Type 0
 Enters origin trees number hives old reported new =
-    ((reported ≡ reply.Done) × InSession old new × SeesMore old.session.seen new.session.seen) ⊎ ((why : Refusal) × MayNotEnter origin trees number hives why × IsRefused old why reported new)
+    InSession old new
+    × (((reported ≡ reply.Done) × SeesMore old.session.seen new.session.seen)
+    ⊎ (GoesOn old.session new.session × (why : Refusal) × MayNotEnter origin trees number hives new.session.seen why × (reported ≡ reply.Refused why)))
 
 -- A session that is open ends, or none of this number is open. If it was the current one, another is, which isn't open.
 -- What the current session had seen is a beginning of what was seen before the end, and that of what is seen then.
@@ -113,11 +115,24 @@ Flushes origin trees number hives old reported new = AsksDurably origin trees nu
 abbrev pub IsFlushed : Point → List TreeMap → ℕ → ℕ → Script → Script → Type 0
 IsFlushed origin trees number hives old new = (flushed : ReplyLine) × Flushes origin trees number hives old flushed new × (is_refusal flushed ≡ false)
 
+-- the current session goes on unasked, and nothing else changes
+abbrev pub SeesOn : Script → Script → Type 0
+SeesOn old new = GoesOn old.session new.session × InSession old new
+
+-- all that was accepted is made durable, and then the session may go on
+abbrev pub FlushesOn : Point → List TreeMap → ℕ → ℕ → Script → ReplyLine → Script → Type 0
+FlushesOn origin trees number hives old reported new = (mid : Script) × Flushes origin trees number hives old reported mid × SeesOn mid new
+
+-- Why a step is refused that no line asked for: there is no memory. Or the device has failed: by what is seen then, a
+-- machine of the registry refused an event for being faulted.
+abbrev pub MayNotStep : Point → List TreeMap → ℕ → ℕ → Sight → Refusal → Type 0
+MayNotStep origin trees number hives is why = (why ≡ NoMemory) ⊎ ((is_of_device why ≡ true) × MayNotEnter origin trees number hives is Faulted)
+
 -- The history isn't folded: the flush before it is refused; or a step is that moves into the hives what they lack.
 abbrev pub RefusesFold : Point → List TreeMap → ℕ → ℕ → Script → ReplyLine → Script → Type 0
 RefusesFold origin trees number hives old reported new =
     (Flushes origin trees number hives old reported new × (is_refusal reported ≡ true))
-    ⊎ (IsFlushed origin trees number hives old new × (why : Denied) × IsTurnDenied why × (reported ≡ denied_reply why))
+    ⊎ ((mid : Script) × IsFlushed origin trees number hives old mid × SeesOn mid new × (why : Refusal) × MayNotStep origin trees number hives new.session.seen why × (reported ≡ reply.Refused why))
 
 -- From old, the line may be answered this reply over a registry whose list begins with these trees after this number,
 -- and leave new. Its names are tested first: the path, then a value's name; then its label. A line `fold` is answered

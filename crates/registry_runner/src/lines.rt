@@ -1,8 +1,9 @@
 //! The lines of a part, one after another.
-ghost use Rattle.std.specs.Prelude.{◌≡◌, IfOk, OnOk};
+ghost use Rattle.std.specs.Prelude.{◌≡◌, IfOk, List, OnOk};
 ghost use Rattle.std.specs.Io.KnownBytes.{Appends, Keeps};
 ghost use Rattle.reply_lines.specs.Replies.{reply_line};
 ghost use Rattle.script_runner.specs.Plays.{is_refusal};
+ghost use Rattle.histories.specs.Points.{HistoryEntry};
 ghost use Rattle.registry_runner.specs.Interpreters.{part_of, script_of};
 ghost use Rattle.registry_runner.specs.PartLines.{Between};
 
@@ -66,7 +67,8 @@ impl<O: Start> Drop for PartLines<O> {
 }
 
 impl<O: Start> PartLines<O> {
-    ghost use Rattle.std.specs.Prelude.{◌≡◌, true, IfOk};
+    ghost use Rattle.std.specs.Prelude.{◌≡◌, true, IfOk, List};
+    ghost use Rattle.histories.specs.Points.{HistoryEntry};
     ghost use Rattle.registry_runner.specs.Interpreters.{part_of, script_of};
     ghost use Rattle.registry_runner.specs.Plays.{LinesCome};
 
@@ -93,8 +95,8 @@ impl<O: Start> PartLines<O> {
     ) -> io::Result<LinesEnd>
         requires first { self.old.history.first ≡ O.number }
         requires limit { self.old.history.limit ≡ start.limit }
-        ensures { IfOk result (λ end. LinesCome start.limit true
-            (part_of O.start O.trees O.number O.hives self.old.script) start.line (B.remaining reader.old)
+        ensures { (whole past : List HistoryEntry) → IfOk result (λ end. LinesCome whole start.limit true
+            (part_of past O.start O.trees O.number O.hives self.old.script) start.line (B.remaining reader.old)
             (W.contents writer.old) end (script_of self.new.script) (B.remaining reader.new)
             (W.contents writer.new)) }
     {
@@ -116,14 +118,15 @@ impl<O: Start> PartLines<O> {
 impl<'a, E: StoreEngine, O: Start, R: Wait> Answerer<Caller<'a, E, O, R>> for PartLines<O> {
     type Stop = PartKind;
 
-    ghost use Rattle.std.specs.Prelude.{◌≡◌, None};
+    ghost use Rattle.std.specs.Prelude.{◌≡◌, None, List};
+    ghost use Rattle.histories.specs.Points.{HistoryEntry};
     ghost use Rattle.script_runner.specs.Scripts.{line_asked};
     ghost use Rattle.registry_runner.specs.Interpreters.{part_of, script_of};
     ghost use Rattle.registry_runner.specs.PartLines.{AnswersInPart, StopsInPart, OverHistory};
 
-    ghost answers = { λ old line text refused new. OverHistory O.number old.history new.history (AnswersInPart old.history.limit (part_of O.start O.trees O.number O.hives old.script) line text refused (script_of new.script)) };
+    ghost answers = { λ old line text refused new. OverHistory O.number old.history new.history ((past : List HistoryEntry) → AnswersInPart old.history.limit (part_of past O.start O.trees O.number O.hives old.script) line text refused (script_of new.script)) };
 
-    ghost stops = { λ old line text refused why new. OverHistory O.number old.history new.history (StopsInPart old.history.limit (part_of O.start O.trees O.number O.hives old.script) line text refused why (script_of new.script)) };
+    ghost stops = { λ old line text refused why new. OverHistory O.number old.history new.history ((past : List HistoryEntry) → StopsInPart old.history.limit (part_of past O.start O.trees O.number O.hives old.script) line text refused why (script_of new.script)) };
 
     ghost is_none = { λ line. line_asked line ≡ None };
 
@@ -178,8 +181,8 @@ fn work_between_lines<E: StoreEngine, O: Start, R: Wait, W: Write>(
     told: u64,
     writer: &mut W,
 ) -> io::Result<BetweenLines>
-    ensures between { IfOk result (λ next. history.old.first ≡ O.number → Between history.old.limit
-        (part_of O.start O.trees O.number O.hives script.old) told next (script_of script.new)) }
+    ensures between { (past : List HistoryEntry) → IfOk result (λ next. history.old.first ≡ O.number → Between history.old.limit
+        (part_of past O.start O.trees O.number O.hives script.old) told next (script_of script.new)) }
     ensures kept { OnOk result (Keeps (W.contents writer.old) (W.contents writer.new)) }
     ensures same { (history.new.first ≡ history.old.first) × (history.new.limit ≡ history.old.limit) }
 {

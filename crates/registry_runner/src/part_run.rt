@@ -1,26 +1,26 @@
 //! One part of a run: a script's lines over a registry, beside a flusher.
-ghost use Rattle.std.specs.Prelude.{◌≡◌, ℕ, [], Ok, IfErr, IfOk};
+ghost use Rattle.std.specs.Prelude.{◌≡◌, ℕ, List, [], Ok, IfErr, IfOk};
 ghost use Rattle.std.specs.Io.KnownBytes.{Appends};
 ghost use Rattle.store_model.specs.Machine.{Machine};
-ghost use Rattle.histories.specs.Histories.{HasLed};
-ghost use Rattle.histories.specs.Points.{point_of};
+ghost use Rattle.histories.specs.Points.{HistoryEntry, point_of};
 ghost use Rattle.ktm_calls.specs.Denials.{IsTurnDenied};
-ghost use Rattle.ktm_calls.specs.Moments.{IsOf};
+ghost use Rattle.ktm_calls.specs.Moments.{IsOf, SeesMore};
 ghost use Rattle.registry_runner.specs.Interpreters.{part_of, script_of};
 ghost use Rattle.registry_runner.specs.Parts.{IsBegun, kind_text};
 ghost use Rattle.registry_runner.specs.Plays.{IsUnread, LinesCome, PartComes};
-ghost use Rattle.registry_runner.specs.Running.{EndsPart};
+ghost use Rattle.registry_runner.specs.Running.{EndsPart, EndsPartAfter, HasLedWith, MayBeUndone, MayHaveEnded};
 
 use crate::caller::Caller;
 use crate::gate::EndOfLines;
 use crate::lines::{LinesEnd, PartLines};
 use crate::parts::{NextPart, PartEnd, PartKind, PartStart};
-use crate::run_end::{finish, write_refusal, written_out};
+use crate::run_end::{finish, undone, write_refusal, written_out};
 use crate::script::Script;
 use flusher::try_run_beside;
 use histories::{EventCount, Start};
-use ktm_calls::{Denied, Ended, Registry, Stopped};
+use ktm_calls::{Denied, Ended, Registry, Sight, Stopped};
 use published_trees::{ChangeCount, SeenChanges};
+use refusals::Refusal;
 use reply_lines::{ReplyLine, Status};
 use script_loop::{EndOfScript, end};
 use std::alloc::Global;
@@ -59,12 +59,12 @@ pub fn run_part<
         × ((E.machine engine).accepted ≡ []) × ((E.machine engine).sessions ≡ []) }
     requires number { start.number ≡ O.number }
     ensures store { E.store result.0 ≡ O.store }
-    ensures history { HasLed O.start O.safe O.faithful
-        (E.safe result.0) (E.faithful result.0) (point_of (E.machine result.0) (E.clock result.0) (E.failures result.0)) }
     ensures owner { IsOf O.trees O.number O.hives (E.machine result.0) }
     ensures sessions { (E.machine result.0).sessions ≡ [] }
-    ensures ends { EndsPart start O.start O.trees O.number O.hives (B.remaining reader.old) (W.contents writer.old)
-        result.1 (B.remaining reader.new) (W.contents writer.new) }
+    ensures ends { HasLedWith O.start O.safe O.faithful (E.safe result.0) (E.faithful result.0)
+        (point_of (E.machine result.0) (E.clock result.0) (E.failures result.0))
+        (λ history. EndsPartAfter history start O.start O.trees O.number O.hives (B.remaining reader.old)
+        (W.contents writer.old) result.1 (B.remaining reader.new) (W.contents writer.new)) }
 {
     engine.keeps_a_prefix(); // for the prover
     let registry = match Registry::<E, O>::new(alloc, rt, engine, events, count, seen) {
@@ -79,32 +79,38 @@ pub fn run_part<
         alloc,
         registry: &registry,
     };
-    let end = run_by(&caller, start, reader, writer);
+    let (end, seen) = run_by(&caller, start, reader, writer);
     let Ended {
         engine,
         events: _,
         durable: _,
-    } = registry.end(rt, Vec::new(alloc), Vec::new(alloc));
+    } = registry.end(rt, &seen, Vec::new(alloc));
     (engine, end)
 }
 
-// begins a script, and runs it
+// begins a script, and runs it; what was seen of the registry by its end is handed out
 fn run_by<
     O: Start + Send + Sync,
     E: StoreEngine + Send,
     R: Threads + Wait + Sync,
     B: BufRead,
     W: Write,
->(caller: &Caller<'_, E, O, R>, start: PartStart, reader: &mut B, writer: &mut W) -> PartEnd
+>(
+    caller: &Caller<'_, E, O, R>,
+    start: PartStart,
+    reader: &mut B,
+    writer: &mut W,
+) -> (PartEnd, Sight<O>)
     requires number { start.number ≡ O.number }
-    ensures { EndsPart start O.start O.trees O.number O.hives (B.remaining reader.old) (W.contents writer.old) result
-        (B.remaining reader.new) (W.contents writer.new) }
+    ensures { (whole past : List HistoryEntry) → EndsPart whole past start O.start O.trees O.number O.hives result.1
+        (B.remaining reader.old) (W.contents writer.old) result.0 (B.remaining reader.new) (W.contents writer.new) }
 {
     match Script::begin(caller, start.moment) {
         Ok(script) => run_begun(caller, script, start, reader, writer),
-        Err(why) => PartEnd::RunEnded {
-            ran: write_refusal(writer, why),
-        },
+        Err((why, seen)) => {
+            let ran = write_refusal(writer, why);
+            (PartEnd::RunEnded { ran }, seen)
+        }
     }
 }
 
@@ -121,15 +127,16 @@ fn run_begun<
     start: PartStart,
     reader: &mut B,
     writer: &mut W,
-) -> PartEnd
+) -> (PartEnd, Sight<O>)
     requires begun { IsBegun O.start O.trees O.number O.hives start.moment (script_of script) }
     requires number { start.number ≡ O.number }
-    ensures { EndsPart start O.start O.trees O.number O.hives (B.remaining reader.old) (W.contents writer.old) result
-        (B.remaining reader.new) (W.contents writer.new) }
+    ensures { (whole past : List HistoryEntry) → EndsPart whole past start O.start O.trees O.number O.hives result.1
+        (B.remaining reader.old) (W.contents writer.old) result.0 (B.remaining reader.new) (W.contents writer.new) }
 {
     let mut lines = PartLines::new(script, start);
     let gate = EndOfLines::new(caller.rt);
-    run_told(caller, &gate, &mut lines, start, reader, writer)
+    let end = run_told(caller, &gate, &mut lines, start, reader, writer);
+    (end, lines.script.session.sight().again())
 }
 
 // prints what the part prints first, and runs the script beside a flusher
@@ -151,7 +158,8 @@ fn run_told<
     requires first { lines.old.history.first ≡ O.number }
     requires limit { lines.old.history.limit ≡ start.limit }
     requires number { start.number ≡ O.number }
-    ensures { EndsPart start O.start O.trees O.number O.hives (B.remaining reader.old) (W.contents writer.old) result
+    ensures { (whole past : List HistoryEntry) → EndsPart whole past start O.start O.trees O.number O.hives
+        (script_of lines.new.script).session.seen (B.remaining reader.old) (W.contents writer.old) result
         (B.remaining reader.new) (W.contents writer.new) }
 {
     if let Err(error) = write_start(writer, start.kind, start.number) {
@@ -164,9 +172,32 @@ fn run_told<
             played,
             has_failed,
             flush,
-        } => PartEnd::RunEnded {
-            ran: finish(played, has_failed, flush, flushed, writer),
-        },
+        } => {
+            let ended = undone(has_failed, flushed);
+            let left = left_undone(caller, &mut lines.script, ended);
+            PartEnd::RunEnded {
+                ran: finish(played, flush, left, writer),
+            }
+        }
+    }
+}
+
+// what the end of a run reports, if this ended the steps that no line asked for
+fn left_undone<O: Start, E: StoreEngine, R: Wait>(
+    caller: &Caller<'_, E, O, R>,
+    script: &mut Script<O>,
+    ended: Option<Refusal>,
+) -> Option<Refusal>
+    requires { MayHaveEnded ended }
+    ensures later { SeesMore (script_of script.old).session.seen (script_of script.new).session.seen }
+    ensures may { MayBeUndone O.start O.trees O.number O.hives (script_of script.new).session.seen result }
+{
+    match ended {
+        Some(Refusal::DiskFault) => Some(caller.step_refusal(
+            &mut script.session,
+            Refusal::DiskFault,
+        )),
+        other => other,
     }
 }
 
@@ -205,7 +236,8 @@ fn read_beside_flusher<
 ) -> (LinesEnded, Result<Stopped, Denied>)
     requires first { lines.old.history.first ≡ O.number }
     requires limit { lines.old.history.limit ≡ start.limit }
-    ensures ended { PartComes start.limit start.can_read (part_of O.start O.trees O.number O.hives lines.old.script) start.line
+    ensures ended { (whole past : List HistoryEntry) → PartComes whole start.limit start.can_read
+        (part_of past O.start O.trees O.number O.hives lines.old.script) start.line
         (B.remaining reader.old) (W.contents writer.old) result.0 (script_of lines.new.script)
         (B.remaining reader.new) (W.contents writer.new) }
     ensures flushed { IfErr result.1 IsTurnDenied }
@@ -216,8 +248,8 @@ fn read_beside_flusher<
         gate,
         &mut || -> LinesEnded
             requires { (lines.now.history.first ≡ O.number) × (lines.now.history.limit ≡ start.limit) }
-            ensures { PartComes start.limit start.can_read
-                (part_of O.start O.trees O.number O.hives lines.entry.now.script) start.line (B.remaining reader.entry.now)
+            ensures { (whole past : List HistoryEntry) → PartComes whole start.limit start.can_read
+                (part_of past O.start O.trees O.number O.hives lines.entry.now.script) start.line (B.remaining reader.entry.now)
                 (W.contents writer.entry.now) result (script_of lines.exit.now.script)
                 (B.remaining reader.exit.now) (W.contents writer.exit.now) }
         { read_to_end(caller, gate, lines, start, reader, writer) },
@@ -250,7 +282,8 @@ fn read_to_end<O: Start, E: StoreEngine, R: Wait, B: BufRead, W: Write>(
 ) -> LinesEnded
     requires first { lines.old.history.first ≡ O.number }
     requires limit { lines.old.history.limit ≡ start.limit }
-    ensures { PartComes start.limit start.can_read (part_of O.start O.trees O.number O.hives lines.old.script) start.line
+    ensures { (whole past : List HistoryEntry) → PartComes whole start.limit start.can_read
+        (part_of past O.start O.trees O.number O.hives lines.old.script) start.line
         (B.remaining reader.old) (W.contents writer.old) result (script_of lines.new.script)
         (B.remaining reader.new) (W.contents writer.new) }
 {
@@ -283,8 +316,8 @@ fn read_if<O: Start, E: StoreEngine, R: Wait, B: BufRead, W: Write>(
 ) -> io::Result<LinesEnd>
     requires first { lines.old.history.first ≡ O.number }
     requires limit { lines.old.history.limit ≡ start.limit }
-    ensures { IfOk result (λ end. LinesCome start.limit start.can_read
-        (part_of O.start O.trees O.number O.hives lines.old.script) start.line (B.remaining reader.old)
+    ensures { (whole past : List HistoryEntry) → IfOk result (λ end. LinesCome whole start.limit start.can_read
+        (part_of past O.start O.trees O.number O.hives lines.old.script) start.line (B.remaining reader.old)
         (W.contents writer.old) end (script_of lines.new.script) (B.remaining reader.new)
         (W.contents writer.new)) }
 {

@@ -8,7 +8,7 @@ ghost use Rattle.histories.specs.Histories.{HasLed};
 ghost use Rattle.histories.specs.Points.{point_of};
 ghost use Rattle.registry_runner.specs.Folding.{HistoryStays, IsFoldedAt, IsIdle};
 ghost use Rattle.registry_runner.specs.Parts.{MayNotFold};
-ghost use Rattle.registry_runner.specs.Running.{IsOfStore, RunsFrom};
+ghost use Rattle.registry_runner.specs.Running.{HasLedWith, IsOfStore, RunsFrom};
 
 use crate::part_run::run_part;
 use crate::run_end::write_refusal;
@@ -94,15 +94,15 @@ pub fn run_parts<E: StoreEngine + Send, R: Threads + Wait + Sync, B: BufRead, W:
     requires engine { IsIdle (E.machine engine) }
     requires number { start.number ≡ (E.machine engine).before }
     ensures store { E.store result.0 ≡ E.store engine }
-    ensures history { HasLed
-        (point_of (E.machine engine) (E.clock engine) (E.failures engine)) (E.safe engine) (E.faithful engine)
-        (E.safe result.0) (E.faithful result.0) (point_of (E.machine result.0) (E.clock result.0) (E.failures result.0)) }
     ensures owner { IsOfStore (E.machine engine).opened (E.machine engine).before
         (E.machine engine).bounds.hives (E.machine result.0) }
-    ensures runs { IfOk result.1 (λ status. RunsFrom start (point_of (E.machine engine) (E.clock engine) (E.failures engine))
-        (E.machine engine).opened
+    ensures runs { HasLedWith
+        (point_of (E.machine engine) (E.clock engine) (E.failures engine)) (E.safe engine) (E.faithful engine)
+        (E.safe result.0) (E.faithful result.0) (point_of (E.machine result.0) (E.clock result.0) (E.failures result.0))
+        (λ history. IfOk result.1 (λ status. RunsFrom history [] start
+        (point_of (E.machine engine) (E.clock engine) (E.failures engine)) (E.machine engine).opened
         (E.machine engine).before (E.machine engine).bounds.hives (B.remaining reader.old)
-        (W.contents writer.old) (W.contents writer.new) status) }
+        (W.contents writer.old) (W.contents writer.new) status)) }
 {
     let mut engine = engine;
     let mut start = start;

@@ -6,7 +6,7 @@ ghost use Rattle.refusals.specs.declared.refusal.Refusal.{Refusal as AnyRefusal}
 ghost use Rattle.reply_lines.specs.Statuses.{with_refusal};
 ghost use Rattle.script_runner.specs.Plays.{is_refusal};
 ghost use Rattle.ktm_calls.specs.Denials.{IsTurnDenied};
-ghost use Rattle.registry_runner.specs.Running.{MayBeUndone, flushed_text, undone, undone_text};
+ghost use Rattle.registry_runner.specs.Running.{MayHaveEnded, flushed_text, undone, undone_text};
 
 use ktm_calls::{Denied, Stopped};
 use refusals::Refusal;
@@ -15,23 +15,19 @@ use script_runner::is_refusal;
 use std::io;
 use std::io::Write;
 
-/// Reports the flush of the end and the flusher's work, if they were refused.
+/// Reports the flush of the end, if it was refused, and what is left undone.
 pub fn finish<W: Write>(
     played: io::Result<Status>,
-    has_failed: bool,
     flush: ReplyLine,
-    flushed: Result<Stopped, Denied>,
+    left: Option<Refusal>,
     writer: &mut W,
 ) -> io::Result<Status>
-    requires { IfErr flushed IsTurnDenied }
     ensures reported { IfOk result (λ status. IfOk played (λ came_to.
-        (undone : Option AnyRefusal) × MayBeUndone undone
-        × (status ≡ with_refusal (is_some undone) (with_refusal (is_refusal flush) came_to))
+        (status ≡ with_refusal (is_some left) (with_refusal (is_refusal flush) came_to))
         × Appends (W.contents writer.old) (W.contents writer.new)
-        (flushed_text flush ++ undone_text undone))) }
+        (flushed_text flush ++ undone_text left))) }
     ensures played { IsOk result → IsOk played }
 {
-    let left = undone(has_failed, flushed);
     let played = write_flush_reply(writer, flush, played);
     write_undone(writer, left, played)
 }
@@ -47,12 +43,12 @@ pub fn written_out<W: Write>(writer: &mut W, played: io::Result<Status>) -> io::
     Ok(came_to)
 }
 
-// what the end reports of the steps that no line asked for: that the device failed in one of them; or what ended the
-// flusher, except `Faulted`, whose cause was reported then
-fn undone(has_failed: bool, flushed: Result<Stopped, Denied>) -> Option<Refusal>
+/// What ended the steps that no line asked for: that the device failed in one of them; or what ended the flusher, except
+/// `Faulted`, whose cause was reported then.
+pub fn undone(has_failed: bool, flushed: Result<Stopped, Denied>) -> Option<Refusal>
     requires { IfErr flushed IsTurnDenied }
     ensures is { result ≡ undone has_failed flushed }
-    ensures may { MayBeUndone result }
+    ensures may { MayHaveEnded result }
 {
     if has_failed {
         return Some(Refusal::DiskFault);

@@ -13,7 +13,7 @@ use crate::caller::Caller;
 use crate::labels::tx_of;
 use crate::parts::{NextPart, PartKind};
 use histories::Start;
-use ktm_calls::{Key, Session};
+use ktm_calls::{Key, Session, Sight};
 use refusals::Refusal;
 use reg_names::Path;
 use reply_lines::ReplyLine;
@@ -96,15 +96,18 @@ impl<O: Start> Drop for Script<O> {
 
 impl<O: Start> Script<O> {
     /// A script before its first line: no label names anything, and session 0 is open and the current one. Refused as
-    /// that session is, and with `NoMemory`.
+    /// that session is, and with `NoMemory`; what is seen then comes back.
     pub fn begin<E: StoreEngine, R: Wait>(
         caller: &Caller<'_, E, O, R>,
         moment: u64,
-    ) -> Result<Script<O>, Refusal>
+    ) -> Result<Script<O>, (Refusal, Sight<O>)>
         ensures begun { IfOk result (λ script. IsBegun O.start O.trees O.number O.hives moment (script_of script)) }
-        ensures refused { IfErr result (MayNotEnter O.start O.trees O.number O.hives) }
+        ensures refused { IfErr result (λ why. MayNotEnter O.start O.trees O.number O.hives why.1 why.0) }
     {
-        let root = Key::new(0, Path::root(caller.alloc)?);
+        let Ok(root) = Path::root(caller.alloc) else {
+            return Err((Refusal::NoMemory, caller.all_seen()));
+        };
+        let root = Key::new(0, root);
         let session = caller.open_session()?;
         Ok(Script {
             moment,

@@ -30,16 +30,16 @@ impl<O: Start> Script<O> {
             (line.Session number) (Refused refusal) (script_of self.new)) }
     {
         if self.is_open && number == self.number {
-            caller.check_not_faulted()?;
+            caller.check_not_faulted(&mut self.session)?;
             return Ok(ReplyLine::Done);
         }
         self.others.reserve(1)?;
         let session = match self.place_of(number) {
             Some(place) => {
-                caller.check_not_faulted()?;
+                caller.check_not_faulted(&mut self.session)?;
                 self.take_other(place)
             }
-            None => caller.open_session_after(&self.session)?,
+            None => caller.open_session_after(&mut self.session)?,
         };
         self.make_current(number, session);
         Ok(ReplyLine::Done)

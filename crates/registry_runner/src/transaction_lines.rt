@@ -3,12 +3,14 @@ ghost use Rattle.std.specs.Prelude.{IfErr, IfOk};
 ghost use Rattle.script_syntax.specs.declared.line.Line.TheVariants.{Begin, Close, Commit, Flush, Fold, Kept, Outcome, Rollback};
 ghost use Rattle.reply_lines.specs.declared.reply.ReplyLine.TheVariants.{Refused};
 ghost use Rattle.registry_runner.specs.Interpreters.{script_of};
-ghost use Rattle.registry_runner.specs.Scripts.{Answers, AnswersLine};
+ghost use Rattle.registry_runner.specs.Heard.{GoesOn};
+ghost use Rattle.registry_runner.specs.Scripts.{Answers, AnswersLine, InSession, MayNotStep};
 
 use crate::caller::{Caller, denied_reply, reply_to};
 use crate::labels::{make_room, name};
 use crate::script::{LineAnswer, Script};
 use histories::Start;
+use ktm_calls::Denied;
 use refusals::Refusal;
 use reply_lines::ReplyLine;
 use script_runner::{is_refusal, reply_of};
@@ -165,9 +167,29 @@ impl<O: Start> Script<O> {
         }
         match caller.registry.checkpoint(caller.rt) {
             Ok(_receipt) => LineAnswer::ToFold,
-            Err(denied) => LineAnswer::Reply {
-                reply: denied_reply(denied),
-            },
+            Err(denied) => {
+                let refusal = self.step_refusal(caller, denied);
+                LineAnswer::Reply {
+                    reply: ReplyLine::Refused { refusal },
+                }
+            }
+        }
+    }
+
+    // the refusal to tell of a step that no line asked for
+    fn step_refusal<E: StoreEngine, R: Wait>(
+        &mut self,
+        caller: &Caller<'_, E, O, R>,
+        denied: Denied,
+    ) -> Refusal
+        ensures session { InSession (script_of self.old) (script_of self.new) }
+        ensures goes_on { GoesOn (script_of self.old).session (script_of self.new).session }
+        ensures may { MayNotStep O.start O.trees O.number O.hives (script_of self.new).session.seen result }
+    {
+        match denied.refusal() {
+            Some(Refusal::DiskFault) => caller.step_refusal(&mut self.session, Refusal::DiskFault),
+            Some(Refusal::Faulted) => caller.step_refusal(&mut self.session, Refusal::Faulted),
+            _ => Refusal::NoMemory,
         }
     }
 }

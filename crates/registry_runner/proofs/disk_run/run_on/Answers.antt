@@ -1,7 +1,7 @@
 use denote.Exit.{no}
 use denote.Param.{param}
 use denote.Param.Send.{param_send, arg_send}
-use Rattle.std.proofs.Common.{ℕ, inl, inr, subst, sym}
+use Rattle.std.proofs.Common.{ℕ, [], inl, inr, subst, sym}
 use Rattle.engine_send.proofs.EngineCrossing.{engine_send}
 use Rattle.script_loop.proofs.Texts.{if_ok}
 use Rattle.histories.specs.Points.{point_of}
@@ -30,6 +30,7 @@ returns-in-Ok-clause-runs g c =
     let number = c.in-Ok.number in
     let at = point_of engine.machine (D.clock engine.disk) (D.failures engine.disk) in
     let last = c.run_parts-engine.result.0 in
+    let led = c.run_parts-engine.ensures.runs in
     let known = g.B.Read.remaining c.args.reader.now in
     let before = g.W.Write.contents c.args.writer.now in
     let after = g.W.Write.contents c.run_parts-engine.new.writer in
@@ -41,15 +42,15 @@ returns-in-Ok-clause-runs g c =
       number = number;
       machine = engine.machine;
       opened = opened;
-      runs = if_ok (λ status. RunsFrom (start c.history_limit.result) at engine.machine.opened engine.machine.before engine.machine.bounds.hives known before after status) _ c.run_parts-engine.result.1
-          (λ status runs. run_from engine.machine.bounds.changes number engine.machine.bounds.hives c.args.can_read at engine.machine.opened known before after status
-          (subst (λ limit. RunsFrom (start limit) at engine.machine.opened number engine.machine.bounds.hives known before after status) c.history_limit.ensures (subst (λ n. RunsFrom (start c.history_limit.result) at engine.machine.opened n engine.machine.bounds.hives known before after status) same runs)))
-          c.run_parts-engine.ensures.runs;
-      history = c.run_parts-engine.ensures.history.0;
+      history = led.0;
       last = last.machine;
       owner = subst (λ n. IsOfStore engine.machine.opened n engine.machine.bounds.hives last.machine) same c.run_parts-engine.ensures.owner;
-      left = (leaves_history D.faithful D.state_at D.clock D.failures engine.store last.store engine.disk last.disk c.into_disk.result engine.machine last.machine c.into_disk.ensures c.run_parts-engine.ensures.store c.run_parts-engine.ensures.history
+      left = (leaves_history D.faithful D.state_at D.clock D.failures engine.store last.store engine.disk last.disk c.into_disk.result engine.machine last.machine c.into_disk.ensures c.run_parts-engine.ensures.store (led.0, led.1)
           (λ f e. c.reads_a_prefix.ensures.honest f (inl e)) (λ f e. c.reads_a_prefix.ensures.prefix f (inl e)));
+      runs = if_ok (λ status. RunsFrom led.0 [] (start c.history_limit.result) at engine.machine.opened engine.machine.before engine.machine.bounds.hives known before after status) _ c.run_parts-engine.result.1
+          (λ status runs. run_from led.0 engine.machine.bounds.changes number engine.machine.bounds.hives c.args.can_read at engine.machine.opened known before after status
+          (subst (λ limit. RunsFrom led.0 [] (start limit) at engine.machine.opened number engine.machine.bounds.hives known before after status) c.history_limit.ensures (subst (λ n. RunsFrom led.0 [] (start c.history_limit.result) at engine.machine.opened n engine.machine.bounds.hives known before after status) same runs)))
+          led.2;
     })
 
 pub returns-in-Ok-clause-left : goal.returns-in-Ok-clause-left
@@ -57,8 +58,9 @@ returns-in-Ok-clause-left g c =
     let D = g.D.Disk in
     let engine = c.in-Ok.engine in
     let last = c.run_parts-engine.result.0 in
-    leaves_life D.faithful D.state_at D.clock D.failures engine.store c.in-Ok.number c.args.disk engine.disk c.into_disk.result engine.machine last.machine c.run_parts-engine.ensures.history.0 c.in-Ok.ensures.failures c.in-Ok.ensures.ok
-    (leaves_history D.faithful D.state_at D.clock D.failures engine.store last.store engine.disk last.disk c.into_disk.result engine.machine last.machine c.into_disk.ensures c.run_parts-engine.ensures.store c.run_parts-engine.ensures.history
+    let led = c.run_parts-engine.ensures.runs in
+    leaves_life D.faithful D.state_at D.clock D.failures engine.store c.in-Ok.number c.args.disk engine.disk c.into_disk.result engine.machine last.machine led.0 c.in-Ok.ensures.failures c.in-Ok.ensures.ok
+    (leaves_history D.faithful D.state_at D.clock D.failures engine.store last.store engine.disk last.disk c.into_disk.result engine.machine last.machine c.into_disk.ensures c.run_parts-engine.ensures.store (led.0, led.1)
     (λ f e. c.reads_a_prefix.ensures.honest f (inl e)) (λ f e. c.reads_a_prefix.ensures.prefix f (inl e)))
 
 pub returns-in-Err-clause-runs : goal.returns-in-Err-clause-runs

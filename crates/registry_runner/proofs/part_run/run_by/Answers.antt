@@ -3,7 +3,7 @@ use Rattle.registry_runner.proofs.Ending.{begins_not}
 use Rattle.registry_runner.proofs.part_run.run_by.Goals as goal
 
 pub returns-in-Err : goal.returns-in-Err
-returns-in-Err g c =
+returns-in-Err g c whole past stands =
     let O = g.O.Origin in
     let contents = g.W.Write.contents in
-    begins_not c.args.start g.O.Start.start O.trees O.number O.hives (g.B.Read.remaining c.args.reader.now) (contents c.args.writer.now) (contents c.write_refusal.new.writer) c.in-Err.why c.write_refusal.result (inr (inr c.in-Err.ensures.refused)) c.write_refusal.ensures
+    begins_not whole past c.args.start g.O.Start.start O.trees O.number O.hives (g.B.Read.remaining c.args.reader.now) (contents c.args.writer.now) (contents c.write_refusal-ran.new.writer) c.in-Err.why c.write_refusal-ran.result (inr (inr (c.in-Err.seen, stands, c.in-Err.ensures.refused))) c.write_refusal-ran.ensures

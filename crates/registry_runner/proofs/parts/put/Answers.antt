@@ -10,5 +10,5 @@ returns-clause-history g c =
     let made = c.event.ensures in
     led_once (point_of (E.machine old) (E.clock old) (E.failures old)) (E.safe old) (E.safe new) (E.faithful old) (E.faithful new)
     (entry_of c.args.event c.event.result (point_of (E.machine new) (E.clock new) (E.failures new)))
-    (record { step = made.step; later = made.call.0; one = made.call.1; failed = made.failed; works = made.works })
+    (record { step = made.step; later = made.call.0; one = made.call.1; failed = made.failed; works = made.works; idle = made.idle })
     made.backward made.past c.keeps_a_prefix.ensures made.after

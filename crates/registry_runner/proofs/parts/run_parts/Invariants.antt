@@ -1,10 +1,10 @@
-use Rattle.std.proofs.Common.{◌≡◌, ℕ, List, Option}
+use Rattle.std.proofs.Common.{◌≡◌, ℕ, List, [], Option}
+use mathlib.Core.List.{IsPrefix}
 use Rattle.reply_lines.specs.Statuses.{with_refusal}
 use Rattle.reply_lines.specs.declared.status.Status.{Status}
-use Rattle.histories.specs.Histories.{HasLed}
-use Rattle.histories.specs.Points.{point_of}
+use Rattle.histories.specs.Points.{HistoryEntry, point_of}
 use Rattle.registry_runner.specs.Folding.{IsIdle}
-use Rattle.registry_runner.specs.Running.{IsOfStore, RunsFrom}
+use Rattle.registry_runner.specs.Running.{HasLedWith, IsOfStore, RunsFrom}
 use Rattle.registry_runner.proofs.parts.run_parts.Given as goal
 
 -- the registry of the part
@@ -14,8 +14,8 @@ ghosts-run_part-O-Origin g a = let machine = g.E.StoreEngine.machine a.engine in
 abbrev pub ghosts-run_part-O-Start : goal.ghosts-run_part-O-Start
 ghosts-run_part-O-Start g a = let E = g.E.StoreEngine in record { history = a.events.book; start = point_of (E.machine a.engine) (E.clock a.engine) (E.failures a.engine); store = E.store a.engine; faithful = E.faithful a.engine; safe = E.safe a.engine }
 
--- The next part may begin; and however the run goes to its end from there, it is the whole run with the refusals so far.
--- One history has led there.
+-- The next part may begin. One history has led there; and wherever it begins a whole one, however the run goes to its end
+-- from there, it is the whole run with the refusals so far.
 abbrev pub invariant-loop : goal.invariant-loop
 invariant-loop g l =
     let remaining = g.B.Read.remaining in
@@ -23,8 +23,9 @@ invariant-loop g l =
     let E = g.E.StoreEngine in
     let begun = g.E.StoreEngine.machine l.fn.engine in
     let machine = g.E.StoreEngine.machine l.engine in
-    IsOfStore begun.opened begun.before begun.bounds.hives machine × IsIdle machine × (l.start.number ≡ machine.before)
-    × ((status : Status) (after : Option (List ℕ)) → RunsFrom l.start (point_of machine (E.clock l.engine) (E.failures l.engine)) machine.opened machine.before machine.bounds.hives (remaining l.reader) (contents l.writer) after status
-    → RunsFrom l.fn.start (point_of begun (E.clock l.fn.engine) (E.failures l.fn.engine)) begun.opened begun.before begun.bounds.hives (remaining l.fn.reader) (contents l.fn.writer) after (with_refusal l.has_refusal status))
-    × (E.store l.engine ≡ E.store l.fn.engine)
-    × HasLed (point_of (E.machine l.fn.engine) (E.clock l.fn.engine) (E.failures l.fn.engine)) (E.safe l.fn.engine) (E.faithful l.fn.engine) (E.safe l.engine) (E.faithful l.engine) (point_of (E.machine l.engine) (E.clock l.engine) (E.failures l.engine))
+    let begun_at = point_of begun (E.clock l.fn.engine) (E.failures l.fn.engine) in
+    let here_at = point_of machine (E.clock l.engine) (E.failures l.engine) in
+    IsOfStore begun.opened begun.before begun.bounds.hives machine × IsIdle machine × (l.start.number ≡ machine.before) × (E.store l.engine ≡ E.store l.fn.engine)
+    × HasLedWith begun_at (E.safe l.fn.engine) (E.faithful l.fn.engine) (E.safe l.engine) (E.faithful l.engine) here_at
+    (λ past. (whole : List HistoryEntry) → IsPrefix past whole → (status : Status) (after : Option (List ℕ)) → RunsFrom whole past l.start here_at machine.opened machine.before machine.bounds.hives (remaining l.reader) (contents l.writer) after status
+    → RunsFrom whole [] l.fn.start begun_at begun.opened begun.before begun.bounds.hives (remaining l.fn.reader) (contents l.fn.writer) after (with_refusal l.has_refusal status))

@@ -9,7 +9,7 @@ use Rattle.registry_runner.proofs.LineProofs.{Answering, Stopping, Unanswered, e
 use Rattle.registry_runner.proofs.lines.PartLines.read.Goals as goal
 
 pub returns-in-Over : goal.returns-in-Over
-returns-in-Over g c =
+returns-in-Over g c whole past =
     let O = g.O.Origin in
     let start = c.args.start in
     let view : PartLines _ → Script = λ lines. script_of lines.script in
@@ -20,11 +20,11 @@ returns-in-Over g c =
     let rest = g.B.Read.remaining c.run_lines.new.reader in
     let was = g.W.Write.contents c.args.writer.now in
     let is = g.W.Write.contents c.run_lines.new.writer in
-    let run = subst (λ e. EndsLoop (Answering start.limit g.O.Start.start O.trees O.number O.hives view use_of) (Stopping start.limit g.O.Start.start O.trees O.number O.hives view use_of) (λ line. line_asked line ≡ None) (Unanswered start.limit g.O.Start.start O.trees O.number O.hives view use_of) old start.line known was e last rest is) c.in-Over.is c.in_ok-status.ensures in
-    ends_so start.limit g.O.Start.start O.trees O.number O.hives view use_of old last start.line known was rest is c.requires.first c.requires.limit c.in-Over.status run
+    let run = subst (λ e. EndsLoop (Answering whole past start.limit g.O.Start.start O.trees O.number O.hives view use_of) (Stopping whole past start.limit g.O.Start.start O.trees O.number O.hives view use_of) (λ line. line_asked line ≡ None) (Unanswered whole past start.limit g.O.Start.start O.trees O.number O.hives view use_of) old start.line known was e last rest is) c.in-Over.is c.in_ok-status.ensures in
+    ends_so whole past start.limit g.O.Start.start O.trees O.number O.hives view use_of old last start.line known was rest is c.requires.first c.requires.limit c.in-Over.status run
 
 pub returns : goal.returns
-returns g c =
+returns g c whole past =
     let O = g.O.Origin in
     let start = c.args.start in
     let view : PartLines _ → Script = λ lines. script_of lines.script in
@@ -36,5 +36,5 @@ returns g c =
     let was = g.W.Write.contents c.args.writer.now in
     let is = g.W.Write.contents c.run_lines.new.writer in
     let at = c.in-Stopped in
-    let run = subst (λ e. EndsLoop (Answering start.limit g.O.Start.start O.trees O.number O.hives view use_of) (Stopping start.limit g.O.Start.start O.trees O.number O.hives view use_of) (λ line. line_asked line ≡ None) (Unanswered start.limit g.O.Start.start O.trees O.number O.hives view use_of) old start.line known was e last rest is) at.is c.in_ok-status.ensures in
-    folds_so start.limit g.O.Start.start O.trees O.number O.hives view use_of old last start.line known was rest is c.requires.first c.requires.limit at.why at.next at.has_refusal c.next_part-next.result run c.next_part-next.ensures
+    let run = subst (λ e. EndsLoop (Answering whole past start.limit g.O.Start.start O.trees O.number O.hives view use_of) (Stopping whole past start.limit g.O.Start.start O.trees O.number O.hives view use_of) (λ line. line_asked line ≡ None) (Unanswered whole past start.limit g.O.Start.start O.trees O.number O.hives view use_of) old start.line known was e last rest is) at.is c.in_ok-status.ensures in
+    folds_so whole past start.limit g.O.Start.start O.trees O.number O.hives view use_of old last start.line known was rest is c.requires.first c.requires.limit at.why at.next at.has_refusal c.next_part-next.result run c.next_part-next.ensures
