@@ -20,7 +20,7 @@ use Rattle.reply_lines.specs.declared.reply.ReplyLine.{ReplyLine}
 use Rattle.script_runner.specs.Scripts.{reply_of}
 use Rattle.store_model.specs.declared.handle.Tx.{Tx}
 use Rattle.registry_runner.specs.Heard.{Hears, IsHeard, denied_reply, told_reply}
-use Rattle.registry_runner.specs.Scripts.{Script, FlushesOn, IsLabelled, MayNotEnter, RefusesFold}
+use Rattle.registry_runner.specs.Scripts.{Script, FlushesThen, IsLabelled, MayNotEnter, RefusesFold}
 
 module _ (origin : Point) (trees : List TreeMap) (number hives : ℕ) (old new : NumberedSight) (event : Event) where
   -- a denied call is heard
@@ -65,7 +65,7 @@ ends_heard origin trees number hives session was is event r reported said t d =
     subst (λ s. IsHeard origin trees number hives (record { number = session; seen = was }) event s (record { number = session; seen = is })) (sym said) (heard origin trees number hives (record { number = session; seen = was }) (record { number = session; seen = is }) event r t d)
 
 -- a fold that is refused has flushed what was accepted, or was refused that
-pub fold_refused : (origin : Point) (trees : List TreeMap) (number hives : ℕ) (old new : Script) (reported : ReplyLine) → RefusesFold origin trees number hives old reported new → (flushed : ReplyLine) × FlushesOn origin trees number hives old flushed new
+pub fold_refused : (origin : Point) (trees : List TreeMap) (number hives : ℕ) (old new : Script) (reported : ReplyLine) → RefusesFold origin trees number hives old reported new → (flushed : ReplyLine) × FlushesThen origin trees number hives old flushed new
 fold_refused origin trees number hives old new reported (inl (flushes, refused)) = (reported, (new, flushes, (record { number = refl; seen = seen_self new.session.seen }, refl)))
 fold_refused origin trees number hives old new reported (inr (mid, (flushed, flushes, granted), on, why, may, told)) = (flushed, (mid, flushes, on))
 

@@ -6,7 +6,7 @@ use Rattle.script_syntax.specs.declared.line.Line.TheVariants.{Fold}
 use Rattle.reply_lines.specs.declared.reply.ReplyLine.{ReplyLine}
 use Rattle.script_runner.specs.Plays.{is_refusal}
 use Rattle.script_runner.specs.Scripts.{line_asked}
-use Rattle.registry_runner.specs.Scripts.{Script, Answers, FlushesOn, IsFlushed}
+use Rattle.registry_runner.specs.Scripts.{Script, Answers, FlushesThen, IsFlushed}
 use Rattle.registry_runner.specs.Parts.{Part, IsDue, IsUnlabelled, number_told, with_script}
 use Rattle.registry_runner.specs.declared.history_use.HistoryUse.{HistoryUse}
 use Rattle.registry_runner.specs.declared.lines.BetweenLines.{BetweenLines}
@@ -17,7 +17,7 @@ use Rattle.registry_runner.specs.declared.parts.PartKind.TheVariants.{Opened, Fo
 -- after a line whose reply told a number, the script goes on in the same registry; or the history is to be folded
 abbrev pub Between : ℕ → Part → ℕ → BetweenLines → Script → Type 0
 Between limit old told (between.GoOn failed) new =
-    (new ≡ old.script) ⊎ (IsDue limit old told × IsUnlabelled old.script × (flushed : ReplyLine) × FlushesOn old.start old.trees old.number old.hives old.script flushed new)
+    (new ≡ old.script) ⊎ (IsDue limit old told × IsUnlabelled old.script × (flushed : ReplyLine) × FlushesThen old.start old.trees old.number old.hives old.script flushed new)
 Between limit old told between.ToFold new = IsDue limit old told × IsUnlabelled old.script × IsFlushed old.start old.trees old.number old.hives old.script new
 
 -- a line is answered, and then that is done

@@ -15,7 +15,7 @@ use Rattle.store_model.specs.Machine.{is_of_device}
 use Rattle.ktm_calls.specs.Denials.{IsOpened}
 use Rattle.ktm_calls.specs.Kinds.{Told}
 use Rattle.ktm_calls.specs.Moments.{SeesMore, Sight}
-use Rattle.registry_runner.specs.Scripts.{Script, FlushesOn, IsFlushed, MayNotEnter}
+use Rattle.registry_runner.specs.Scripts.{Script, FlushesThen, IsFlushed, MayNotEnter}
 use Rattle.registry_runner.specs.declared.parts.PartKind.{PartKind}
 use Rattle.registry_runner.specs.declared.parts.PartKind.TheVariants.{Opened, Folded, Continued}
 
@@ -117,5 +117,5 @@ abbrev pub KeepsOrFolds : List HistoryEntry → ℕ → Part → ReplyLine → R
 KeepsOrFolds whole limit old reported kept =
     (kept ≡ Ok old)
     ⊎ (IsDue limit old (number_told reported) × IsUnlabelled old.script
-    × (((flushed : ReplyLine) × (new : Script) × FlushesOn old.start old.trees old.number old.hives old.script flushed new × (kept ≡ Ok (with_script old new)))
+    × (((flushed : ReplyLine) × (new : Script) × FlushesThen old.start old.trees old.number old.hives old.script flushed new × (kept ≡ Ok (with_script old new)))
     ⊎ ((mid : Script) × IsFlushed old.start old.trees old.number old.hives old.script mid × Folds whole (with_script old mid) kept)))

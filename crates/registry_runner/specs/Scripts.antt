@@ -120,8 +120,8 @@ abbrev pub SeesOn : Script → Script → Type 0
 SeesOn old new = GoesOn old.session new.session × InSession old new
 
 -- all that was accepted is made durable, and then the session may go on
-abbrev pub FlushesOn : Point → List TreeMap → ℕ → ℕ → Script → ReplyLine → Script → Type 0
-FlushesOn origin trees number hives old reported new = (mid : Script) × Flushes origin trees number hives old reported mid × SeesOn mid new
+abbrev pub FlushesThen : Point → List TreeMap → ℕ → ℕ → Script → ReplyLine → Script → Type 0
+FlushesThen origin trees number hives old reported new = (mid : Script) × Flushes origin trees number hives old reported mid × SeesOn mid new
 
 -- Why a step is refused that no line asked for: there is no memory. Or the device has failed: by what is seen then, a
 -- machine of the registry refused an event for being faulted.
