@@ -20,7 +20,7 @@ use Rattle.engine_invariant.specs.Engines.{EngineView}
 use Rattle.engine_invariant.specs.Runs.{AnswersInTurn, IsBoundary, RunsSafely}
 use Rattle.store_model.proofs.TreeCounts.{all_long}
 use Rattle.recovery.specs.Recovered.{IsRecovered, seen_in}
-use Rattle.engine.specs.Lives.{Life, Life.NeverOpened, Life.Opened, IsSafe, IsLife, IsNext, AreLives, OpensFrom, EachLifeContinues, FirstOpensAt, ReadsSafely, end_of, faulted_in}
+use Rattle.engine.specs.Lives.{Life, Life.NeverOpened, Life.Opened, IsSafe, IsLife, IsNext, AreLives, AreLivesOfStores, OpensFrom, EachLifeContinues, FirstOpensAt, ReadsSafely, end_of, faulted_in}
 use Rattle.engine.proofs.OpenedStays.{run_stays}
 
 abbrev pub OneRecovered : Type 0
@@ -113,18 +113,45 @@ module _ (one : OneRecovered) (store : Store) (is : IsStore store) where
   left_of n life next many on files left =
       subst (λ k. LeavesHonest (IsPrimaryOf k) (end_of life) files) (sym many) (next_left (all_hives store) life next on files (subst (λ k. LeavesHonest (IsPrimaryOf k) next files) many left))
 
+  -- a life that hasn't opened leaves a machine's files as they were
+  after_none : (m : Machine) (state end next : ℕ → FileState) → length m.opened ≡ all_hives store → IsSafe store m state → ReadsSafely (all_hives store) state → IsLife store state (NeverOpened end) → IsNext (all_hives store) (NeverOpened end) next → IsSafe store m next × ReadsSafely (all_hives store) next
+  after_none m state end next many safe seen kept on = (
+    λ files left. safe files (subst (λ n. LeavesHonest (IsPrimaryOf n) state files) (sym many) (before (all_hives store) state end seen kept files (next_left (all_hives store) (NeverOpened end) next on files (subst (λ n. LeavesHonest (IsPrimaryOf n) next files) many left)))),
+    next_seen (all_hives store) (NeverOpened end) next (λ e. seen_after (all_hives store) state end seen kept) on,
+  )
+
+  -- the files after a life that has opened are its machine's
+  after_opened : (state end next : ℕ → FileState) (number : ℕ) (trees : List TreeMap) (last : Machine) → IsLife store state (Opened number trees last end) → IsNext (all_hives store) (Opened number trees last end) next → (length last.opened ≡ all_hives store) × IsSafe store last next × ReadsSafely (all_hives store) next
+  after_opened state end next number trees last (found, come, left, reads) on =
+      let long : length last.opened ≡ all_hives store = run_stays (with_history come.limit (record (opened_machine (bounds_for store.hives) trees number [] 0) { room = come.room; faulted = come.broken })) last come.events come.replies come.run ∙ found.many in (
+        long,
+        λ files there. left files (left_of (length last.opened) (Opened number trees last end) next long on files there),
+        next_seen (all_hives store) (Opened number trees last end) next (λ e. subst (λ n. ReadsSafely n end) long (reads e)) on,
+      )
+
   pub go_on : (m : Machine) (state : ℕ → FileState) (lives : List Life) → length m.opened ≡ all_hives store → IsSafe store m state → ReadsSafely (all_hives store) state → AreLives store state lives → EachLifeContinues m lives
   go_on m state [] many safe seen rest = tt
-  go_on m state (NeverOpened end ∷ lives) many safe seen (kept, (next, on, rest)) =
-      go_on m next lives many
-      (λ files left. safe files (subst (λ n. LeavesHonest (IsPrimaryOf n) state files) (sym many) (before (all_hives store) state end seen kept files (next_left (all_hives store) (NeverOpened end) next on files (subst (λ n. LeavesHonest (IsPrimaryOf n) next files) many left)))))
-      (next_seen (all_hives store) (NeverOpened end) next (λ e. seen_after (all_hives store) state end seen kept) on) rest
-  go_on m state (Opened number trees last end ∷ lives) many safe seen ((found, come, left, reads), (next, on, rest)) =
-      let long : length last.opened ≡ all_hives store = run_stays (with_history come.limit (record (opened_machine (bounds_for store.hives) trees number [] 0) { room = come.room; faulted = come.broken })) last come.events come.replies come.run ∙ found.many in (
-        opens_from m state number trees many safe seen found,
-        go_on last next lives long (λ files there. left files (left_of (length last.opened) (Opened number trees last end) next long on files there))
-            (next_seen (all_hives store) (Opened number trees last end) next (λ e. subst (λ n. ReadsSafely n end) long (reads e)) on) rest,
-      )
+  go_on m state (NeverOpened end ∷ lives) many safe seen (life, (next, on, rest)) =
+      let after = after_none m state end next many safe seen life on in go_on m next lives many after.0 after.1 rest
+  go_on m state (Opened number trees last end ∷ lives) many safe seen (life, (next, on, rest)) =
+      let after = after_opened state end next number trees last life on in
+      (opens_from m state number trees many safe seen life.0, go_on last next lives after.0 after.1 after.2 rest)
+
+  -- the store that a life opens is that of its files
+  same_store : (other : Store) (m : Machine) (state : ℕ → FileState) (number : ℕ) (trees : List TreeMap) → length m.opened ≡ all_hives store → IsSafe store m state → ReadsSafely (all_hives store) state → IsRecovered (seen_in state) other number trees → other ≡ store
+  same_store other m state number trees many safe seen found =
+      let there = safe (seen_in state) (subst (λ n. ReadsSafely n state) (sym many) seen) in
+      (one (seen_in state) other store number there.0 trees (trees_after m there.0) found (recovers store m (seen_in state) is many there.0 there.3)).0
+
+  pub of_one_store : (m : Machine) (state : ℕ → FileState) (lives : List Life) → length m.opened ≡ all_hives store → IsSafe store m state → ReadsSafely (all_hives store) state → AreLivesOfStores (all_hives store) state lives → AreLives store state lives
+  of_one_store m state [] many safe seen rest = tt
+  of_one_store m state (NeverOpened end ∷ lives) many safe seen ((other, life), (next, on, rest)) =
+      let after = after_none m state end next many safe seen life on in (life, (next, on, of_one_store m next lives many after.0 after.1 rest))
+  of_one_store m state (Opened number trees last end ∷ lives) many safe seen ((other, life), (next, on, rest)) =
+      let same = same_store other m state number trees many safe seen life.0 in
+      let own : IsLife store state (Opened number trees last end) = subst (λ (s : Store). IsLife s state (Opened number trees last end)) same life in
+      let after = after_opened state end next number trees last own on in
+      (own, (next, on, of_one_store last next lives after.0 after.1 after.2 rest))
 
 -- Calls
 

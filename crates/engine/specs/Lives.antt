@@ -66,6 +66,11 @@ abbrev pub AreLives : Store → (ℕ → FileState) → List Life → Type 0
 AreLives store state [] = ⊤
 AreLives store state (life ∷ lives) = IsLife store state life × ((next : ℕ → FileState) × IsNext (all_hives store) life next × AreLives store next lives)
 
+-- lives, one after another, each of some store
+abbrev pub AreLivesOfStores : ℕ → (ℕ → FileState) → List Life → Type 0
+AreLivesOfStores hives state [] = ⊤
+AreLivesOfStores hives state (life ∷ lives) = ((store : Store) × IsLife store state life) × ((next : ℕ → FileState) × IsNext hives life next × AreLivesOfStores hives next lives)
+
 -- An opening continues from a machine: at one of its numbers, not below the durable one, and at the trees after it.
 pub record OpensFrom (machine : Machine) (number : ℕ) (trees : List TreeMap) : Type 0 where
   pub low : machine.durable ≤ number

@@ -11,7 +11,7 @@ ghost use Rattle.engine_invariant.specs.Engines.{EngineView};
 ghost use Rattle.engine_invariant.specs.Prefixes.{IsPrimaryOf, IsSafeAt};
 ghost use Rattle.engine_invariant.specs.Runs.{IsBoundary, RunsSafely};
 ghost use Rattle.recovery.specs.Recovered.{IsRecovered, seen_in};
-ghost use Rattle.engine.specs.Lives.{AreLives, EachLifeContinues, FirstOpensAt, IsLife, IsSafe, Life, Life.Opened, Life.NeverOpened, ReadsSafely};
+ghost use Rattle.engine.specs.Lives.{AreLives, AreLivesOfStores, EachLifeContinues, FirstOpensAt, IsLife, IsSafe, Life, Life.Opened, Life.NeverOpened, ReadsSafely};
 
 /// Lives of a store, one after another. Each life that opens does so at a number and the trees after it of the last
 /// life before it that opened. The number is not below the durable one there. A life may end anywhere: within an
@@ -23,6 +23,17 @@ pub fn lives_go_on()
     ensures { (store : Store) (machine : Machine) (state : ℕ → FileState) (lives : List Life) →
         IsStore store → length machine.opened ≡ all_hives store → IsSafe store machine state →
         ReadsSafely (all_hives store) state → AreLives store state lives → EachLifeContinues machine lives }
+{
+    recovery::laws::one_is_recovered();
+}
+
+/// Lives on the files of one store are lives of that store: none opens another one. The lives begin with a machine, as
+/// those of [`lives_go_on`] do.
+pub fn lives_have_one_store()
+    ensures { (store : Store) (machine : Machine) (state : ℕ → FileState) (lives : List Life) →
+        IsStore store → length machine.opened ≡ all_hives store → IsSafe store machine state →
+        ReadsSafely (all_hives store) state → AreLivesOfStores (all_hives store) state lives →
+        AreLives store state lives }
 {
     recovery::laws::one_is_recovered();
 }

@@ -2,3 +2,4 @@ pub mod Chains
 pub mod Adding
 pub mod Leading
 pub mod Lives
+mod ProgramRuns

@@ -1,4 +1,5 @@
 pub mod Points
 pub mod Histories
 pub mod Leaving
+pub mod ProgramRuns
 pub mod Book
