@@ -2,7 +2,7 @@
 use Rattle.std.proofs.Common.{ℕ, ◌≤◌, List, [], ◌∷◌, ◌++◌, refl, ap, sym, subst, ◌∙◌, arith, le_refl}
 use Rattle.store_model.specs.Machine.{Machine}
 use Rattle.histories.specs.Points.{HistoryEntry, Point}
-use Rattle.histories.specs.Histories.{AreSafe, Continues, HasLed, IsHistory, LeadsTo, end_of}
+use Rattle.histories.specs.Histories.{AreSafe, Continues, IsHistory, LeadsTo, end_of}
 use Rattle.histories.proofs.Chains.{clock_grows, end_append, end_with, history_append, history_with, safe_kept, safe_with}
 
 module _ (start : Point) (ws : ℕ → Machine → Type 0) (wf : Type 0) where
@@ -56,13 +56,3 @@ leads_join start mid now ws s t wf f g xs ys p q =
       crashes = λ ok. safe_append t start xs ys (safe_kept s t start xs mid.clock p.run (rw p.now_is (le_refl mid.clock)) (q.past ok) (p.crashes (q.back ok)))
           (subst (λ (w : Point). AreSafe t w ys) (sym p.now_is) (q.crashes ok));
     }
-
--- The same of histories of which it is known alone that they are there
-
--- one event alone
-pub led_once : (start : Point) (s t : ℕ → Machine → Type 0) (f g : Type 0) (e : HistoryEntry)
-    → Continues start e → (g → f) → (g → (k : ℕ) (m : Machine) → k ≤ start.clock → s k m → t k m) → (f → s start.clock start.machine) → (g → t e.after.clock e.after.machine) → HasLed start s f t g e.after
-led_once start s t f g e follows back past before after = (e ∷ [], leads_with start s f s t f g [] start e follows back past after (leads_from start s f before))
-
-pub led_on : (start mid now : Point) (ws s t : ℕ → Machine → Type 0) (wf f g : Type 0) → HasLed start ws wf s f mid → HasLed mid s f t g now → HasLed start ws wf t g now
-led_on start mid now ws s t wf f g p q = (p.0 ++ q.0, leads_join start mid now ws s t wf f g p.0 q.0 p.1 q.1)

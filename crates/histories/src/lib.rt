@@ -6,8 +6,10 @@
 mod book;
 pub mod laws;
 mod noted;
+mod permission;
 mod start;
 
 pub use book::{EventCount, SeenEvents};
 pub use noted::{AnyEvent, Noted};
+pub use permission::{Permission, RequestCount, is_asked};
 pub use start::Start;

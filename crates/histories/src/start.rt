@@ -1,11 +1,14 @@
 //! Where a history begins.
 use published_trees::Origin;
 use std::marker::Brand;
+use std::sync::ledger::Ledger;
 
 /// Where a history begins: its book, and the store before its first event. It names one history, so that what was seen of
 /// two has two types. Each call of a program may choose it.
-pub trait Start: Origin {
-    ghost use Rattle.std.specs.Prelude.{ℕ};
+///
+/// As a ledger it counts the events that are asked for, if one owner alone may ask.
+pub trait Start: Origin + Ledger {
+    ghost use Rattle.std.specs.Prelude.{ℕ, Bool};
     ghost use Rattle.logbook.specs.Pages.{Book};
     ghost use Rattle.commit_journal.specs.Store.{Store};
     ghost use Rattle.store_model.specs.Machine.{Machine};
@@ -20,6 +23,9 @@ pub trait Start: Origin {
     /// The store whose files are on the device.
     ghost store: { Store };
 
+    /// Whether one owner alone may ask for events.
+    ghost sole: { Bool };
+
     /// Whether the device is faithful, as far as the start.
     ghost faithful: { Type 0 };
 
@@ -28,7 +34,7 @@ pub trait Start: Origin {
 }
 
 impl Start for Brand {
-    ghost use Rattle.std.specs.Prelude.{[]};
+    ghost use Rattle.std.specs.Prelude.{[], false};
     ghost use Rattle.commit_journal.specs.declared.store_layout.Layout.TheVariants.{HivesAlone};
     ghost use Rattle.histories.specs.Points.{no_point};
 
@@ -37,6 +43,8 @@ impl Start for Brand {
     ghost start = { no_point 0 };
 
     ghost store = { record { id = []; hives = 0; layout = HivesAlone } };
+
+    ghost sole = { false };
 
     ghost faithful = { Unit {0} };
 
