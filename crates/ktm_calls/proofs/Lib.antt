@@ -1,4 +1,6 @@
 pub mod Seen
+pub mod Ends
+pub mod Counting
 pub mod Answering
 pub mod Shapes
 pub mod Working

@@ -1,5 +1,5 @@
 -- The moment under the lock at which an event was answered.
-use Rattle.std.specs.Prelude.{◌≡◌, ◌≤◌, ◌⊎◌, ℕ, List, [], ◌∷◌, ◌++◌, Option, Some, None, refl, ⊤}
+use Rattle.std.specs.Prelude.{◌≡◌, ◌≤◌, ◌⊎◌, ℕ, Bool, true, List, [], ◌∷◌, ◌++◌, Option, Some, None, refl, ⊤}
 use Rattle.std.specs.Coded.{Coded, code_by, coded×, coded_ℕ, coded_list}
 use mathlib.Core.List.{IsPrefix}
 use Rattle.refusals.specs.declared.refusal.Refusal.TheVariants.{NoMemory}
@@ -12,6 +12,7 @@ use Rattle.store_model.specs.declared.event.Reply.{Reply}
 use Rattle.store_model.specs.declared.event.Reply.TheVariants as reply
 use Rattle.transactions.specs.declared.prepared.Next.{Next}
 use Rattle.published_trees.specs.Lists.{list_code}
+use Rattle.histories.specs.Asked.{asked_in}
 use Rattle.histories.specs.Histories.{end_of}
 use Rattle.histories.specs.Points.{HistoryEntry, Point, entry_code, entry_of}
 use Rattle.ktm_calls.specs.Kinds.{Told, kind_of}
@@ -32,6 +33,11 @@ no_sight = record { list = []; history = [] }
 pub record SeesMore (was is : Sight) : Type 0 where
   pub list : IsPrefix was.list is.list
   pub history : IsPrefix was.history is.history
+
+-- The same, and nothing was asked for meanwhile, if there is a sole asker.
+pub record SeesSteps (sole : Bool) (was is : Sight) : Type 0 where
+  pub more : SeesMore was is
+  pub alone : sole ≡ true → asked_in is.history ≡ asked_in was.history
 
 -- a number and what was seen: a session; or a receipt with what it carries
 pub record NumberedSight : Type 0 where
@@ -68,18 +74,20 @@ pub record StandsLast (start : Point) (was : List HistoryEntry) (event : Event) 
   pub old_is : (end_of start past).machine ≡ old
   pub new_is : after.machine ≡ new
 
--- What is told of the event: its kind, and the reply that it was answered. It stands in the history that begins here.
-pub record Tells (start : Point) (trees : List TreeMap) (number hives : ℕ) (was is : Sight) (event : Event) (told : Told) : Type 0 where
+-- What is told of the event: its kind, and the reply that it was answered. It stands in the history that begins here. If
+-- there is a sole asker, nothing else was asked for since what was seen before.
+pub record Tells (sole : Bool) (start : Point) (trees : List TreeMap) (number hives : ℕ) (was is : Sight) (event : Event) (told : Told) : Type 0 where
   pub kind : told.kind ≡ kind_of event
   pub answered : IsAnswered trees number hives was.list is.list event told.reply
   pub stands : StandsLast start was.history event told.reply answered.old answered.new is.history
+  pub alone : sole ≡ true → asked_in stands.past ≡ asked_in was.history
 
--- The event was answered with a number, and then waited for: the receipt has that number, and all that was seen by then,
--- in which it is durable.
-pub record TellsDurably (start : Point) (trees : List TreeMap) (number hives : ℕ) (was is : Sight) (event : Event) (receipt : NumberedSight) (told : Told) : Type 0 where
+-- The event was answered with a number, and then waited for, by steps and questions alone: the receipt has that number,
+-- and all that was seen by then, in which it is durable.
+pub record TellsDurably (sole : Bool) (start : Point) (trees : List TreeMap) (number hives : ℕ) (was is : Sight) (event : Event) (receipt : NumberedSight) (told : Told) : Type 0 where
   pub mid : Sight
-  pub own : Tells start trees number hives was mid event told
-  pub later : SeesMore mid is
+  pub own : Tells sole start trees number hives was mid event told
+  pub later : SeesSteps sole mid is
   pub awaited : told.reply ≡ reply.Awaits receipt.number
   pub carries : receipt.seen ≡ is
   pub durable : receipt.number ≤ (end_of start is.history).machine.durable
@@ -102,3 +110,8 @@ with_next list (Some next) = list ++ next.change.value ∷ []
 -- at this moment then.
 abbrev pub AddsAtMost : List HistoryEntry → Event → Point → List HistoryEntry → Type 0
 AddsAtMost was event now is = (is ≡ was) ⊎ (is ≡ was ++ entry_of event (reply.Refused NoMemory) now ∷ [])
+
+-- If there is a sole asker, nothing was asked for. Or this event was, for which there was no memory.
+abbrev pub AsksAtMost : Bool → Sight → Sight → Event → Type 0
+AsksAtMost sole was is event =
+    sole ≡ true → (asked_in is.history ≡ asked_in was.history) ⊎ ((after : Point) × (asked_in is.history ≡ asked_in was.history ++ entry_of event (reply.Refused NoMemory) after ∷ []))

@@ -26,16 +26,16 @@ HasFailed _ = ⊥
 
 -- The question whether a number is durable, or a step of the journal, was refused since the device failed. That is the
 -- last of what is seen then.
-abbrev pub WaitFails : Point → List TreeMap → ℕ → ℕ → ℕ → Sight → Sight → Told → Type 0
-WaitFails start trees number hives awaited was is told =
-    (Tells start trees number hives was is (event.Acked awaited) told ⊎ Tells start trees number hives was is event.JournalStep told) × HasFailed told.reply
+abbrev pub WaitFails : Bool → Point → List TreeMap → ℕ → ℕ → ℕ → Sight → Sight → Told → Type 0
+WaitFails sole start trees number hives awaited was is told =
+    (Tells sole start trees number hives was is (event.Acked awaited) told ⊎ Tells sole start trees number hives was is event.JournalStep told) × HasFailed told.reply
 
 -- a receipt has the number that was asked for, and all that is seen
-abbrev pub EndsWait : {O : Type 0} → Point → List TreeMap → ℕ → ℕ → ℕ → Sight → Sight → WaitResult O → Type 0
-EndsWait start trees number hives awaited was is (waited.Again mode) = ⊤
-EndsWait start trees number hives awaited was is (waited.Done receipt) = receipt ≡ record { number = awaited; seen = is }
-EndsWait start trees number hives awaited was is (waited.Refused told) = WaitFails start trees number hives awaited was is told
-EndsWait start trees number hives awaited was is waited.NoMemory = ⊤
+abbrev pub EndsWait : {O : Type 0} → Bool → Point → List TreeMap → ℕ → ℕ → ℕ → Sight → Sight → WaitResult O → Type 0
+EndsWait sole start trees number hives awaited was is (waited.Again mode) = ⊤
+EndsWait sole start trees number hives awaited was is (waited.Done receipt) = receipt ≡ record { number = awaited; seen = is }
+EndsWait sole start trees number hives awaited was is (waited.Refused told) = WaitFails sole start trees number hives awaited was is told
+EndsWait sole start trees number hives awaited was is waited.NoMemory = ⊤
 
 -- the kinds of the flusher's events
 abbrev pub is_step_kind : EventKind → Bool

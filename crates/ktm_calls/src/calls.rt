@@ -32,13 +32,13 @@ impl<E: StoreEngine, O: Start> Registry<E, O> {
     ) -> Result<(Disposition, Told), Denied>
         ensures seen { SeesMore session.old.seen session.new.seen }
         ensures number { session.new.number ≡ session.old.number }
-        ensures told { IfOk result (λ r. Tells O.start O.trees O.number O.hives session.old.seen session.new.seen
+        ensures told { IfOk result (λ r. Tells O.sole O.start O.trees O.number O.hives session.old.seen session.new.seen
             (write_event session.old.number key.now.tx moment (op.CreateKey key.now.hive key.now.path)) r.1) }
         ensures granted { IfOk result (λ r. ¬ (IsRefusal r.1.reply)) }
         ensures stands { IfOk result (λ r. StandsAlone O.trees O.number O.hives session.new.seen.list key.now.tx moment
             (op.CreateKey key.now.hive key.now.path) r.1.reply) }
         ensures disposition { IfOk result (λ r. Disposes r.0 r.1.reply) }
-        ensures denied { IfErr result (IsDenied O.start O.trees O.number O.hives session.old.seen session.new.seen
+        ensures denied { IfErr result (IsDenied O.sole O.start O.trees O.number O.hives session.old.seen session.new.seen
             (write_event session.old.number key.now.tx moment (op.CreateKey key.now.hive key.now.path))) }
         ensures refused { IfErr result (IsDeniedAlone O.trees O.number O.hives session.new.seen.list key.now.tx moment
             (op.CreateKey key.now.hive key.now.path)) }
@@ -57,13 +57,13 @@ impl<E: StoreEngine, O: Start> Registry<E, O> {
     ) -> Result<(Disposition, Told), Denied>
         ensures seen { SeesMore session.old.seen session.new.seen }
         ensures number { session.new.number ≡ session.old.number }
-        ensures told { IfOk result (λ r. Tells O.start O.trees O.number O.hives session.old.seen session.new.seen
+        ensures told { IfOk result (λ r. Tells O.sole O.start O.trees O.number O.hives session.old.seen session.new.seen
             (write_event session.old.number (Some tx) moment (op.CreateKey key.now.hive key.now.path)) r.1) }
         ensures granted { IfOk result (λ r. ¬ (IsRefusal r.1.reply)) }
         ensures stands { IfOk result (λ r. StandsAlone O.trees O.number O.hives session.new.seen.list (Some tx) moment
             (op.CreateKey key.now.hive key.now.path) r.1.reply) }
         ensures disposition { IfOk result (λ r. Disposes r.0 r.1.reply) }
-        ensures denied { IfErr result (IsDenied O.start O.trees O.number O.hives session.old.seen session.new.seen
+        ensures denied { IfErr result (IsDenied O.sole O.start O.trees O.number O.hives session.old.seen session.new.seen
             (write_event session.old.number (Some tx) moment (op.CreateKey key.now.hive key.now.path))) }
         ensures refused { IfErr result (IsDeniedAlone O.trees O.number O.hives session.new.seen.list (Some tx) moment
             (op.CreateKey key.now.hive key.now.path)) }
@@ -81,12 +81,12 @@ impl<E: StoreEngine, O: Start> Registry<E, O> {
     ) -> Result<Told, Denied>
         ensures seen { SeesMore session.old.seen session.new.seen }
         ensures number { session.new.number ≡ session.old.number }
-        ensures told { IfOk result (λ t. Tells O.start O.trees O.number O.hives session.old.seen session.new.seen
+        ensures told { IfOk result (λ t. Tells O.sole O.start O.trees O.number O.hives session.old.seen session.new.seen
             (write_event session.old.number key.now.tx moment (op.DeleteKey key.now.hive key.now.path)) t) }
         ensures granted { IfOk result (λ t. ¬ (IsRefusal t.reply)) }
         ensures stands { IfOk result (λ t. StandsAlone O.trees O.number O.hives session.new.seen.list key.now.tx moment
             (op.DeleteKey key.now.hive key.now.path) t.reply) }
-        ensures denied { IfErr result (IsDenied O.start O.trees O.number O.hives session.old.seen session.new.seen
+        ensures denied { IfErr result (IsDenied O.sole O.start O.trees O.number O.hives session.old.seen session.new.seen
             (write_event session.old.number key.now.tx moment (op.DeleteKey key.now.hive key.now.path))) }
         ensures refused { IfErr result (IsDeniedAlone O.trees O.number O.hives session.new.seen.list key.now.tx moment
             (op.DeleteKey key.now.hive key.now.path)) }
@@ -105,12 +105,12 @@ impl<E: StoreEngine, O: Start> Registry<E, O> {
     ) -> Result<Told, Denied>
         ensures seen { SeesMore session.old.seen session.new.seen }
         ensures number { session.new.number ≡ session.old.number }
-        ensures told { IfOk result (λ t. Tells O.start O.trees O.number O.hives session.old.seen session.new.seen
+        ensures told { IfOk result (λ t. Tells O.sole O.start O.trees O.number O.hives session.old.seen session.new.seen
             (write_event session.old.number (Some tx) moment (op.DeleteKey key.now.hive key.now.path)) t) }
         ensures granted { IfOk result (λ t. ¬ (IsRefusal t.reply)) }
         ensures stands { IfOk result (λ t. StandsAlone O.trees O.number O.hives session.new.seen.list (Some tx) moment
             (op.DeleteKey key.now.hive key.now.path) t.reply) }
-        ensures denied { IfErr result (IsDenied O.start O.trees O.number O.hives session.old.seen session.new.seen
+        ensures denied { IfErr result (IsDenied O.sole O.start O.trees O.number O.hives session.old.seen session.new.seen
             (write_event session.old.number (Some tx) moment (op.DeleteKey key.now.hive key.now.path))) }
         ensures refused { IfErr result (IsDeniedAlone O.trees O.number O.hives session.new.seen.list (Some tx) moment
             (op.DeleteKey key.now.hive key.now.path)) }
@@ -133,12 +133,12 @@ impl<E: StoreEngine, O: Start> Registry<E, O> {
     ) -> Result<Told, Denied>
         ensures seen { SeesMore session.old.seen session.new.seen }
         ensures number { session.new.number ≡ session.old.number }
-        ensures told { IfOk result (λ t. Tells O.start O.trees O.number O.hives session.old.seen session.new.seen
+        ensures told { IfOk result (λ t. Tells O.sole O.start O.trees O.number O.hives session.old.seen session.new.seen
             (write_event session.old.number key.now.tx moment (op.SetValue key.now.hive key.now.path name kind «data»)) t) }
         ensures granted { IfOk result (λ t. ¬ (IsRefusal t.reply)) }
         ensures stands { IfOk result (λ t. StandsAlone O.trees O.number O.hives session.new.seen.list key.now.tx moment
             (op.SetValue key.now.hive key.now.path name kind «data») t.reply) }
-        ensures denied { IfErr result (IsDenied O.start O.trees O.number O.hives session.old.seen session.new.seen
+        ensures denied { IfErr result (IsDenied O.sole O.start O.trees O.number O.hives session.old.seen session.new.seen
             (write_event session.old.number key.now.tx moment (op.SetValue key.now.hive key.now.path name kind «data»))) }
         ensures refused { IfErr result (IsDeniedAlone O.trees O.number O.hives session.new.seen.list key.now.tx moment
             (op.SetValue key.now.hive key.now.path name kind «data»)) }
@@ -165,12 +165,12 @@ impl<E: StoreEngine, O: Start> Registry<E, O> {
     ) -> Result<Told, Denied>
         ensures seen { SeesMore session.old.seen session.new.seen }
         ensures number { session.new.number ≡ session.old.number }
-        ensures told { IfOk result (λ t. Tells O.start O.trees O.number O.hives session.old.seen session.new.seen
+        ensures told { IfOk result (λ t. Tells O.sole O.start O.trees O.number O.hives session.old.seen session.new.seen
             (write_event session.old.number key.now.tx moment (op.DeleteValue key.now.hive key.now.path name)) t) }
         ensures granted { IfOk result (λ t. ¬ (IsRefusal t.reply)) }
         ensures stands { IfOk result (λ t. StandsAlone O.trees O.number O.hives session.new.seen.list key.now.tx moment
             (op.DeleteValue key.now.hive key.now.path name) t.reply) }
-        ensures denied { IfErr result (IsDenied O.start O.trees O.number O.hives session.old.seen session.new.seen
+        ensures denied { IfErr result (IsDenied O.sole O.start O.trees O.number O.hives session.old.seen session.new.seen
             (write_event session.old.number key.now.tx moment (op.DeleteValue key.now.hive key.now.path name))) }
         ensures refused { IfErr result (IsDeniedAlone O.trees O.number O.hives session.new.seen.list key.now.tx moment
             (op.DeleteValue key.now.hive key.now.path name)) }
@@ -195,13 +195,13 @@ impl<E: StoreEngine, O: Start> Registry<E, O> {
     ) -> Result<(Disposition, Told), Denied>
         ensures seen { SeesMore session.old.seen session.new.seen }
         ensures number { session.new.number ≡ session.old.number }
-        ensures told { IfOk result (λ r. Tells O.start O.trees O.number O.hives session.old.seen session.new.seen
+        ensures told { IfOk result (λ r. Tells O.sole O.start O.trees O.number O.hives session.old.seen session.new.seen
             (write_event session.old.number tx moment (op.CreateKey key.now.hive key.now.path)) r.1) }
         ensures granted { IfOk result (λ r. ¬ (IsRefusal r.1.reply)) }
         ensures stands { IfOk result (λ r. StandsAlone O.trees O.number O.hives session.new.seen.list tx moment
             (op.CreateKey key.now.hive key.now.path) r.1.reply) }
         ensures disposition { IfOk result (λ r. Disposes r.0 r.1.reply) }
-        ensures denied { IfErr result (IsDenied O.start O.trees O.number O.hives session.old.seen session.new.seen
+        ensures denied { IfErr result (IsDenied O.sole O.start O.trees O.number O.hives session.old.seen session.new.seen
             (write_event session.old.number tx moment (op.CreateKey key.now.hive key.now.path))) }
         ensures refused { IfErr result (IsDeniedAlone O.trees O.number O.hives session.new.seen.list tx moment
             (op.CreateKey key.now.hive key.now.path)) }
@@ -226,12 +226,12 @@ impl<E: StoreEngine, O: Start> Registry<E, O> {
     ) -> Result<Told, Denied>
         ensures seen { SeesMore session.old.seen session.new.seen }
         ensures number { session.new.number ≡ session.old.number }
-        ensures told { IfOk result (λ t. Tells O.start O.trees O.number O.hives session.old.seen session.new.seen
+        ensures told { IfOk result (λ t. Tells O.sole O.start O.trees O.number O.hives session.old.seen session.new.seen
             (write_event session.old.number tx moment (op.DeleteKey key.now.hive key.now.path)) t) }
         ensures granted { IfOk result (λ t. ¬ (IsRefusal t.reply)) }
         ensures stands { IfOk result (λ t. StandsAlone O.trees O.number O.hives session.new.seen.list tx moment
             (op.DeleteKey key.now.hive key.now.path) t.reply) }
-        ensures denied { IfErr result (IsDenied O.start O.trees O.number O.hives session.old.seen session.new.seen
+        ensures denied { IfErr result (IsDenied O.sole O.start O.trees O.number O.hives session.old.seen session.new.seen
             (write_event session.old.number tx moment (op.DeleteKey key.now.hive key.now.path))) }
         ensures refused { IfErr result (IsDeniedAlone O.trees O.number O.hives session.new.seen.list tx moment
             (op.DeleteKey key.now.hive key.now.path)) }
@@ -254,12 +254,12 @@ impl<E: StoreEngine, O: Start> Registry<E, O> {
     ) -> Result<Told, Denied>
         ensures seen { SeesMore session.old.seen session.new.seen }
         ensures number { session.new.number ≡ session.old.number }
-        ensures told { IfOk result (λ t. Tells O.start O.trees O.number O.hives session.old.seen session.new.seen
+        ensures told { IfOk result (λ t. Tells O.sole O.start O.trees O.number O.hives session.old.seen session.new.seen
             (write_event session.old.number tx moment op) t) }
         ensures granted { IfOk result (λ t. ¬ (IsRefusal t.reply)) }
         ensures stands { IfOk result (λ t. StandsAlone O.trees O.number O.hives session.new.seen.list tx moment
             op t.reply) }
-        ensures denied { IfErr result (IsDenied O.start O.trees O.number O.hives session.old.seen session.new.seen
+        ensures denied { IfErr result (IsDenied O.sole O.start O.trees O.number O.hives session.old.seen session.new.seen
             (write_event session.old.number tx moment op)) }
         ensures refused { IfErr result (IsDeniedAlone O.trees O.number O.hives session.new.seen.list tx moment
             op) }
@@ -292,12 +292,12 @@ impl<E: StoreEngine, O: Start> Registry<E, O> {
     ) -> Result<Told, Denied>
         ensures seen { SeesMore session.old.seen session.new.seen }
         ensures number { session.new.number ≡ session.old.number }
-        ensures told { IfOk result (λ t. Tells O.start O.trees O.number O.hives session.old.seen session.new.seen
+        ensures told { IfOk result (λ t. Tells O.sole O.start O.trees O.number O.hives session.old.seen session.new.seen
             (event.Write session.old.number moment op) t) }
         ensures granted { IfOk result (λ t. ¬ (IsRefusal t.reply)) }
         ensures stands { IfOk result (λ t.
             WriteStands O.trees O.number O.hives session.new.seen.list moment op t.reply) }
-        ensures denied { IfErr result (IsDenied O.start O.trees O.number O.hives session.old.seen session.new.seen
+        ensures denied { IfErr result (IsDenied O.sole O.start O.trees O.number O.hives session.old.seen session.new.seen
             (event.Write session.old.number moment op)) }
         ensures refused { IfErr result (IsDeniedAlone O.trees O.number O.hives session.new.seen.list None moment op) }
     {
@@ -322,10 +322,10 @@ impl<E: StoreEngine, O: Start> Registry<E, O> {
     ) -> Result<(Receipt<O>, Told), Denied>
         ensures seen { SeesMore session.old.seen session.new.seen }
         ensures number { session.new.number ≡ session.old.number }
-        ensures told { IfOk result (λ r. TellsDurably O.start O.trees O.number O.hives session.old.seen session.new.seen
+        ensures told { IfOk result (λ r. TellsDurably O.sole O.start O.trees O.number O.hives session.old.seen session.new.seen
             event.FlushAsk r.0 r.1) }
         ensures all { IfOk result (λ r. O.number + length session.old.seen.list ≤ r.0.number) }
-        ensures denied { IfErr result (IsCommitDenied O.start O.trees O.number O.hives session.old.seen session.new.seen
+        ensures denied { IfErr result (IsCommitDenied O.sole O.start O.trees O.number O.hives session.old.seen session.new.seen
             event.FlushAsk) }
     {
         let answer = self.serve_durably(rt, session, Event::FlushAsk, MemoryPolicy::GiveUp)?;

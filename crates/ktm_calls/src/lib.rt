@@ -3,6 +3,7 @@
 //! A [`Registry`] is shared by reference among threads. Each has a [`Session`] of its own, by which it calls.
 #![tactic(auto)]
 
+mod asker;
 mod calls;
 mod event_kind;
 mod holding;
@@ -16,10 +17,11 @@ mod sight;
 mod tx_calls;
 mod waiting;
 
+pub use asker::Asker;
 pub use event_kind::EventKind;
 pub use key::Key;
 pub use locked::{Locked, Told};
 pub use receipt::{Receipt, Stopped};
 pub use registry::{Denied, Disposition, Ended, Registry, Turn};
-pub use session::Session;
+pub use session::{Session, SessionHandle};
 pub use sight::Sight;

@@ -1,5 +1,5 @@
 //! What is under the lock, and the work of one hold.
-ghost use Rattle.std.specs.Prelude.{◌≡◌, ◌⊎◌, ◌+◌, ◌≤◌, ◌^◌, ◌++◌, ◌∷◌, [], ℕ, length, true, false, IfErr, IfOk, OnErr};
+ghost use Rattle.std.specs.Prelude.{◌≡◌, ◌⊎◌, ◌+◌, ◌≤◌, ◌^◌, ◌++◌, ◌∷◌, [], ℕ, List, length, true, false, IfErr, IfOk, OnErr};
 ghost use mathlib.Core.List.{IsPrefix};
 ghost use Rattle.published_trees.specs.declared.rule.TheConstants.{MOST_READERS};
 ghost use Rattle.refusals.specs.declared.refusal.Refusal.TheVariants.{NoMemory, NoSeat};
@@ -7,18 +7,20 @@ ghost use Rattle.store_model.specs.Machine.{Machine};
 ghost use Rattle.store_model.specs.Steps.{Step, is_fold, may_accept};
 ghost use Rattle.store_model.specs.declared.event.Event.TheVariants as event;
 ghost use Rattle.store_model.specs.declared.event.Reply.TheVariants as reply;
+ghost use Rattle.histories.specs.Asked.{EndSessions, asked_in, is_asked as is_asked_by};
 ghost use Rattle.histories.specs.Histories.{LeadsTo};
-ghost use Rattle.histories.specs.Points.{entry_of, point_of};
+ghost use Rattle.histories.specs.Points.{HistoryEntry, entry_of, point_of};
 ghost use Rattle.ktm_calls.specs.Denials.{OpensOrNot, refusal_in};
 ghost use Rattle.ktm_calls.specs.Kinds.{kind_of};
-ghost use Rattle.ktm_calls.specs.Moments.{AddsAtMost, IsOf, SeesMore, Tells};
+ghost use Rattle.ktm_calls.specs.Moments.{AddsAtMost, IsOf, AsksAtMost, SeesMore, SeesSteps, Tells};
 ghost use Rattle.ktm_calls.specs.OpenSessions.{AreBelow, OpensBelow};
 
+use crate::asker::Asker;
 use crate::event_kind::{EventKind, may_accept};
 use crate::holding::{accept_event, put_event};
-use crate::session::Session;
+use crate::session::SessionHandle;
 use crate::sight::Sight;
-use histories::{EventCount, Start};
+use histories::{EventCount, Permission, RequestCount, Start, is_asked};
 use published_trees::{ChangeCount, MOST_READERS, Publication, SeenChanges, TreesReader};
 use refusals::Refusal;
 use std::alloc::Global;
@@ -97,6 +99,8 @@ pub struct Locked<E: StoreEngine, O: Start> {
     engine: E,
     // each event that was put to the engine
     events: EventCount,
+    // how many of them were asked for
+    requests: RequestCount<O>,
     publication: Publication<O>,
     // a reader for each session that may be opened; a session's number is its reader's place
     readers: Vec<Option<TreesReader<O>>>,
@@ -110,7 +114,8 @@ pub struct Locked<E: StoreEngine, O: Start> {
 }
 
 impl<E: StoreEngine, O: Start> Model for Locked<E, O> {
-    ghost use Rattle.std.specs.Prelude.{◌≡◌, ◌≤◌, ◌^◌};
+    ghost use Rattle.std.specs.Prelude.{◌≡◌, ◌≤◌, ◌^◌, length, true};
+    ghost use Rattle.histories.specs.Asked.{asked_in};
     ghost use Rattle.histories.specs.Histories.{LeadsTo};
     ghost use Rattle.histories.specs.Points.{point_of};
     ghost use Rattle.ktm_calls.specs.Held.{Held, held_code};
@@ -132,16 +137,23 @@ impl<E: StoreEngine, O: Start> Model for Locked<E, O> {
       list : l.publication ≡ (E.machine l.engine).accepted;
       sessions : AreBelow l.session_bound (E.machine l.engine);
       bound : l.session_bound ≤ 2 ^ 32;
+      asked : O.sole ≡ true → l.requests ≡ length (asked_in l.events.log);
     } };
 }
 
 impl<E: StoreEngine, O: Start> Locked<E, O> {
     /// One event, but no fold, which is what one hold of the lock does. It is the last one of the history then. A change
-    /// that it accepts is in the list, and its trees are published.
+    /// that it accepts is in the list, and its trees are published. An event that is asked for needs the permission.
     ///
     /// Refused with `NoMemory` alone; nothing has changed then.
-    pub fn hold<R: Wait>(&mut self, rt: &R, event: Event) -> Result<Told, Refusal>
+    pub fn hold<R: Wait>(
+        &mut self,
+        rt: &R,
+        event: Event,
+        permission: &mut Permission<O>,
+    ) -> Result<Told, Refusal>
         requires no_fold { is_fold event ≡ false }
+        requires may { is_asked_by event ≡ true → permission.old.held ≡ true }
         ensures kind { IfOk result (λ t. t.kind ≡ kind_of event) }
         ensures step { IfOk result (λ t.
             Step (E.machine self.old.engine) event t.reply (E.machine self.new.engine)) }
@@ -156,18 +168,27 @@ impl<E: StoreEngine, O: Start> Locked<E, O> {
         ensures call { (E.clock self.old.engine ≤ E.clock self.new.engine)
             × (E.clock self.new.engine ≤ E.clock self.old.engine + 1) }
         ensures stopped { self.new.stopped ≡ self.old.stopped }
+        ensures held { permission.new.held ≡ permission.old.held }
+        ensures counts { O.sole ≡ true → permission.new.asked + length (asked_in self.old.history)
+            ≡ permission.old.asked + length (asked_in self.new.history) }
     {
         if may_accept(&event) {
-            self.accept(rt, event)
+            self.accept(rt, event, permission)
         } else {
-            self.make(rt, event)
+            self.make(rt, event, permission)
         }
     }
 
     // an event that accepts nothing
-    fn make<R: Wait>(&mut self, rt: &R, event: Event) -> Result<Told, Refusal>
+    fn make<R: Wait>(
+        &mut self,
+        rt: &R,
+        event: Event,
+        permission: &mut Permission<O>,
+    ) -> Result<Told, Refusal>
         requires calm { may_accept event ≡ false }
         requires no_fold { is_fold event ≡ false }
+        requires may { is_asked_by event ≡ true → permission.old.held ≡ true }
         ensures kind { IfOk result (λ t. t.kind ≡ kind_of event) }
         ensures step { IfOk result (λ t.
             Step (E.machine self.old.engine) event t.reply (E.machine self.new.engine)) }
@@ -182,13 +203,18 @@ impl<E: StoreEngine, O: Start> Locked<E, O> {
         ensures call { (E.clock self.old.engine ≤ E.clock self.new.engine)
             × (E.clock self.new.engine ≤ E.clock self.old.engine + 1) }
         ensures stopped { self.new.stopped ≡ self.old.stopped }
+        ensures held { permission.new.held ≡ permission.old.held }
+        ensures counts { O.sole ≡ true → permission.new.asked + length (asked_in self.old.history)
+            ≡ permission.old.asked + length (asked_in self.new.history) }
     {
         others_accept_nothing();
         openings_stay();
         no_memory_changes_nothing();
         let kind = EventKind::of(&event);
+        let is_asked = is_asked(&event);
         self.session_bound = bound_with(self.session_bound, &event);
         let reply = put_event::<E, O, R>(rt, &mut self.engine, &mut self.events, event);
+        self.requests.count(permission, is_asked);
         if let Reply::Refused {
             refusal: Refusal::NoMemory,
         } = reply
@@ -200,9 +226,15 @@ impl<E: StoreEngine, O: Start> Locked<E, O> {
 
     // an event that may accept a change: all that it grows, the change in the list with its trees before all eyes, the
     // event
-    fn accept<R: Wait>(&mut self, rt: &R, event: Event) -> Result<Told, Refusal>
+    fn accept<R: Wait>(
+        &mut self,
+        rt: &R,
+        event: Event,
+        permission: &mut Permission<O>,
+    ) -> Result<Told, Refusal>
         requires accepts { may_accept event ≡ true }
         requires no_fold { is_fold event ≡ false }
+        requires may { is_asked_by event ≡ true → permission.old.held ≡ true }
         ensures kind { IfOk result (λ t. t.kind ≡ kind_of event) }
         ensures step { IfOk result (λ t.
             Step (E.machine self.old.engine) event t.reply (E.machine self.new.engine)) }
@@ -217,10 +249,14 @@ impl<E: StoreEngine, O: Start> Locked<E, O> {
         ensures call { (E.clock self.old.engine ≤ E.clock self.new.engine)
             × (E.clock self.new.engine ≤ E.clock self.old.engine + 1) }
         ensures stopped { self.new.stopped ≡ self.old.stopped }
+        ensures held { permission.new.held ≡ permission.old.held }
+        ensures counts { O.sole ≡ true → permission.new.asked + length (asked_in self.old.history)
+            ≡ permission.old.asked + length (asked_in self.new.history) }
     {
         openings_stay();
         self.engine.stays_within();
         let kind = EventKind::of(&event);
+        let is_asked = is_asked(&event);
         let reply = accept_event::<E, O, R>(
             rt,
             self.alloc,
@@ -229,6 +265,7 @@ impl<E: StoreEngine, O: Start> Locked<E, O> {
             &mut self.publication,
             event,
         )?;
+        self.requests.count(permission, is_asked);
         Ok(Told { kind, reply })
     }
 
@@ -267,11 +304,20 @@ impl<E: StoreEngine, O: Start> Locked<E, O> {
         self.engine.durable()
     }
 
+    /// That the sole asker has asked for all that was asked for.
+    pub(crate) fn audit(&mut self, permission: &mut Permission<O>)
+        ensures same { (self.new ≡ self.old) × (permission.new ≡ permission.old) }
+        ensures whole { O.sole ≡ true → permission.old.held ≡ true →
+            permission.old.asked ≡ length (asked_in self.new.history) }
+    {
+        self.requests.audit(permission);
+    }
+
     /// One event of one who has seen some of the list and of the history, and has seen all of both before and after it.
     pub(crate) fn serve<R: Wait>(
         &mut self,
         rt: &R,
-        mine: &mut Sight<O>,
+        mine: &mut Asker<O>,
         event: Event,
     ) -> Result<Told, Refusal>
         requires no_fold { is_fold event ≡ false }
@@ -280,19 +326,22 @@ impl<E: StoreEngine, O: Start> Locked<E, O> {
           list = (E.machine self.new.engine).accepted;
           history = self.new.history;
         } }
-        ensures told { IfOk result (λ t. Tells O.start O.trees O.number O.hives mine.old mine.new event t) }
+        ensures told { IfOk result (λ t. Tells O.sole O.start O.trees O.number O.hives mine.old mine.new event t) }
         ensures step { IfOk result (λ t.
             Step (E.machine self.old.engine) event t.reply (E.machine self.new.engine)) }
         ensures fed { IfOk result (λ t. ¬ (t.reply ≡ reply.Refused NoMemory)) }
         ensures refused { IfErr result (λ why. why ≡ NoMemory) }
+        ensures lacked { OnErr result (AsksAtMost O.sole mine.old mine.new event) }
+        ensures unasked { is_asked_by event ≡ false → SeesSteps O.sole mine.old mine.new }
         ensures call { (E.clock self.old.engine ≤ E.clock self.new.engine)
             × (E.clock self.new.engine ≤ E.clock self.old.engine + 1) }
         ensures stopped { self.new.stopped ≡ self.old.stopped }
     {
+        self.audit(&mut mine.permission); // for the prover
         self.keeps_history(); // for the prover
-        self.show(rt, mine);
-        let told = self.hold(rt, event);
-        self.show(rt, mine);
+        self.show(rt, &mut mine.seen);
+        let told = self.hold(rt, event, &mut mine.permission);
+        self.show(rt, &mut mine.seen);
         let told = told?;
         Ok(told)
     }
@@ -337,7 +386,7 @@ fn catch_up<R: Wait>(rt: &R, mine: &mut SeenChanges, all: &SeenChanges)
 #[derive(Drop)]
 pub enum OpenResult<O: Start> {
     /// It is open.
-    Session(Session<O>, Told),
+    Session(SessionHandle<O>, Told),
     /// It was refused.
     Refused(Told),
     /// There was no memory.
@@ -354,11 +403,13 @@ impl<E: StoreEngine, O: Start> Locked<E, O> {
         rt: &R,
         engine: E,
         events: EventCount,
+        requests: RequestCount<O>,
         count: ChangeCount,
         seen: SeenChanges,
     ) -> Result<Locked<E, O>, (Refusal, E)>
         requires book { (count ≡ O.book) × (seen ≡ record { book = O.book; list = [] }) }
         requires events { events ≡ record { book = O.history; log = [] } }
+        requires requests { requests ≡ 0 }
         requires store { E.store engine ≡ O.store }
         requires start { point_of (E.machine engine) (E.clock engine) (E.failures engine) ≡ O.start }
         requires faithful { E.faithful engine → O.faithful }
@@ -378,6 +429,7 @@ impl<E: StoreEngine, O: Start> Locked<E, O> {
                 alloc,
                 engine,
                 events,
+                requests,
                 publication,
                 readers,
                 stopped: false,
@@ -401,9 +453,9 @@ impl<E: StoreEngine, O: Start> Locked<E, O> {
 
     /// Opens a session after what was seen, whose number is its reader's place. What is seen then ends with its event. If
     /// all readers are out, the engine is asked with the number of none, and refuses.
-    pub(crate) fn start_session<R: Wait>(&mut self, rt: &R, mine: &mut Sight<O>) -> OpenResult<O>
+    pub(crate) fn start_session<R: Wait>(&mut self, rt: &R, mine: &mut Asker<O>) -> OpenResult<O>
         ensures seen { SeesMore mine.old mine.new }
-        ensures opens { OpensOrNot O.start O.trees O.number O.hives mine.old mine.new result }
+        ensures opens { OpensOrNot O.sole O.start O.trees O.number O.hives mine.old mine.new result }
     {
         let (number, reader) = take_reader(&mut self.readers);
         let answer = self.serve(rt, mine, Event::StartSession { session: number });
@@ -416,10 +468,7 @@ impl<E: StoreEngine, O: Start> Locked<E, O> {
             return OpenResult::Refused(told);
         }
         let hives = self.hives();
-        OpenResult::Session(
-            Session::new(self.alloc, number, reader, mine.again(), hives),
-            told,
-        )
+        OpenResult::Session(SessionHandle::new(self.alloc, number, reader, hives), told)
     }
 
     /// Ends a session. Its reader is there again, also if the event is refused.
@@ -428,11 +477,12 @@ impl<E: StoreEngine, O: Start> Locked<E, O> {
         rt: &R,
         number: u32,
         reader: Option<TreesReader<O>>,
-        mine: &mut Sight<O>,
+        mine: &mut Asker<O>,
     ) -> Result<Told, Refusal>
         ensures seen { SeesMore mine.old mine.new }
-        ensures told { IfOk result (λ t. Tells O.start O.trees O.number O.hives mine.old mine.new
+        ensures told { IfOk result (λ t. Tells O.sole O.start O.trees O.number O.hives mine.old mine.new
             (event.EndSession number) t) }
+        ensures lacked { OnErr result (AsksAtMost O.sole mine.old mine.new (event.EndSession number)) }
     {
         self.give_back(number, reader);
         let told = self.serve(rt, mine, Event::EndSession { session: number })?;
@@ -447,8 +497,10 @@ impl<E: StoreEngine, O: Start> Locked<E, O> {
         let _ = &self.alloc; // for the prover
     }
 
-    /// The engine and its whole history, without the lock. Each session that is open in it is ended, whoever has it.
+    /// The engine and its whole history, without the lock. Each session that is open in it is ended, whoever has it, and
+    /// nothing else is put.
     pub(crate) fn close<R: Wait>(self, rt: &R) -> (E, EventCount)
+        ensures ends { (ends : List HistoryEntry) × EndSessions ends × (result.1.log ≡ self.history ++ ends) }
         ensures list { (E.machine result.0).accepted ≡ (E.machine self.engine).accepted }
         ensures owner { IsOf O.trees O.number O.hives (E.machine result.0) }
         ensures sessions { (E.machine result.0).sessions ≡ [] }
@@ -461,6 +513,7 @@ impl<E: StoreEngine, O: Start> Locked<E, O> {
             alloc: _,
             mut engine,
             mut events,
+            requests: _,
             publication,
             readers: _,
             stopped: _,
@@ -481,14 +534,6 @@ impl<E: StoreEngine, O: Start> Locked<E, O> {
     {
         // what the type keeps is known once a field is read
         let _ = &self.alloc; // for the prover
-    }
-
-    /// A session that isn't open and has seen this, whose number none has that is.
-    pub(crate) fn closed_session(&self, mine: Sight<O>) -> Session<O>
-        ensures { result ≡ record { number = MOST_READERS; seen = mine } }
-    {
-        let hives = self.hives();
-        Session::new(self.alloc, MOST_READERS as u32, None, mine, hives)
     }
 
     /// The engine.
@@ -559,6 +604,7 @@ fn end_sessions<E: StoreEngine, O: Start, R: Wait>(
     ensures sessions { (E.machine engine.new).sessions ≡ [] }
     ensures list { (E.machine engine.new).accepted ≡ (E.machine engine.old).accepted }
     ensures book { events.new.book ≡ events.old.book }
+    ensures ends { (ends : List HistoryEntry) × EndSessions ends × (events.new.log ≡ events.old.log ++ ends) }
     ensures leads { LeadsTo O.start O.safe O.faithful (E.safe engine.new) (E.faithful engine.new) events.new.log
         (point_of (E.machine engine.new) (E.clock engine.new) (E.failures engine.new)) }
 {

@@ -1,5 +1,5 @@
 //! The registry: one lock, and what threads do with it. Each guard is let go by `MutexGuard::unlock`, on each path.
-ghost use Rattle.std.specs.Prelude.{◌≡◌, ◌⊎◌, ◌≤◌, ◌+◌, ℕ, [], Some, slice_get, false, true, length, IfOk, IfErr};
+ghost use Rattle.std.specs.Prelude.{◌≡◌, ◌⊎◌, ◌≤◌, ◌+◌, ◌++◌, ℕ, List, [], Some, slice_get, false, true, length, IfOk, IfErr};
 ghost use mathlib.Core.List.{IsPrefix};
 ghost use Rattle.published_trees.specs.declared.rule.TheConstants.{MOST_READERS};
 ghost use Rattle.refusals.specs.declared.refusal.Refusal.TheVariants.{NoMemory, NoSeat};
@@ -7,20 +7,21 @@ ghost use Rattle.store_model.specs.Machine.{Machine};
 ghost use Rattle.store_model.specs.Steps.{is_fold};
 ghost use Rattle.store_model.specs.declared.event.Event.TheVariants as event;
 ghost use Rattle.store_model.specs.declared.event.Reply.TheVariants as reply;
+ghost use Rattle.histories.specs.Asked.{EndSessions, asked_in};
 ghost use Rattle.histories.specs.Histories.{IsHistory, LeadsTo, end_of};
-ghost use Rattle.histories.specs.Points.{point_of};
+ghost use Rattle.histories.specs.Points.{HistoryEntry, point_of};
 ghost use Rattle.ktm_calls.specs.Waiting.{SteppedOrFailed, is_step_kind};
-ghost use Rattle.ktm_calls.specs.Moments.{IsAwaited, IsOf, NumberedSight, SeesMore, Sight as AnySight, Tells, TellsDurably};
+ghost use Rattle.ktm_calls.specs.Moments.{IsAwaited, IsOf, NumberedSight, SeesMore, SeesSteps, Sight as AnySight, Tells, TellsDurably};
 ghost use Rattle.ktm_calls.specs.Denials.{Denies, IsCommitDenied, IsDenied, IsNotOpened, IsOpened, IsRefusal, IsStepOrStop, IsTurnDenied, IsWaitDenied, OpensOrNot, denial_of};
 
+use crate::asker::Asker;
 use crate::event_kind::may_accept;
 use crate::locked::{Locked, OpenResult, Told};
 use crate::receipt::{Receipt, Stopped};
-use crate::session::Session;
-use crate::sight::Sight;
+use crate::session::{Session, SessionHandle};
 use crate::waiting::{CheckpointResult, MemoryPolicy, TurnResult, WaitMode, WaitResult};
 use disk_model::Progress;
-use histories::{EventCount, SeenEvents, Start};
+use histories::{EventCount, Permission, RequestCount, SeenEvents, Start};
 use published_trees::{ChangeCount, MOST_READERS, SeenChanges};
 use refusals::Refusal;
 use refusals::limits::MOST_JOURNAL_BYTES;
@@ -30,6 +31,7 @@ use std::sync::{Condvar, Mutex, MutexGuard, Wait};
 use std::thread;
 use store_engine::StoreEngine;
 use store_model::{Event, Reply};
+use uuid::Uuid;
 
 // at how many used bytes of the journal's room it is freed before a change is accepted
 const BUSY_ROOM: u64 = MOST_JOURNAL_BYTES / 2;
@@ -135,11 +137,13 @@ impl<E: StoreEngine, O: Start> Registry<E, O> {
         rt: &R,
         engine: E,
         events: EventCount,
+        requests: RequestCount<O>,
         count: ChangeCount,
         seen: SeenChanges,
     ) -> Result<Registry<E, O>, (Refusal, E)>
         requires book { (count ≡ O.book) × (seen ≡ record { book = O.book; list = [] }) }
         requires events { events ≡ record { book = O.history; log = [] } }
+        requires requests { requests ≡ 0 }
         requires store { E.store engine ≡ O.store }
         requires start { point_of (E.machine engine) (E.clock engine) (E.failures engine) ≡ O.start }
         requires faithful { E.faithful engine → O.faithful }
@@ -149,7 +153,7 @@ impl<E: StoreEngine, O: Start> Registry<E, O> {
         ensures refused { IfErr result (λ back.
             ((back.0 ≡ NoMemory) ⊎ (back.0 ≡ NoSeat)) × (back.1 ≡ engine)) }
     {
-        let locked = Locked::<E, O>::open(alloc, rt, engine, events, count, seen)?;
+        let locked = Locked::<E, O>::open(alloc, rt, engine, events, requests, count, seen)?;
         Ok(Registry {
             lock: Mutex::new(locked),
             durable: Condvar::new(),
@@ -159,34 +163,61 @@ impl<E: StoreEngine, O: Start> Registry<E, O> {
         })
     }
 
-    /// Opens a session. Refused as its event: `Faulted`, or `NoSeat` if 32 are open.
+    /// Opens a session of a registry in which each may ask. Refused as its event: `Faulted`, or `NoSeat` if 32 are open.
     pub fn session<R: Wait>(&self, rt: &R) -> Result<(Session<O>, Told), Denied>
+        requires shared { O.sole ≡ false }
         ensures opened { IfOk result (λ made. (was : AnySight)
-            × IsOpened O.start O.trees O.number O.hives was made.0 made.1) }
+            × IsOpened O.sole O.start O.trees O.number O.hives was made.0 made.1) }
         ensures denied { IfErr result (λ why. (was is : AnySight)
-            × IsNotOpened O.start O.trees O.number O.hives was is why) }
+            × IsNotOpened O.sole O.start O.trees O.number O.hives was is why) }
     {
-        let mut guard = self.lock.lock(rt);
-        let mut all = (&*guard).sight();
-        let opened = (&mut *guard).start_session(rt, &mut all);
+        let guard = self.lock.lock(rt);
+        let seen = (&*guard).sight();
         let _ = MutexGuard::unlock(guard);
-        open_result(opened)
+        match self.first_session(rt, Asker::new(seen, Permission::shared())) {
+            Ok(made) => Ok(made),
+            Err((why, _asker)) => Err(why),
+        }
     }
 
-    /// The same after what was seen, such as by another session of the caller's. The session has seen that, too. What is
-    /// seen then ends with the session's event, also if it is refused.
-    pub fn session_after<R: Wait>(
+    /// Opens the first session of one who asks, after all that it has seen. If that is refused, it comes back; what it has
+    /// seen then ends with the event.
+    pub fn first_session<R: Wait>(
         &self,
         rt: &R,
-        seen: &mut Sight<O>,
-    ) -> Result<(Session<O>, Told), Denied>
-        ensures seen { SeesMore seen.old seen.new }
-        ensures opened { IfOk result (λ made. IsOpened O.start O.trees O.number O.hives seen.old made.0 made.1
-            × (made.0.seen ≡ seen.new)) }
-        ensures denied { IfErr result (IsNotOpened O.start O.trees O.number O.hives seen.old seen.new) }
+        asker: Asker<O>,
+    ) -> Result<(Session<O>, Told), (Denied, Asker<O>)>
+        ensures opened { IfOk result (λ made.
+            IsOpened O.sole O.start O.trees O.number O.hives asker made.0 made.1) }
+        ensures denied { IfErr result (λ why. SeesMore asker why.1
+            × IsNotOpened O.sole O.start O.trees O.number O.hives asker why.1 why.0) }
+    {
+        let mut asker = asker;
+        let mut guard = self.lock.lock(rt);
+        let opened = (&mut *guard).start_session(rt, &mut asker);
+        let _ = MutexGuard::unlock(guard);
+        match open_result(opened) {
+            Ok((handle, told)) => Ok((Session::new(handle, asker), told)),
+            Err(why) => Err((why, asker)),
+        }
+    }
+
+    /// Opens another session than this one, in which the same one asks. What is seen then ends with its event, also if it
+    /// is refused. [`Session::switch_to`] makes it the one that is asked in.
+    pub fn open_handle<R: Wait>(
+        &self,
+        rt: &R,
+        session: &mut Session<O>,
+    ) -> Result<(SessionHandle<O>, Told), Denied>
+        ensures seen { SeesMore session.old.seen session.new.seen }
+        ensures number { session.new.number ≡ session.old.number }
+        ensures opened { IfOk result (λ made. IsOpened O.sole O.start O.trees O.number O.hives session.old.seen
+            (record { number = made.0; seen = session.new.seen }) made.1) }
+        ensures denied { IfErr result (IsNotOpened O.sole O.start O.trees O.number O.hives session.old.seen
+            session.new.seen) }
     {
         let mut guard = self.lock.lock(rt);
-        let opened = (&mut *guard).start_session(rt, seen);
+        let opened = (&mut *guard).start_session(rt, &mut session.asker);
         let _ = MutexGuard::unlock(guard);
         open_result(opened)
     }
@@ -194,54 +225,89 @@ impl<E: StoreEngine, O: Start> Registry<E, O> {
     /// Ends a session, with all of its transactions. It is gone also if that is refused.
     pub fn end_session<R: Wait>(&self, rt: &R, session: Session<O>) -> Result<Told, Denied>
         ensures told { IfOk result (λ t. (is : AnySight)
-            × Tells O.start O.trees O.number O.hives session.seen is (event.EndSession session.number) t) }
+            × Tells O.sole O.start O.trees O.number O.hives session.seen is (event.EndSession session.number) t) }
         ensures granted { IfOk result (λ t. ¬ (IsRefusal t.reply)) }
         ensures denied { IfErr result (λ why. (is : AnySight)
-            × IsDenied O.start O.trees O.number O.hives session.seen is (event.EndSession session.number) why) }
+            × IsDenied O.sole O.start O.trees O.number O.hives session.seen is (event.EndSession session.number) why) }
     {
-        let (answer, _seen) = self.leave_session(rt, session);
-        answer
+        let (handle, asker) = session.into_parts();
+        let mut asker = asker;
+        self.end_by(rt, handle, &mut asker)
     }
 
-    /// The same, with what the session has seen then.
-    pub fn leave_session<R: Wait>(
+    /// Ends the session of a handle, with all of its transactions, while another session goes on in which the same one
+    /// asks. It is gone also if that is refused.
+    pub fn end_handle<R: Wait>(
         &self,
         rt: &R,
-        session: Session<O>,
-    ) -> (Result<Told, Denied>, Sight<O>)
-        ensures seen { SeesMore session.seen result.1 }
-        ensures told { IfOk result.0 (λ t. Tells O.start O.trees O.number O.hives session.seen result.1
-            (event.EndSession session.number) t) }
-        ensures granted { IfOk result.0 (λ t. ¬ (IsRefusal t.reply)) }
-        ensures denied { IfErr result.0 (IsDenied O.start O.trees O.number O.hives session.seen result.1
-            (event.EndSession session.number)) }
+        handle: SessionHandle<O>,
+        session: &mut Session<O>,
+    ) -> Result<Told, Denied>
+        ensures seen { SeesMore session.old.seen session.new.seen }
+        ensures number { session.new.number ≡ session.old.number }
+        ensures told { IfOk result (λ t. Tells O.sole O.start O.trees O.number O.hives session.old.seen
+            session.new.seen (event.EndSession handle) t) }
+        ensures granted { IfOk result (λ t. ¬ (IsRefusal t.reply)) }
+        ensures denied { IfErr result (IsDenied O.sole O.start O.trees O.number O.hives session.old.seen
+            session.new.seen (event.EndSession handle)) }
     {
-        let (number, reader, seen) = session.into_parts();
-        let mut seen = seen;
+        self.end_by(rt, handle, &mut session.asker)
+    }
+
+    // ends the session of a handle, as this one asks
+    fn end_by<R: Wait>(
+        &self,
+        rt: &R,
+        handle: SessionHandle<O>,
+        asker: &mut Asker<O>,
+    ) -> Result<Told, Denied>
+        ensures seen { SeesMore asker.old asker.new }
+        ensures told { IfOk result (λ t. Tells O.sole O.start O.trees O.number O.hives asker.old asker.new
+            (event.EndSession handle) t) }
+        ensures granted { IfOk result (λ t. ¬ (IsRefusal t.reply)) }
+        ensures denied { IfErr result (IsDenied O.sole O.start O.trees O.number O.hives asker.old asker.new
+            (event.EndSession handle)) }
+    {
+        let (number, reader) = handle.into_parts();
         let mut guard = self.lock.lock(rt);
-        let answer = (&mut *guard).end_session(rt, number, reader, &mut seen);
+        let answer = (&mut *guard).end_session(rt, number, reader, asker);
         let _ = MutexGuard::unlock(guard);
         match answer {
-            Ok(told) => (judged(told), seen),
-            Err(_) => (Err(Denied::NoMemory), seen),
+            Ok(told) => judged(told),
+            Err(_) => Err(Denied::NoMemory),
         }
     }
 
-    /// All that there is to see: what was accepted and the history, up to now.
-    pub fn all_seen<R: Wait>(&self, rt: &R) -> Sight<O> {
-        let guard = self.lock.lock(rt);
-        let seen = (&*guard).sight();
-        let _ = MutexGuard::unlock(guard);
-        seen
+    /// Asks whether the store is faulted, as an event of a session that isn't open: that is refused with `Faulted` if it
+    /// is, with `NoMemory`, and else with `NoSuchHandle`.
+    pub fn probe<R: Wait>(&self, rt: &R, session: &mut Session<O>, id: Uuid) -> Result<Told, Denied>
+        ensures seen { SeesMore session.old.seen session.new.seen }
+        ensures number { session.new.number ≡ session.old.number }
+        ensures told { IfOk result (λ t. Tells O.sole O.start O.trees O.number O.hives session.old.seen
+            session.new.seen (event.Begin MOST_READERS id) t) }
+        ensures granted { IfOk result (λ t. ¬ (IsRefusal t.reply)) }
+        ensures denied { IfErr result (IsDenied O.sole O.start O.trees O.number O.hives session.old.seen
+            session.new.seen (event.Begin MOST_READERS id)) }
+    {
+        let nobody = MOST_READERS as u32;
+        self.serve(
+            rt,
+            session,
+            Event::Begin {
+                session: nobody,
+                id,
+            },
+        )
     }
 
     /// Ends the registry and each session, and hands the engine back. One history leads to it from the start: at each
     /// moment of it, a crash leaves a prefix of the machine's changes of then. The change of each receipt is durable in it,
-    /// and what was seen begins the changes accepted, and the history.
+    /// and what this one had seen begins the changes accepted, and the history. A sole asker has seen each event that was
+    /// asked for, but for the ends of the sessions that were still open.
     ///
     /// If all that was accepted is durable, `Event::Fold` folds the history then, and [`Registry::new`] may take the
     /// engine again, as [`crate::laws`] says.
-    pub fn end<R: Wait>(self, rt: &R, seen: &Sight<O>, receipts: Vec<Receipt<O>>) -> Ended<E>
+    pub fn end<R: Wait>(self, rt: &R, asker: Asker<O>, receipts: Vec<Receipt<O>>) -> Ended<E>
         ensures owner { IsOf O.trees O.number O.hives (E.machine result.engine) }
         ensures closed { (E.machine result.engine).sessions ≡ [] }
         ensures durable { result.durable ≡ (E.machine result.engine).durable }
@@ -250,8 +316,10 @@ impl<E: StoreEngine, O: Start> Registry<E, O> {
             result.events.log
             (point_of (E.machine result.engine) (E.clock result.engine) (E.failures result.engine)) }
         ensures receipts { (i : ℕ) (r : NumberedSight) → slice_get receipts.items i ≡ Some r → r.number ≤ result.durable }
-        ensures seen { IsPrefix seen.now.list (E.machine result.engine).accepted
-            × IsPrefix seen.now.history result.events.log }
+        ensures seen { IsPrefix asker.list (E.machine result.engine).accepted
+            × IsPrefix asker.history result.events.log }
+        ensures asked { O.sole ≡ true → (ends : List HistoryEntry) × EndSessions ends
+            × (asked_in result.events.log ≡ asked_in asker.history ++ ends) }
     {
         let Registry {
             lock,
@@ -260,12 +328,12 @@ impl<E: StoreEngine, O: Start> Registry<E, O> {
             waiting: _,
             last_batch: _,
         } = self;
-        let locked = lock.into_inner();
-        let mut all = seen.again();
-        locked.show(rt, &mut all); // for the prover
+        let mut locked = lock.into_inner();
+        let mut last = asker.seen.again();
+        let mut asker = asker;
+        locked.audit(&mut asker.permission); // for the prover
+        locked.show(rt, &mut last); // for the prover
         let (engine, events) = locked.close(rt);
-        let mut later = seen.events.again();
-        events.show(rt, &mut later); // for the prover
         are_durable(rt, &events, &receipts); // for the prover
         let durable = engine.durable();
         Ended {
@@ -286,13 +354,13 @@ impl<E: StoreEngine, O: Start> Registry<E, O> {
         ensures seen { SeesMore session.old.seen session.new.seen }
         ensures number { session.new.number ≡ session.old.number }
         ensures told { IfOk result (λ t.
-            Tells O.start O.trees O.number O.hives session.old.seen session.new.seen event t) }
+            Tells O.sole O.start O.trees O.number O.hives session.old.seen session.new.seen event t) }
         ensures granted { IfOk result (λ t. ¬ (IsRefusal t.reply)) }
         ensures denied { IfErr result (λ why.
-            IsDenied O.start O.trees O.number O.hives session.old.seen session.new.seen event why) }
+            IsDenied O.sole O.start O.trees O.number O.hives session.old.seen session.new.seen event why) }
     {
         let mut guard = self.lock_for(rt, &event);
-        let answer = (&mut *guard).serve(rt, &mut session.seen, event);
+        let answer = (&mut *guard).serve(rt, &mut session.asker, event);
         let _ = MutexGuard::unlock(guard);
         match answer {
             Ok(told) => judged(told),
@@ -356,13 +424,13 @@ impl<E: StoreEngine, O: Start> Registry<E, O> {
         requires no_fold { is_fold event ≡ false }
         ensures seen { SeesMore session.old.seen session.new.seen }
         ensures number { session.new.number ≡ session.old.number }
-        ensures told { IfOk result (λ r. TellsDurably O.start O.trees O.number O.hives
+        ensures told { IfOk result (λ r. TellsDurably O.sole O.start O.trees O.number O.hives
             session.old.seen session.new.seen event r.0 r.1) }
-        ensures denied { IfErr result (IsCommitDenied O.start O.trees O.number O.hives session.old.seen
+        ensures denied { IfErr result (IsCommitDenied O.sole O.start O.trees O.number O.hives session.old.seen
             session.new.seen event) }
     {
         let mut guard = self.lock_for(rt, &event);
-        let answer = (&mut *guard).serve(rt, &mut session.seen, event);
+        let answer = (&mut *guard).serve(rt, &mut session.asker, event);
         let Ok(told) = answer else {
             let _ = MutexGuard::unlock(guard);
             return Err(Denied::NoMemory);
@@ -371,25 +439,25 @@ impl<E: StoreEngine, O: Start> Registry<E, O> {
             let _ = MutexGuard::unlock(guard);
             return Err(Denied::Told(told));
         };
-        let receipt = self.wait_durable(rt, &mut session.seen, *awaited, guard, policy)?;
+        let receipt = self.wait_durable(rt, &mut session.asker, *awaited, guard, policy)?;
         let _ = receipt.number(); // for the prover
         Ok((receipt, told))
     }
 
     // waits until a change is durable. It begins in the hold whose event asked for it: if another makes the steps, it
     // sleeps there and then
-    #[tactic(auto, using(crate::proofs::Seen::seen_trans, crate::proofs::Seen::seen_self))]
+    #[tactic(auto, using(crate::proofs::Seen::steps_trans, crate::proofs::Seen::steps_self))]
     fn wait_durable<'a, R: Wait>(
         &'a self,
         rt: &R,
-        mine: &mut Sight<O>,
+        mine: &mut Asker<O>,
         number: u64,
         held: MutexGuard<'a, Locked<E, O>>,
         policy: MemoryPolicy,
     ) -> Result<Receipt<O>, Denied>
-        ensures seen { SeesMore mine.old mine.new }
+        ensures seen { SeesSteps O.sole mine.old mine.new }
         ensures receipt { IfOk result (λ r. r ≡ record { number = number; seen = mine.new }) }
-        ensures denied { IfErr result (IsWaitDenied O.start O.trees O.number O.hives number mine.new) }
+        ensures denied { IfErr result (IsWaitDenied O.sole O.start O.trees O.number O.hives number mine.new) }
     {
         let mut guard = held;
         let mut mode = (&mut *guard).first_mode(number);
@@ -495,26 +563,6 @@ impl<E: StoreEngine, O: Start> Registry<E, O> {
         unreachable!()
     }
 
-    /// A session that isn't open: each of its calls is refused as one of a session that has ended.
-    pub fn closed_session<R: Wait>(&self, rt: &R) -> Session<O>
-        ensures { result.number ≡ MOST_READERS }
-    {
-        let guard = self.lock.lock(rt);
-        let session = (&*guard).closed_session((&*guard).sight());
-        let _ = MutexGuard::unlock(guard);
-        session
-    }
-
-    /// The same that has seen this, such as what the session before it had seen.
-    pub fn closed_session_after<R: Wait>(&self, rt: &R, seen: &Sight<O>) -> Session<O>
-        ensures { result ≡ record { number = MOST_READERS; seen = seen.now } }
-    {
-        let guard = self.lock.lock(rt);
-        let session = (&*guard).closed_session(seen.again());
-        let _ = MutexGuard::unlock(guard);
-        session
-    }
-
     /// Tells the flusher to stop once it has nothing to do.
     pub fn stop_flusher<R: Wait>(&self, rt: &R) {
         let mut guard = self.lock.lock(rt);
@@ -576,14 +624,16 @@ impl<E: StoreEngine, O: Start> Registry<E, O> {
 }
 
 // what is answered of a session that was to be opened
-fn open_result<O: Start>(opened: OpenResult<O>) -> Result<(Session<O>, Told), Denied>
-    ensures opened { IfOk result (λ made. (was is : AnySight) → OpensOrNot O.start O.trees O.number O.hives was is opened →
-        IsOpened O.start O.trees O.number O.hives was made.0 made.1 × (made.0.seen ≡ is)) }
-    ensures denied { IfErr result (λ why. (was is : AnySight) → OpensOrNot O.start O.trees O.number O.hives was is opened →
-        IsNotOpened O.start O.trees O.number O.hives was is why) }
+fn open_result<O: Start>(opened: OpenResult<O>) -> Result<(SessionHandle<O>, Told), Denied>
+    ensures opened { IfOk result (λ made. (was is : AnySight) →
+        OpensOrNot O.sole O.start O.trees O.number O.hives was is opened →
+        IsOpened O.sole O.start O.trees O.number O.hives was (record { number = made.0; seen = is }) made.1) }
+    ensures denied { IfErr result (λ why. (was is : AnySight) →
+        OpensOrNot O.sole O.start O.trees O.number O.hives was is opened →
+        IsNotOpened O.sole O.start O.trees O.number O.hives was is why) }
 {
     match opened {
-        OpenResult::Session(session, told) => Ok((session, told)),
+        OpenResult::Session(handle, told) => Ok((handle, told)),
         OpenResult::Refused(told) => Err(Denied::Told(told)),
         OpenResult::NoMemory => Err(Denied::NoMemory),
     }

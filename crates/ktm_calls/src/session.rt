@@ -6,126 +6,185 @@ ghost use Rattle.reg_tree.specs.Sequences.{after_elements};
 ghost use Rattle.store_model.specs.Machine.{read_refusal};
 ghost use Rattle.store_model.specs.declared.event.Question.TheVariants as question;
 ghost use Rattle.store_model.specs.declared.event.ReadResult.TheVariants as found;
+ghost use Rattle.published_trees.specs.declared.rule.TheConstants.{MOST_READERS};
 ghost use Rattle.ktm_calls.specs.Moments.{SeesMore};
 ghost use Rattle.ktm_calls.specs.Outcomes.{HasNoOutcome, HasOutcome};
 ghost use Rattle.ktm_calls.specs.Reads.{read_within};
 
+use crate::asker::Asker;
 use crate::key::Key;
 use crate::receipt::Receipt;
 use crate::sight::Sight;
 use commit_outcomes::number_in;
 use histories::Start;
-use published_trees::{Entered, SeenChanges, TreesReader, TreesSnapshot};
+use published_trees::{Entered, MOST_READERS, SeenChanges, TreesReader, TreesSnapshot};
 use refusals::Refusal;
 use reg_names::{Name, ValueName};
 use reg_tree::{Info, Trees, Value};
 use std::alloc::Global;
 use std::marker::Model;
+use std::mem;
 use store_model::{Question, ReadResult, look_up};
 use uuid::Uuid;
 
-/// A session: the reader by which it reads, and what it has seen of the changes and of the history. Its later reads have
-/// all that it saw, wrote or learnt.
-///
-/// A read looks at the trees that are published. It answers `NoSuchHandle` if the session has seen more than is
-/// published to it, or the registry has ended.
-pub struct Session<O: Start> {
+/// The handle of a session: its number, and the reader by which it reads. It asks for nothing by itself.
+pub struct SessionHandle<O: Start> {
     alloc: Global,
     number: u32,
     // how many hives calls may name
     hives: usize,
     reader: Option<TreesReader<O>>,
-    pub(crate) seen: Sight<O>,
+}
+
+impl<O: Start> Drop for SessionHandle<O> {
+    // one drop for all that own one, whose proofs see no more of it than that
+    fn drop(self) {
+        let SessionHandle {
+            alloc: _,
+            number: _,
+            hives: _,
+            reader: _,
+        } = self;
+    }
+}
+
+impl<O: Start> Model for SessionHandle<O> {
+    ghost use Rattle.std.specs.Prelude.{◌≡◌, ℕ};
+    ghost use Rattle.std.specs.Coded.{coded_ℕ};
+
+    ghost Value = { ℕ };
+
+    ghost coded = { coded_ℕ };
+
+    ghost view = { λ h. h.number };
+
+    ghost invariant = { λ h. h.hives ≡ O.hives };
+}
+
+impl<O: Start> SessionHandle<O> {
+    pub(crate) fn new(
+        alloc: Global,
+        number: u32,
+        reader: Option<TreesReader<O>>,
+        hives: usize,
+    ) -> SessionHandle<O>
+        requires hives { hives ≡ O.hives }
+        ensures { result ≡ number }
+    {
+        SessionHandle {
+            alloc,
+            number,
+            hives,
+            reader,
+        }
+    }
+
+    pub(crate) fn into_parts(self) -> (u32, Option<TreesReader<O>>)
+        ensures { result.0 ≡ self }
+    {
+        let SessionHandle {
+            alloc: _,
+            number,
+            hives: _,
+            reader,
+        } = self;
+        (number, reader)
+    }
+
+    // the handle of a session that isn't open, whose number none has that is
+    fn closed(&self) -> SessionHandle<O>
+        ensures { result ≡ MOST_READERS }
+    {
+        SessionHandle {
+            alloc: self.alloc,
+            number: MOST_READERS as u32,
+            hives: self.hives,
+            reader: None,
+        }
+    }
+}
+
+/// A session: its handle, and who asks in it, with what that one has seen of the changes and of the history. Its later
+/// reads have all that it saw, wrote or learnt.
+///
+/// A read looks at the trees that are published. It answers `NoSuchHandle` if the session has seen more than is
+/// published to it, or the registry has ended.
+pub struct Session<O: Start> {
+    handle: SessionHandle<O>,
+    pub(crate) asker: Asker<O>,
 }
 
 impl<O: Start> Drop for Session<O> {
     // one drop for all that own one, whose proofs see no more of it than that
     fn drop(self) {
         let Session {
-            alloc: _,
-            number: _,
-            hives: _,
-            reader: _,
-            seen: _,
+            handle: _,
+            asker: _,
         } = self;
     }
 }
 
 impl<O: Start> Model for Session<O> {
-    ghost use Rattle.std.specs.Prelude.{◌≡◌};
     ghost use Rattle.ktm_calls.specs.Moments.{NumberedSight, numbered_code};
 
     ghost Value = { NumberedSight };
 
     ghost coded = { numbered_code };
 
-    ghost view = { λ s. record { number = s.number; seen = s.seen } };
-
-    ghost invariant = { λ s. s.hives ≡ O.hives };
+    ghost view = { λ s. record { number = s.handle; seen = s.asker } };
 }
 
 impl<O: Start> Session<O> {
-    pub(crate) fn new(
-        alloc: Global,
-        number: u32,
-        reader: Option<TreesReader<O>>,
-        seen: Sight<O>,
-        hives: usize,
-    ) -> Session<O>
-        requires hives { hives ≡ O.hives }
-        ensures { result ≡ record { number = number; seen = seen } }
+    /// The session of this handle, in which this one asks.
+    pub fn new(handle: SessionHandle<O>, asker: Asker<O>) -> Session<O>
+        ensures { result ≡ record { number = handle; seen = asker } }
     {
-        Session {
-            alloc,
-            number,
-            hives,
-            reader,
-            seen,
-        }
+        Session { handle, asker }
+    }
+
+    /// Its handle, and who asked in it.
+    pub fn into_parts(self) -> (SessionHandle<O>, Asker<O>)
+        ensures handle { result.0 ≡ self.number }
+        ensures asker { result.1 ≡ self.seen }
+    {
+        let Session { handle, asker } = self;
+        (handle, asker)
+    }
+
+    /// Another session from now on, in which the same one asks. The handle of the one before comes back.
+    pub fn switch_to(&mut self, handle: SessionHandle<O>) -> SessionHandle<O>
+        ensures now { self.new ≡ record self.old { number = handle } }
+        ensures before { result ≡ self.old.number }
+    {
+        mem::replace(&mut self.handle, handle)
+    }
+
+    /// The handle of a session that isn't open: each call of it is refused as one of a session that has ended.
+    pub fn closed_handle(&self) -> SessionHandle<O>
+        ensures { result ≡ MOST_READERS }
+    {
+        self.handle.closed()
     }
 
     /// Its number, which its events have.
     pub fn number(&self) -> u32
         ensures { result ≡ self.now.number }
     {
-        self.number
+        self.handle.number
     }
 
     /// How many hives its calls may name.
     pub fn hives(&self) -> usize
         ensures { result ≡ O.hives }
     {
-        self.hives
-    }
-
-    pub(crate) fn into_parts(self) -> (u32, Option<TreesReader<O>>, Sight<O>)
-        ensures number { result.0 ≡ self.number }
-        ensures seen { result.2 ≡ self.seen }
-    {
-        let Session {
-            alloc: _,
-            number,
-            hives: _,
-            reader,
-            seen,
-        } = self;
-        (number, reader, seen)
+        self.handle.hives
     }
 
     /// What it has seen.
     pub fn sight(&self) -> &Sight<O>
         ensures { result.now ≡ self.now.seen }
     {
-        &self.seen
-    }
-
-    /// Takes in what was seen elsewhere, such as in another session.
-    pub fn see(&mut self, other: &Sight<O>)
-        ensures own { SeesMore self.old.seen self.new.seen }
-        ensures learnt { SeesMore other.now self.new.seen }
-        ensures number { self.new.number ≡ self.old.number }
-    {
-        self.seen.learn(other);
+        self.asker.sight()
     }
 
     /// Takes in what a receipt carries: later reads have the changes of its list.
@@ -134,7 +193,7 @@ impl<O: Start> Session<O> {
         ensures learnt { SeesMore receipt.now.seen self.new.seen }
         ensures number { self.new.number ≡ self.old.number }
     {
-        self.seen.learn(receipt.sight());
+        self.asker.learn(receipt.sight());
     }
 
     /// The answer to a question on a key. Refused with `NotFound` exactly if there is no such key or value, or calls name
@@ -149,25 +208,25 @@ impl<O: Start> Session<O> {
             ⊎ (read_refusal (read_within O.hives (after_elements O.trees self.new.seen.list)
             key.now.hive key.now.path question) ≡ Some why)) }
     {
-        let Some(reader) = self.reader.take() else {
+        let Some(reader) = self.handle.reader.take() else {
             return Err(Refusal::NoSuchHandle);
         };
         match reader.enter_as::<Entered<O>>() {
             Ok(reading) => {
                 let snapshot = reading.get();
                 let answer = look_up_in::<O>(
-                    self.alloc,
-                    &mut self.seen.changes,
+                    self.handle.alloc,
+                    &mut self.asker.seen.changes,
                     snapshot,
-                    self.hives,
+                    self.handle.hives,
                     key,
                     question,
                 );
-                self.reader.replace(reading.leave());
+                self.handle.reader.replace(reading.leave());
                 answer
             }
             Err(reader) => {
-                self.reader.replace(reader);
+                self.handle.reader.replace(reader);
                 Err(Refusal::NoSuchHandle)
             }
         }
@@ -255,24 +314,24 @@ impl<O: Start> Session<O> {
         ensures refused { IfErr result (λ why. (why ≡ NoMemory) ⊎ (why ≡ NoSuchHandle)
             ⊎ HasNoOutcome O.hives (after_elements O.trees self.new.seen.list) unit.now why) }
     {
-        let Some(reader) = self.reader.take() else {
+        let Some(reader) = self.handle.reader.take() else {
             return Err(Refusal::NoSuchHandle);
         };
         match reader.enter_as::<Entered<O>>() {
             Ok(reading) => {
                 let snapshot = reading.get();
                 let answer = outcome_in::<O>(
-                    self.alloc,
-                    &mut self.seen.changes,
+                    self.handle.alloc,
+                    &mut self.asker.seen.changes,
                     snapshot,
-                    self.hives,
+                    self.handle.hives,
                     unit,
                 );
-                self.reader.replace(reading.leave());
+                self.handle.reader.replace(reading.leave());
                 answer
             }
             Err(reader) => {
-                self.reader.replace(reader);
+                self.handle.reader.replace(reader);
                 Err(Refusal::NoSuchHandle)
             }
         }

@@ -30,11 +30,11 @@ impl<E: StoreEngine, O: Start> Registry<E, O> {
     ) -> Result<(Tx, Told), Denied>
         ensures seen { SeesMore session.old.seen session.new.seen }
         ensures number { session.new.number ≡ session.old.number }
-        ensures told { IfOk result (λ r. Tells O.start O.trees O.number O.hives session.old.seen session.new.seen
+        ensures told { IfOk result (λ r. Tells O.sole O.start O.trees O.number O.hives session.old.seen session.new.seen
             (event.Begin session.old.number id) r.1) }
         ensures granted { IfOk result (λ r. ¬ (IsRefusal r.1.reply)) }
         ensures answer { IfOk result (λ r. r.1.reply ≡ reply.Begun r.0) }
-        ensures denied { IfErr result (IsDenied O.start O.trees O.number O.hives session.old.seen session.new.seen
+        ensures denied { IfErr result (IsDenied O.sole O.start O.trees O.number O.hives session.old.seen session.new.seen
             (event.Begin session.old.number id)) }
     {
         let event = Event::Begin {
@@ -57,10 +57,10 @@ impl<E: StoreEngine, O: Start> Registry<E, O> {
     ) -> Result<Told, Denied>
         ensures seen { SeesMore session.old.seen session.new.seen }
         ensures number { session.new.number ≡ session.old.number }
-        ensures told { IfOk result (λ t. Tells O.start O.trees O.number O.hives session.old.seen session.new.seen
+        ensures told { IfOk result (λ t. Tells O.sole O.start O.trees O.number O.hives session.old.seen session.new.seen
             (event.Rollback session.old.number tx) t) }
         ensures granted { IfOk result (λ t. ¬ (IsRefusal t.reply)) }
-        ensures denied { IfErr result (IsDenied O.start O.trees O.number O.hives session.old.seen session.new.seen
+        ensures denied { IfErr result (IsDenied O.sole O.start O.trees O.number O.hives session.old.seen session.new.seen
             (event.Rollback session.old.number tx)) }
     {
         let event = Event::Rollback {
@@ -79,10 +79,10 @@ impl<E: StoreEngine, O: Start> Registry<E, O> {
     ) -> Result<Told, Denied>
         ensures seen { SeesMore session.old.seen session.new.seen }
         ensures number { session.new.number ≡ session.old.number }
-        ensures told { IfOk result (λ t. Tells O.start O.trees O.number O.hives session.old.seen session.new.seen
+        ensures told { IfOk result (λ t. Tells O.sole O.start O.trees O.number O.hives session.old.seen session.new.seen
             (event.Close session.old.number tx) t) }
         ensures granted { IfOk result (λ t. ¬ (IsRefusal t.reply)) }
-        ensures denied { IfErr result (IsDenied O.start O.trees O.number O.hives session.old.seen session.new.seen
+        ensures denied { IfErr result (IsDenied O.sole O.start O.trees O.number O.hives session.old.seen session.new.seen
             (event.Close session.old.number tx)) }
     {
         let event = Event::Close {
@@ -101,11 +101,11 @@ impl<E: StoreEngine, O: Start> Registry<E, O> {
     ) -> Result<(Outcome, Told), Denied>
         ensures seen { SeesMore session.old.seen session.new.seen }
         ensures number { session.new.number ≡ session.old.number }
-        ensures told { IfOk result (λ r. Tells O.start O.trees O.number O.hives session.old.seen session.new.seen
+        ensures told { IfOk result (λ r. Tells O.sole O.start O.trees O.number O.hives session.old.seen session.new.seen
             (event.Outcome session.old.number tx) r.1) }
         ensures granted { IfOk result (λ r. ¬ (IsRefusal r.1.reply)) }
         ensures answer { IfOk result (λ r. r.1.reply ≡ reply.OutcomeIs r.0) }
-        ensures denied { IfErr result (IsDenied O.start O.trees O.number O.hives session.old.seen session.new.seen
+        ensures denied { IfErr result (IsDenied O.sole O.start O.trees O.number O.hives session.old.seen session.new.seen
             (event.Outcome session.old.number tx)) }
     {
         let event = Event::Outcome {
@@ -132,11 +132,11 @@ impl<E: StoreEngine, O: Start> Registry<E, O> {
     ) -> Result<(u64, Told), Denied>
         ensures seen { SeesMore session.old.seen session.new.seen }
         ensures number { session.new.number ≡ session.old.number }
-        ensures told { IfOk result (λ r. Tells O.start O.trees O.number O.hives session.old.seen session.new.seen
+        ensures told { IfOk result (λ r. Tells O.sole O.start O.trees O.number O.hives session.old.seen session.new.seen
             (event.OutcomeOf unit) r.1) }
         ensures granted { IfOk result (λ r. ¬ (IsRefusal r.1.reply)) }
         ensures answer { IfOk result (λ r. r.1.reply ≡ reply.CommittedAs r.0) }
-        ensures denied { IfErr result (IsDenied O.start O.trees O.number O.hives session.old.seen session.new.seen
+        ensures denied { IfErr result (IsDenied O.sole O.start O.trees O.number O.hives session.old.seen session.new.seen
             (event.OutcomeOf unit)) }
     {
         let told = self.serve(rt, session, Event::OutcomeOf { id: unit })?;
@@ -158,10 +158,10 @@ impl<E: StoreEngine, O: Start> Registry<E, O> {
     ) -> Result<Told, Denied>
         ensures seen { SeesMore session.old.seen session.new.seen }
         ensures number { session.new.number ≡ session.old.number }
-        ensures told { IfOk result (λ t. Tells O.start O.trees O.number O.hives session.old.seen session.new.seen
+        ensures told { IfOk result (λ t. Tells O.sole O.start O.trees O.number O.hives session.old.seen session.new.seen
             (event.TxRead session.old.number tx key.now.hive key.now.path question) t) }
         ensures granted { IfOk result (λ t. ¬ (IsRefusal t.reply)) }
-        ensures denied { IfErr result (IsDenied O.start O.trees O.number O.hives session.old.seen session.new.seen
+        ensures denied { IfErr result (IsDenied O.sole O.start O.trees O.number O.hives session.old.seen session.new.seen
             (event.TxRead session.old.number tx key.now.hive key.now.path question)) }
     {
         let event = Event::TxRead {
@@ -184,10 +184,10 @@ impl<E: StoreEngine, O: Start> Registry<E, O> {
     ) -> Result<Told, Denied>
         ensures seen { SeesMore session.old.seen session.new.seen }
         ensures number { session.new.number ≡ session.old.number }
-        ensures told { IfOk result (λ t. Tells O.start O.trees O.number O.hives session.old.seen session.new.seen
+        ensures told { IfOk result (λ t. Tells O.sole O.start O.trees O.number O.hives session.old.seen session.new.seen
             (event.TxRead session.old.number tx key.now.hive key.now.path question.InfoOf) t) }
         ensures granted { IfOk result (λ t. ¬ (IsRefusal t.reply)) }
-        ensures denied { IfErr result (IsDenied O.start O.trees O.number O.hives session.old.seen session.new.seen
+        ensures denied { IfErr result (IsDenied O.sole O.start O.trees O.number O.hives session.old.seen session.new.seen
             (event.TxRead session.old.number tx key.now.hive key.now.path question.InfoOf)) }
     {
         self.look_up_transacted(rt, session, tx, key, Question::InfoOf)
@@ -204,10 +204,10 @@ impl<E: StoreEngine, O: Start> Registry<E, O> {
     ) -> Result<Told, Denied>
         ensures seen { SeesMore session.old.seen session.new.seen }
         ensures number { session.new.number ≡ session.old.number }
-        ensures told { IfOk result (λ t. Tells O.start O.trees O.number O.hives session.old.seen session.new.seen
+        ensures told { IfOk result (λ t. Tells O.sole O.start O.trees O.number O.hives session.old.seen session.new.seen
             (event.TxRead session.old.number tx key.now.hive key.now.path (question.ValueOf name)) t) }
         ensures granted { IfOk result (λ t. ¬ (IsRefusal t.reply)) }
-        ensures denied { IfErr result (IsDenied O.start O.trees O.number O.hives session.old.seen session.new.seen
+        ensures denied { IfErr result (IsDenied O.sole O.start O.trees O.number O.hives session.old.seen session.new.seen
             (event.TxRead session.old.number tx key.now.hive key.now.path (question.ValueOf name))) }
     {
         self.look_up_transacted(rt, session, tx, key, Question::ValueOf { name })
@@ -224,10 +224,10 @@ impl<E: StoreEngine, O: Start> Registry<E, O> {
     ) -> Result<Told, Denied>
         ensures seen { SeesMore session.old.seen session.new.seen }
         ensures number { session.new.number ≡ session.old.number }
-        ensures told { IfOk result (λ t. Tells O.start O.trees O.number O.hives session.old.seen session.new.seen
+        ensures told { IfOk result (λ t. Tells O.sole O.start O.trees O.number O.hives session.old.seen session.new.seen
             (event.TxRead session.old.number tx key.now.hive key.now.path (question.ValueAt index)) t) }
         ensures granted { IfOk result (λ t. ¬ (IsRefusal t.reply)) }
-        ensures denied { IfErr result (IsDenied O.start O.trees O.number O.hives session.old.seen session.new.seen
+        ensures denied { IfErr result (IsDenied O.sole O.start O.trees O.number O.hives session.old.seen session.new.seen
             (event.TxRead session.old.number tx key.now.hive key.now.path (question.ValueAt index))) }
     {
         self.look_up_transacted(rt, session, tx, key, Question::ValueAt { index })
@@ -244,10 +244,10 @@ impl<E: StoreEngine, O: Start> Registry<E, O> {
     ) -> Result<Told, Denied>
         ensures seen { SeesMore session.old.seen session.new.seen }
         ensures number { session.new.number ≡ session.old.number }
-        ensures told { IfOk result (λ t. Tells O.start O.trees O.number O.hives session.old.seen session.new.seen
+        ensures told { IfOk result (λ t. Tells O.sole O.start O.trees O.number O.hives session.old.seen session.new.seen
             (event.TxRead session.old.number tx key.now.hive key.now.path (question.KeyAt index)) t) }
         ensures granted { IfOk result (λ t. ¬ (IsRefusal t.reply)) }
-        ensures denied { IfErr result (IsDenied O.start O.trees O.number O.hives session.old.seen session.new.seen
+        ensures denied { IfErr result (IsDenied O.sole O.start O.trees O.number O.hives session.old.seen session.new.seen
             (event.TxRead session.old.number tx key.now.hive key.now.path (question.KeyAt index))) }
     {
         self.look_up_transacted(rt, session, tx, key, Question::KeyAt { index })
@@ -263,10 +263,10 @@ impl<E: StoreEngine, O: Start> Registry<E, O> {
     ) -> Result<Told, Denied>
         ensures seen { SeesMore session.old.seen session.new.seen }
         ensures number { session.new.number ≡ session.old.number }
-        ensures told { IfOk result (λ t. Tells O.start O.trees O.number O.hives session.old.seen session.new.seen
+        ensures told { IfOk result (λ t. Tells O.sole O.start O.trees O.number O.hives session.old.seen session.new.seen
             (event.TxRead session.old.number tx key.now.hive key.now.path question.InfoOf) t) }
         ensures granted { IfOk result (λ t. ¬ (IsRefusal t.reply)) }
-        ensures denied { IfErr result (IsDenied O.start O.trees O.number O.hives session.old.seen session.new.seen
+        ensures denied { IfErr result (IsDenied O.sole O.start O.trees O.number O.hives session.old.seen session.new.seen
             (event.TxRead session.old.number tx key.now.hive key.now.path question.InfoOf)) }
     {
         self.look_up_transacted(rt, session, tx, key, Question::InfoOf)
@@ -287,10 +287,10 @@ impl<E: StoreEngine, O: Start> Registry<E, O> {
     ) -> Result<(Receipt<O>, Told), Denied>
         ensures seen { SeesMore session.old.seen session.new.seen }
         ensures number { session.new.number ≡ session.old.number }
-        ensures told { IfOk result (λ r. TellsDurably O.start O.trees O.number O.hives session.old.seen session.new.seen
+        ensures told { IfOk result (λ r. TellsDurably O.sole O.start O.trees O.number O.hives session.old.seen session.new.seen
             (event.CommitAccept session.old.number tx moment) r.0 r.1) }
         ensures stands { IfOk result (λ r. CommitStands O.number session.new.seen.list moment r.1.reply) }
-        ensures denied { IfErr result (IsCommitDenied O.start O.trees O.number O.hives session.old.seen session.new.seen
+        ensures denied { IfErr result (IsCommitDenied O.sole O.start O.trees O.number O.hives session.old.seen session.new.seen
             (event.CommitAccept session.old.number tx moment)) }
     {
         self.commit(rt, session, tx, moment, MemoryPolicy::Retry)
@@ -307,10 +307,10 @@ impl<E: StoreEngine, O: Start> Registry<E, O> {
     ) -> Result<(Receipt<O>, Told), Denied>
         ensures seen { SeesMore session.old.seen session.new.seen }
         ensures number { session.new.number ≡ session.old.number }
-        ensures told { IfOk result (λ r. TellsDurably O.start O.trees O.number O.hives session.old.seen session.new.seen
+        ensures told { IfOk result (λ r. TellsDurably O.sole O.start O.trees O.number O.hives session.old.seen session.new.seen
             (event.CommitAccept session.old.number tx moment) r.0 r.1) }
         ensures stands { IfOk result (λ r. CommitStands O.number session.new.seen.list moment r.1.reply) }
-        ensures denied { IfErr result (IsCommitDenied O.start O.trees O.number O.hives session.old.seen session.new.seen
+        ensures denied { IfErr result (IsCommitDenied O.sole O.start O.trees O.number O.hives session.old.seen session.new.seen
             (event.CommitAccept session.old.number tx moment)) }
     {
         self.commit(rt, session, tx, moment, MemoryPolicy::GiveUp)
@@ -327,10 +327,10 @@ impl<E: StoreEngine, O: Start> Registry<E, O> {
     ) -> Result<(Receipt<O>, Told), Denied>
         ensures seen { SeesMore session.old.seen session.new.seen }
         ensures number { session.new.number ≡ session.old.number }
-        ensures told { IfOk result (λ r. TellsDurably O.start O.trees O.number O.hives session.old.seen session.new.seen
+        ensures told { IfOk result (λ r. TellsDurably O.sole O.start O.trees O.number O.hives session.old.seen session.new.seen
             (event.CommitAccept session.old.number tx moment) r.0 r.1) }
         ensures stands { IfOk result (λ r. CommitStands O.number session.new.seen.list moment r.1.reply) }
-        ensures denied { IfErr result (IsCommitDenied O.start O.trees O.number O.hives session.old.seen session.new.seen
+        ensures denied { IfErr result (IsCommitDenied O.sole O.start O.trees O.number O.hives session.old.seen session.new.seen
             (event.CommitAccept session.old.number tx moment)) }
     {
         let event = Event::CommitAccept {

@@ -4,15 +4,15 @@
 //! accepted during a batch is the next batch. Nobody depends on the flusher.
 ghost use Rattle.std.specs.Prelude.{◌≡◌, ◌+◌, ◌≤◌, ℕ, true, length, IfNone, IfOk, IfSome};
 ghost use Rattle.store_model.specs.Machine.{last_number};
-ghost use Rattle.ktm_calls.specs.Moments.{SeesMore, Sight as AnySight};
+ghost use Rattle.ktm_calls.specs.Moments.{SeesSteps, Sight as AnySight};
 ghost use Rattle.ktm_calls.specs.Waiting.{EndsCheckpoint, EndsWait, IsTurn, IsWork, SteppedOrFailed, is_step_kind};
 
+use crate::asker::Asker;
 use crate::event_kind::EventKind;
 use crate::locked::{Locked, Told};
 use crate::receipt::{Receipt, Stopped};
-use crate::sight::Sight;
 use disk_model::Progress;
-use histories::Start;
+use histories::{Permission, Start};
 use refusals::Refusal;
 use std::sync::Wait;
 use store_engine::StoreEngine;
@@ -95,14 +95,14 @@ impl<E: StoreEngine, O: Start> Locked<E, O> {
     pub(crate) fn wait_hold<R: Wait>(
         &mut self,
         rt: &R,
-        mine: &mut Sight<O>,
+        mine: &mut Asker<O>,
         number: u64,
         mode: WaitMode,
         leads: bool,
         policy: MemoryPolicy,
     ) -> WaitResult<O>
-        ensures seen { SeesMore mine.old mine.new }
-        ensures ends { EndsWait O.start O.trees O.number O.hives number mine.old mine.new result }
+        ensures seen { SeesSteps O.sole mine.old mine.new }
+        ensures ends { EndsWait O.sole O.start O.trees O.number O.hives number mine.old mine.new result }
         ensures call { E.clock self.new.engine ≤ E.clock self.old.engine + 1 }
     {
         match mode {
@@ -115,12 +115,12 @@ impl<E: StoreEngine, O: Start> Locked<E, O> {
     fn ask<R: Wait>(
         &mut self,
         rt: &R,
-        mine: &mut Sight<O>,
+        mine: &mut Asker<O>,
         number: u64,
         leads: bool,
     ) -> WaitResult<O>
-        ensures seen { SeesMore mine.old mine.new }
-        ensures ends { EndsWait O.start O.trees O.number O.hives number mine.old mine.new result }
+        ensures seen { SeesSteps O.sole mine.old mine.new }
+        ensures ends { EndsWait O.sole O.start O.trees O.number O.hives number mine.old mine.new result }
         ensures call { E.clock self.new.engine ≤ E.clock self.old.engine + 1 }
     {
         let Ok(told) = self.serve(rt, mine, Event::Acked { number }) else {
@@ -153,12 +153,12 @@ impl<E: StoreEngine, O: Start> Locked<E, O> {
     fn lead<R: Wait>(
         &mut self,
         rt: &R,
-        mine: &mut Sight<O>,
+        mine: &mut Asker<O>,
         number: u64,
         policy: MemoryPolicy,
     ) -> WaitResult<O>
-        ensures seen { SeesMore mine.old mine.new }
-        ensures ends { EndsWait O.start O.trees O.number O.hives number mine.old mine.new result }
+        ensures seen { SeesSteps O.sole mine.old mine.new }
+        ensures ends { EndsWait O.sole O.start O.trees O.number O.hives number mine.old mine.new result }
         ensures call { E.clock self.new.engine ≤ E.clock self.old.engine + 1 }
     {
         let Ok(told) = self.serve(rt, mine, Event::JournalStep) else {
@@ -179,7 +179,7 @@ impl<E: StoreEngine, O: Start> Locked<E, O> {
     // there was no memory for a step of the journal
     fn lacks_memory(&mut self, policy: MemoryPolicy) -> WaitResult<O>
         ensures same { self.new ≡ self.old }
-        ensures ends { (number : ℕ) (was is : AnySight) → EndsWait O.start O.trees O.number O.hives number was is result }
+        ensures ends { (number : ℕ) (was is : AnySight) → EndsWait O.sole O.start O.trees O.number O.hives number was is result }
     {
         match policy {
             MemoryPolicy::Retry => WaitResult::Again(WaitMode::Lead),
@@ -262,7 +262,7 @@ impl<E: StoreEngine, O: Start> Locked<E, O> {
         ensures made { IfOk result (λ t. (is_step_kind t.kind ≡ true) × SteppedOrFailed t.reply) }
         ensures call { E.clock self.new.engine ≤ E.clock self.old.engine + 1 }
     {
-        let told = self.hold(rt, event)?;
+        let told = self.hold(rt, event, &mut Permission::none())?;
         self.note_flush(&told);
         Ok(told)
     }

@@ -7,6 +7,9 @@ use Rattle.logbook.proofs.word.Word.TheSendSync as word
 use Rattle.histories.specs.contracts.book.EventCount as EventCount
 use Rattle.histories.specs.contracts.book.SeenEvents as SeenEvents
 use Rattle.histories.specs.declared.start.Start as Start
+use Rattle.core.specs.declared.ledger.Ledger as Ledger
+use Rattle.core.proofs.ledger.Book.TheSendSync as book
+use Rattle.core.proofs.ledger.Share.TheSendSync as share
 use Rattle.published_trees.specs.contracts.change_list.ChangeCount as ChangeCount
 use Rattle.published_trees.specs.contracts.publication.Publication as Publication
 use Rattle.published_trees.specs.declared.origin.Origin as Origin
@@ -30,16 +33,16 @@ history_send = search (word.the_send, events_send, std.crosses, sendable) depth 
 publication_send : (O : RattleType) (o : Origin.Ghosts O.Denot) → IsSend (Publication.the_row O o)
 publication_send O o = search (writer_send, seen_send, count_send, snapshot_send, snapshot_sync, std.crosses, sendable) depth 60
 
-module _ (O : RattleType) (o : Start.Ghosts O.Denot) (from : Origin.Ghosts O.Denot) where
-  pub sight_send : IsSend O → IsSend (Sight.the_field O o from).row
+module _ (O : RattleType) (o : Start.Ghosts O.Denot) (from : Origin.Ghosts O.Denot) (ledger : Ledger.Ghosts O.Denot) where
+  pub sight_send : IsSend O → IsSend (Sight.the_field O o from ledger).row
   sight_send s = search (seen_send, events_send, std.crosses, sendable) depth 60
 
-  pub session_send : IsSend O → IsSend (Session.the_row O o from)
-  session_send s = search (reader_send, sight_send, snapshot_send, snapshot_sync, std.crosses, sendable) depth 80
+  pub session_send : IsSend O → IsSend (Session.the_row O o from ledger)
+  session_send s = search (reader_send, sight_send, share.the_send, snapshot_send, snapshot_sync, std.crosses, sendable) depth 80
 
-module _ (E O : RattleType) (e : StoreEngine.Ghosts E.Denot) (o : Start.Ghosts O.Denot) (from : Origin.Ghosts O.Denot) where
-  pub locked_send : IsSend E → IsSend (Locked.the_row E O e o from)
-  locked_send s = search (publication_send, history_send, reader_send, snapshot_send, snapshot_sync, std.crosses, sendable) depth 60
+module _ (E O : RattleType) (e : StoreEngine.Ghosts E.Denot) (o : Start.Ghosts O.Denot) (from : Origin.Ghosts O.Denot) (ledger : Ledger.Ghosts O.Denot) where
+  pub locked_send : IsSend E → IsSend (Locked.the_row E O e o from ledger)
+  locked_send s = search (publication_send, history_send, book.the_send, reader_send, snapshot_send, snapshot_sync, std.crosses, sendable) depth 60
 
-  pub registry_sync : IsSend E → IsSync (Registry.the_row E O e o from)
+  pub registry_sync : IsSend E → IsSync (Registry.the_row E O e o from ledger)
   registry_sync s = let l = locked_send s in search (l, std.crosses, sendable) depth 60

@@ -1,6 +1,8 @@
 use Rattle.std.proofs.Common.{◌∙◌, ◌≤◌, ◌+◌, ℕ, List, arith, refl, subst, sym}
 use Rattle.std.specs.List.{All}
 use Rattle.store_model.specs.declared.event.Event.TheVariants as event
+use Rattle.histories.specs.Points.{entry_of, point_of}
+use Rattle.ktm_calls.proofs.Ends.{one_more_end}
 use Rattle.ktm_calls.proofs.OpenSessions.{ended, fewer, none_left, still_below, still_of}
 use Rattle.ktm_calls.proofs.locked.end_sessions.Goals as goal
 
@@ -18,9 +20,13 @@ loop-number-preserved g c =
       list = c.others_accept_nothing.ensures old new ends reply refl refl step ∙ was.list;
       store = c.put_event.ensures.store ∙ was.store;
       book = c.put_event.ensures.book ∙ was.book;
+      ends = one_more_end c.args.events.now.log c.loop-number.events.log c.put_event.new.events.log (entry_of ends reply (point_of new (g.E.StoreEngine.clock c.put_event.new.engine) (g.E.StoreEngine.failures c.put_event.new.engine))) tt c.put_event.ensures.added was.ends;
       leads = c.put_event.ensures.leads;
       from = subst (λ (l : List ℕ). All (λ s. c.loop-number.number + 1 ≤ s) l) (sym (ended old new c.loop-number.number reply step)) (fewer c.loop-number.number old.sessions was.from);
     }
+
+pub returns-clause-ends : goal.returns-clause-ends
+returns-clause-ends g c = c.loop-number.invariant.ends
 
 pub returns-clause-sessions : goal.returns-clause-sessions
 returns-clause-sessions g c =

@@ -1,4 +1,6 @@
 use Rattle.std.proofs.Common.{◌∙◌}
+use Rattle.histories.specs.Points.{entry_of, point_of}
+use Rattle.ktm_calls.proofs.Counting.{count_kept, counts_together}
 use Rattle.ktm_calls.proofs.OpenSessions.{accepting_opens_none, still_below, still_of}
 use Rattle.ktm_calls.proofs.locked.Locked.accept.Goals as goal
 
@@ -6,6 +8,7 @@ pub invariant_of-self-2 : goal.invariant_of-self-2
 invariant_of-self-2 g c =
     let old = g.E.StoreEngine.machine c.self.inside.engine in
     let new = g.E.StoreEngine.machine c.accept_event.new.engine in
+    let entry = entry_of c.args.event c.in_ok-reply.reply (point_of new (g.E.StoreEngine.clock c.accept_event.new.engine) (g.E.StoreEngine.failures c.accept_event.new.engine)) in
     let stay = c.openings_stay.ensures.opening old new c.args.event c.in_ok-reply.reply c.requires.no_fold c.in_ok-reply.ensures.step in
     let bounds = c.openings_stay.ensures.bounds old new c.args.event c.in_ok-reply.reply c.in_ok-reply.ensures.step in
     record {
@@ -16,4 +19,10 @@ invariant_of-self-2 g c =
       sessions = still_below c.self.inside.session_bound old new c.self.invariant.sessions c.args.event c.in_ok-reply.reply (accepting_opens_none c.self.inside.session_bound c.args.event c.requires.accepts) c.in_ok-reply.ensures.step;
       bound = c.self.invariant.bound;
       list = c.in_ok-reply.ensures.list;
+      asked = count_kept g.O.Start.sole c.is_asked-is_asked.result c.self.inside.events.log c.accept_event.new.events.log entry c.self.inside.requests c.count.new.self c.args.permission.now c.count.new.permission c.is_asked-is_asked.ensures c.in_ok-reply.ensures.added c.count.ensures.counted c.count.ensures.unasked c.self.invariant.asked;
     }
+
+pub returns-clause-counts : goal.returns-clause-counts
+returns-clause-counts g c =
+    let entry = entry_of c.args.event c.in_ok-reply.reply (point_of (g.E.StoreEngine.machine c.accept_event.new.engine) (g.E.StoreEngine.clock c.accept_event.new.engine) (g.E.StoreEngine.failures c.accept_event.new.engine)) in
+    rw (← c.self.view_is) (counts_together g.O.Start.sole c.is_asked-is_asked.result c.self.inside.events.log c.accept_event.new.events.log entry c.self.inside.requests c.count.new.self c.args.permission.now c.count.new.permission c.is_asked-is_asked.ensures c.in_ok-reply.ensures.added c.count.ensures.counted c.count.ensures.unasked)

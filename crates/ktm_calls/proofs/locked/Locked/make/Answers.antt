@@ -1,12 +1,15 @@
 use Rattle.std.proofs.Common.{◌∙◌, sym}
+use Rattle.histories.specs.Points.{entry_of, point_of}
+use Rattle.ktm_calls.proofs.Counting.{count_kept, counts_together}
 use Rattle.ktm_calls.proofs.OpenSessions.{below_more, still_below, still_of}
 use Rattle.ktm_calls.proofs.locked.Locked.make.Goals as goal
 
-pub invariant_of-self-2 : goal.invariant_of-self-2
-invariant_of-self-2 g c =
+pub invariant_of-self : goal.invariant_of-self
+invariant_of-self g c =
     let old = g.E.StoreEngine.machine c.self.inside.engine in
     let new = g.E.StoreEngine.machine c.put_event-reply.new.engine in
     let step = c.put_event-reply.ensures.step in
+    let entry = entry_of c.args.event c.put_event-reply.result (point_of new (g.E.StoreEngine.clock c.put_event-reply.new.engine) (g.E.StoreEngine.failures c.put_event-reply.new.engine)) in
     let stay = c.openings_stay.ensures.opening old new c.args.event c.put_event-reply.result c.requires.no_fold step in
     let bounds = c.openings_stay.ensures.bounds old new c.args.event c.put_event-reply.result step in
     record {
@@ -17,4 +20,34 @@ invariant_of-self-2 g c =
       sessions = still_below c.bound_with-self-inside.result old new (below_more c.self.inside.session_bound c.bound_with-self-inside.result old c.bound_with-self-inside.ensures.above c.self.invariant.sessions) c.args.event c.put_event-reply.result c.bound_with-self-inside.ensures.opens step;
       bound = c.bound_with-self-inside.ensures.most;
       list = c.self.invariant.list ∙ sym (c.others_accept_nothing.ensures old new c.args.event c.put_event-reply.result c.requires.calm c.requires.no_fold step);
+      asked = count_kept g.O.Start.sole c.is_asked-is_asked.result c.self.inside.events.log c.put_event-reply.new.events.log entry c.self.inside.requests c.count.new.self c.args.permission.now c.count.new.permission c.is_asked-is_asked.ensures c.put_event-reply.ensures.added c.count.ensures.counted c.count.ensures.unasked c.self.invariant.asked;
     }
+
+pub invariant_of-self-2 : goal.invariant_of-self-2
+invariant_of-self-2 g c =
+    let old = g.E.StoreEngine.machine c.self.inside.engine in
+    let new = g.E.StoreEngine.machine c.put_event-reply.new.engine in
+    let step = c.put_event-reply.ensures.step in
+    let entry = entry_of c.args.event c.put_event-reply.result (point_of new (g.E.StoreEngine.clock c.put_event-reply.new.engine) (g.E.StoreEngine.failures c.put_event-reply.new.engine)) in
+    let stay = c.openings_stay.ensures.opening old new c.args.event c.put_event-reply.result c.requires.no_fold step in
+    let bounds = c.openings_stay.ensures.bounds old new c.args.event c.put_event-reply.result step in
+    record {
+      book = c.put_event-reply.ensures.book ∙ c.self.invariant.book;
+      store = c.put_event-reply.ensures.store ∙ c.self.invariant.store;
+      leads = c.put_event-reply.ensures.leads;
+      owner = still_of g.O.Origin.trees g.O.Origin.number g.O.Origin.hives old new c.self.invariant.owner stay bounds.0;
+      sessions = still_below c.bound_with-self-inside.result old new (below_more c.self.inside.session_bound c.bound_with-self-inside.result old c.bound_with-self-inside.ensures.above c.self.invariant.sessions) c.args.event c.put_event-reply.result c.bound_with-self-inside.ensures.opens step;
+      bound = c.bound_with-self-inside.ensures.most;
+      list = c.self.invariant.list ∙ sym (c.others_accept_nothing.ensures old new c.args.event c.put_event-reply.result c.requires.calm c.requires.no_fold step);
+      asked = count_kept g.O.Start.sole c.is_asked-is_asked.result c.self.inside.events.log c.put_event-reply.new.events.log entry c.self.inside.requests c.count.new.self c.args.permission.now c.count.new.permission c.is_asked-is_asked.ensures c.put_event-reply.ensures.added c.count.ensures.counted c.count.ensures.unasked c.self.invariant.asked;
+    }
+
+pub returns-clause-counts : goal.returns-clause-counts
+returns-clause-counts g c =
+    let entry = entry_of c.args.event c.put_event-reply.result (point_of (g.E.StoreEngine.machine c.put_event-reply.new.engine) (g.E.StoreEngine.clock c.put_event-reply.new.engine) (g.E.StoreEngine.failures c.put_event-reply.new.engine)) in
+    rw (← c.self.view_is) (counts_together g.O.Start.sole c.is_asked-is_asked.result c.self.inside.events.log c.put_event-reply.new.events.log entry c.self.inside.requests c.count.new.self c.args.permission.now c.count.new.permission c.is_asked-is_asked.ensures c.put_event-reply.ensures.added c.count.ensures.counted c.count.ensures.unasked)
+
+pub returns-in-Refused-NoMemory-clause-counts : goal.returns-in-Refused-NoMemory-clause-counts
+returns-in-Refused-NoMemory-clause-counts g c =
+    let entry = entry_of c.args.event c.put_event-reply.result (point_of (g.E.StoreEngine.machine c.put_event-reply.new.engine) (g.E.StoreEngine.clock c.put_event-reply.new.engine) (g.E.StoreEngine.failures c.put_event-reply.new.engine)) in
+    rw (← c.self.view_is) (counts_together g.O.Start.sole c.is_asked-is_asked.result c.self.inside.events.log c.put_event-reply.new.events.log entry c.self.inside.requests c.count.new.self c.args.permission.now c.count.new.permission c.is_asked-is_asked.ensures c.put_event-reply.ensures.added c.count.ensures.counted c.count.ensures.unasked)

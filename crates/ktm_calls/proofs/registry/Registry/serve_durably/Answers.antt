@@ -6,7 +6,7 @@ use Rattle.ktm_calls.proofs.Shapes.{refused_unless}
 use Rattle.ktm_calls.proofs.registry.Registry.serve_durably.Goals as goal
 
 pub returns-in_default-clause-denied : goal.returns-in_default-clause-denied
-returns-in_default-clause-denied g c = inl tt
+returns-in_default-clause-denied g c = inl (rw (← c.session.view_is) c.in_default.ensures.lacked)
 
 pub returns-in_default-reply : goal.returns-in_default-reply
 returns-in_default-reply g c = record {
@@ -35,7 +35,7 @@ returns-in_err-receipt-clause-denied g c =
     }))
 
 pub returns-in_err-receipt-clause-seen : goal.returns-in_err-receipt-clause-seen
-returns-in_err-receipt-clause-seen g c = rw (← c.session.view_is) (seen_trans _ _ _ c.in-Ok.ensures.seen c.in_err-receipt.ensures.seen)
+returns-in_err-receipt-clause-seen g c = rw (← c.session.view_is) (seen_trans _ _ _ c.in-Ok.ensures.seen c.in_err-receipt.ensures.seen.more)
 
 pub returns-clause-seen : goal.returns-clause-seen
-returns-clause-seen g c = rw (← c.session.view_is) (seen_trans _ _ _ c.in-Ok.ensures.seen c.in_ok-receipt.ensures.seen)
+returns-clause-seen g c = rw (← c.session.view_is) (seen_trans _ _ _ c.in-Ok.ensures.seen c.in_ok-receipt.ensures.seen.more)
