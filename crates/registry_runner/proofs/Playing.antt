@@ -26,8 +26,8 @@ continued_text (Ok part) = refl
 continued_text (Err why) = refl
 
 -- a part of these trees and this number
-abbrev pub part : List HistoryEntry → Point → List TreeMap → ℕ → ℕ → Script → Part
-part past origin trees number hives script = record { past = past; start = origin; trees = trees; number = number; hives = hives; script = script }
+abbrev pub part : List HistoryEntry → Bool → Point → List TreeMap → ℕ → ℕ → Script → Part
+part past sole origin trees number hives script = record { past = past; sole = sole; start = origin; trees = trees; number = number; hives = hives; script = script }
 
 nothing_read : (known : Option (List ℕ)) → WereRead known [] None
 nothing_read None = tt

@@ -1,5 +1,5 @@
 -- What a call of the registry answers, as the reply to the line that made it.
-use Rattle.std.specs.Prelude.{◌≡◌, ℕ, ◌⊎◌, List, Option, Some, Result, Ok, Err}
+use Rattle.std.specs.Prelude.{◌≡◌, ℕ, ◌⊎◌, Bool, List, Option, Some, Result, Ok, Err}
 use Rattle.refusals.specs.declared.refusal.Refusal.{Refusal}
 use Rattle.refusals.specs.declared.refusal.Refusal.TheVariants.{NoMemory, NoSuchHandle}
 use Rattle.reg_tree.specs.Maps.{TreeMap}
@@ -17,7 +17,7 @@ use Rattle.store_model.specs.declared.event.ReadResult.{ReadResult}
 use Rattle.store_model.specs.declared.handle.Tx.{Tx}
 use Rattle.ktm_calls.specs.Denials.{IsCommitDenied}
 use Rattle.ktm_calls.specs.Kinds.{Told}
-use Rattle.ktm_calls.specs.Moments.{NumberedSight, SeesMore, Tells, TellsDurably}
+use Rattle.ktm_calls.specs.Moments.{AsksAtMost, NumberedSight, SeesMore, SeesSteps, Tells, TellsDurably}
 use Rattle.ktm_calls.specs.Outcomes.{HasNoOutcome, HasOutcome}
 use Rattle.ktm_calls.specs.Reads.{read_within}
 use Rattle.ktm_calls.specs.declared.registry.Denied.{Denied}
@@ -37,23 +37,28 @@ pub record GoesOn (old new : NumberedSight) : Type 0 where
   pub number : new.number ≡ old.number
   pub seen : SeesMore old.seen new.seen
 
--- There was no memory. Or a machine of the registry answered the event, with all that the session has seen before and
--- after it, and the reply tells its answer.
-abbrev pub IsHeard : Point → List TreeMap → ℕ → ℕ → NumberedSight → Event → ReplyLine → NumberedSight → Type 0
-IsHeard origin trees number hives old event reported new =
-    (reported ≡ reply.Refused NoMemory) ⊎ ((told : Told) × Tells origin trees number hives old.seen new.seen event told × (reported ≡ reply_of told.reply))
+-- the same, and nothing is asked for
+pub record Rests (sole : Bool) (old new : NumberedSight) : Type 0 where
+  pub number : new.number ≡ old.number
+  pub seen : SeesSteps sole old.seen new.seen
 
-abbrev pub Hears : Point → List TreeMap → ℕ → ℕ → NumberedSight → Event → ReplyLine → NumberedSight → Type 0
-Hears origin trees number hives old event reported new = GoesOn old new × IsHeard origin trees number hives old event reported new
+-- There was no memory, and nothing else was asked for. Or a machine of the registry answered the event, with all that the
+-- session has seen before and after it, and the reply tells its answer.
+abbrev pub IsHeard : Bool → Point → List TreeMap → ℕ → ℕ → NumberedSight → Event → ReplyLine → NumberedSight → Type 0
+IsHeard sole origin trees number hives old event reported new =
+    ((reported ≡ reply.Refused NoMemory) × AsksAtMost sole old.seen new.seen event) ⊎ ((told : Told) × Tells sole origin trees number hives old.seen new.seen event told × (reported ≡ reply_of told.reply))
+
+abbrev pub Hears : Bool → Point → List TreeMap → ℕ → ℕ → NumberedSight → Event → ReplyLine → NumberedSight → Type 0
+Hears sole origin trees number hives old event reported new = GoesOn old new × IsHeard sole origin trees number hives old event reported new
 
 -- The event was answered with a number, and that number is durable: the reply tells it. Or the reply tells why not.
-abbrev pub IsHeardDurably : Point → List TreeMap → ℕ → ℕ → NumberedSight → Event → (ℕ → ReplyLine) → ReplyLine → NumberedSight → Type 0
-IsHeardDurably origin trees number hives old event tell reported new =
-    ((receipt : NumberedSight) × (told : Told) × TellsDurably origin trees number hives old.seen new.seen event receipt told × (reported ≡ tell receipt.number))
-    ⊎ ((why : Denied) × IsCommitDenied origin trees number hives old.seen new.seen event why × (reported ≡ denied_reply why))
+abbrev pub IsHeardDurably : Bool → Point → List TreeMap → ℕ → ℕ → NumberedSight → Event → (ℕ → ReplyLine) → ReplyLine → NumberedSight → Type 0
+IsHeardDurably sole origin trees number hives old event tell reported new =
+    ((receipt : NumberedSight) × (told : Told) × TellsDurably sole origin trees number hives old.seen new.seen event receipt told × (reported ≡ tell receipt.number))
+    ⊎ ((why : Denied) × IsCommitDenied sole origin trees number hives old.seen new.seen event why × (reported ≡ denied_reply why))
 
-abbrev pub HearsDurably : Point → List TreeMap → ℕ → ℕ → NumberedSight → Event → (ℕ → ReplyLine) → ReplyLine → NumberedSight → Type 0
-HearsDurably origin trees number hives old event tell reported new = GoesOn old new × IsHeardDurably origin trees number hives old event tell reported new
+abbrev pub HearsDurably : Bool → Point → List TreeMap → ℕ → ℕ → NumberedSight → Event → (ℕ → ReplyLine) → ReplyLine → NumberedSight → Type 0
+HearsDurably sole origin trees number hives old event tell reported new = GoesOn old new × IsHeardDurably sole origin trees number hives old event tell reported new
 
 -- why a read may be refused: there was no memory, the session isn't open, or there is no such hive, key or value
 abbrev pub MayNotRead : Option ReadResult → Refusal → Type 0
@@ -70,16 +75,16 @@ TellsOutcome hives trees id reported =
     ((number : ℕ) × HasOutcome hives trees id number × (reported ≡ reply.Committed number))
     ⊎ ((why : Refusal) × ((why ≡ NoMemory) ⊎ (why ≡ NoSuchHandle) ⊎ HasNoOutcome hives trees id why) × (reported ≡ reply.Refused why))
 
-abbrev pub HearsOutcome : Point → List TreeMap → ℕ → ℕ → NumberedSight → List ℕ → ReplyLine → NumberedSight → Type 0
-HearsOutcome origin trees number hives old id reported new = GoesOn old new × TellsOutcome hives (after_elements trees new.seen.list) id reported
+abbrev pub HearsOutcome : Bool → Point → List TreeMap → ℕ → ℕ → NumberedSight → List ℕ → ReplyLine → NumberedSight → Type 0
+HearsOutcome sole origin trees number hives old id reported new = Rests sole old new × TellsOutcome hives (after_elements trees new.seen.list) id reported
 
 -- a request alone, at a moment
-abbrev pub HearsAlone : Point → List TreeMap → ℕ → ℕ → ℕ → NumberedSight → Operation → ReplyLine → NumberedSight → Type 0
-HearsAlone origin trees number hives moment old (Write op) reported new = Hears origin trees number hives old (event.Write old.number moment op) reported new
-HearsAlone origin trees number hives moment old (Read hive path question) reported new =
-    GoesOn old new × ReadsSeen (read_within hives (after_elements trees new.seen.list) hive path question) reported
+abbrev pub HearsAlone : Bool → Point → List TreeMap → ℕ → ℕ → ℕ → NumberedSight → Operation → ReplyLine → NumberedSight → Type 0
+HearsAlone sole origin trees number hives moment old (Write op) reported new = Hears sole origin trees number hives old (event.Write old.number moment op) reported new
+HearsAlone sole origin trees number hives moment old (Read hive path question) reported new =
+    Rests sole old new × ReadsSeen (read_within hives (after_elements trees new.seen.list) hive path question) reported
 
 -- the same in a transaction
-abbrev pub HearsInside : Point → List TreeMap → ℕ → ℕ → ℕ → Tx → NumberedSight → Operation → ReplyLine → NumberedSight → Type 0
-HearsInside origin trees number hives moment tx old (Write op) reported new = Hears origin trees number hives old (event.TxWrite old.number tx moment op) reported new
-HearsInside origin trees number hives moment tx old (Read hive path question) reported new = Hears origin trees number hives old (event.TxRead old.number tx hive path question) reported new
+abbrev pub HearsInside : Bool → Point → List TreeMap → ℕ → ℕ → ℕ → Tx → NumberedSight → Operation → ReplyLine → NumberedSight → Type 0
+HearsInside sole origin trees number hives moment tx old (Write op) reported new = Hears sole origin trees number hives old (event.TxWrite old.number tx moment op) reported new
+HearsInside sole origin trees number hives moment tx old (Read hive path question) reported new = Hears sole origin trees number hives old (event.TxRead old.number tx hive path question) reported new

@@ -17,13 +17,13 @@ use Rattle.registry_runner.specs.declared.parts.PartKind.TheVariants.{Opened, Fo
 -- after a line whose reply told a number, the script goes on in the same registry; or the history is to be folded
 abbrev pub Between : ℕ → Part → ℕ → BetweenLines → Script → Type 0
 Between limit old told (between.GoOn failed) new =
-    (new ≡ old.script) ⊎ (IsDue limit old told × IsUnlabelled old.script × (flushed : ReplyLine) × FlushesThen old.start old.trees old.number old.hives old.script flushed new)
-Between limit old told between.ToFold new = IsDue limit old told × IsUnlabelled old.script × IsFlushed old.start old.trees old.number old.hives old.script new
+    (new ≡ old.script) ⊎ (IsDue limit old told × IsUnlabelled old.script × (flushed : ReplyLine) × FlushesThen old.sole old.start old.trees old.number old.hives old.script flushed new)
+Between limit old told between.ToFold new = IsDue limit old told × IsUnlabelled old.script × IsFlushed old.sole old.start old.trees old.number old.hives old.script new
 
 -- a line is answered, and then that is done
 abbrev pub AnswersThen : ℕ → Part → List ℕ → List ℕ → Bool → BetweenLines → Script → Type 0
 AnswersThen limit old line text refused next new =
-    (asked : Line) × (reported : ReplyLine) × (mid : Script) × (line_asked line ≡ Some asked) × Answers old.start old.trees old.number old.hives old.script asked reported mid
+    (asked : Line) × (reported : ReplyLine) × (mid : Script) × (line_asked line ≡ Some asked) × Answers old.sole old.start old.trees old.number old.hives old.script asked reported mid
     × (text ≡ reply_line reported) × (refused ≡ is_refusal reported) × Between limit (with_script old mid) (number_told reported) next new
 
 -- a line is answered by this text, and the script goes on in the same registry
@@ -33,7 +33,7 @@ AnswersInPart limit old line text refused new = AnswersThen limit old line text 
 -- the history is to be folded: a line asks for it, for which all was flushed; or a line was answered, after which it is due
 abbrev pub StopsInPart : ℕ → Part → List ℕ → List ℕ → Bool → PartKind → Script → Type 0
 StopsInPart limit old line text refused Opened new = ⊥
-StopsInPart limit old line text refused Folded new = (line_asked line ≡ Some Fold) × IsFlushed old.start old.trees old.number old.hives old.script new × (text ≡ []) × (refused ≡ false)
+StopsInPart limit old line text refused Folded new = (line_asked line ≡ Some Fold) × IsFlushed old.sole old.start old.trees old.number old.hives old.script new × (text ≡ []) × (refused ≡ false)
 StopsInPart limit old line text refused Continued new = AnswersThen limit old line text refused between.ToFold new
 
 -- this is so if the history begins after the change of this number; and it goes on beginning there, with the same limit

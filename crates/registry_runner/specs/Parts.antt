@@ -1,5 +1,5 @@
 -- The parts of a script's run. Each calls a registry of its own, and the history is folded between two of them.
-use Rattle.std.specs.Prelude.{◌≡◌, ℕ, ◌+◌, ◌-◌, ◌*◌, ◌≤◌, ◌⊎◌, true, List, [], ◌++◌, length, None, Result, Ok, Err}
+use Rattle.std.specs.Prelude.{◌≡◌, ℕ, ◌+◌, ◌-◌, ◌*◌, ◌≤◌, ◌⊎◌, Bool, true, List, [], ◌++◌, length, None, Result, Ok, Err}
 use mathlib.Core.List.{IsPrefix}
 use Rattle.refusals.specs.declared.refusal.Refusal.{Refusal}
 use Rattle.refusals.specs.declared.refusal.Refusal.TheVariants.{NoMemory, NoSeat}
@@ -9,21 +9,23 @@ use Rattle.reply_lines.specs.Replies.{reply_line}
 use Rattle.reply_lines.specs.declared.reply.ReplyLine.{ReplyLine}
 use Rattle.reply_lines.specs.declared.reply.ReplyLine.TheVariants as reply
 use Rattle.script_runner.specs.Plays.{opened_text}
+use Rattle.histories.specs.Asked.{EndSessions, asked_in}
 use Rattle.histories.specs.Histories.{end_of}
 use Rattle.histories.specs.Points.{HistoryEntry, Point}
 use Rattle.store_model.specs.Machine.{is_of_device}
 use Rattle.ktm_calls.specs.Denials.{IsOpened}
 use Rattle.ktm_calls.specs.Kinds.{Told}
-use Rattle.ktm_calls.specs.Moments.{SeesMore, Sight}
+use Rattle.ktm_calls.specs.Moments.{SeesMore, Sight, no_sight}
 use Rattle.registry_runner.specs.Scripts.{Script, FlushesThen, IsFlushed, MayNotEnter}
 use Rattle.registry_runner.specs.declared.parts.PartKind.{PartKind}
 use Rattle.registry_runner.specs.declared.parts.PartKind.TheVariants.{Opened, Folded, Continued}
 
--- a part of a run between two lines: the run's history before the part, where its registry's history begins, the trees on
--- which its list of changes begins, the number of the last change before that list, how many hives calls may name, and the
--- script
+-- a part of a run between two lines: the run's history before the part, whether the run is the sole asker, where its
+-- registry's history begins, the trees on which its list of changes begins, the number of the last change before that
+-- list, how many hives calls may name, and the script
 pub record Part : Type 0 where
   pub past : List HistoryEntry
+  pub sole : Bool
   pub start : Point
   pub trees : List TreeMap
   pub number : ℕ
@@ -33,11 +35,11 @@ pub record Part : Type 0 where
 abbrev pub with_script : Part → Script → Part
 with_script part script = record part { script = script }
 
--- a script before a part's first line: a session was just opened, behind what had been seen, and no label names anything
-pub record IsBegun (origin : Point) (trees : List TreeMap) (number hives current : ℕ) (script : Script) : Type 0 where
+-- a script before a part's first line: a session was just opened, before which nothing was seen, and no label names
+-- anything
+pub record IsBegun (sole : Bool) (origin : Point) (trees : List TreeMap) (number hives current : ℕ) (script : Script) : Type 0 where
   pub told : Told
-  pub was : Sight
-  pub opened : IsOpened origin trees number hives was script.session told
+  pub opened : IsOpened sole origin trees number hives no_sight script.session told
   pub moment : script.moment ≡ current
   pub labels : (label : List ℕ) → script.labels label ≡ None
 
@@ -45,43 +47,62 @@ pub record IsBegun (origin : Point) (trees : List TreeMap) (number hives current
 abbrev pub sight_of : Point → List HistoryEntry → Sight
 sight_of start history = record { list = (end_of start history).machine.accepted; history = history }
 
--- What was seen of a registry lies in the whole history of a run: the registry's own history comes there after this
--- past, and what was seen begins what there is to see after it.
-pub record LiesIn (whole past : List HistoryEntry) (start : Point) (seen : Sight) : Type 0 where
-  pub own : List HistoryEntry
+-- What was seen begins all that there is to see of a registry. If there is a sole asker, all that was asked for was seen,
+-- but for the ends of sessions that were still open.
+pub record SeesAllAsked (sole : Bool) (start : Point) (seen : Sight) (own : List HistoryEntry) : Type 0 where
   pub begins : SeesMore seen (sight_of start own)
+  pub asked : sole ≡ true → (ends : List HistoryEntry) × EndSessions ends × (asked_in own ≡ asked_in seen.history ++ ends)
+
+-- What was seen of a registry lies in the whole history of a run: the registry's own history comes there after this
+-- past.
+pub record LiesIn (sole : Bool) (whole past : List HistoryEntry) (start : Point) (seen : Sight) : Type 0 where
+  pub own : List HistoryEntry
+  pub sees : SeesAllAsked sole start seen own
   pub within : IsPrefix (past ++ own) whole
 
--- Why no part begins over an engine: there is no memory, no reader, or a machine of the whole history refused session 0.
-abbrev pub MayNotBegin : List HistoryEntry → List HistoryEntry → Point → List TreeMap → ℕ → ℕ → Refusal → Type 0
-MayNotBegin whole past origin trees number hives why =
-    (why ≡ NoMemory) ⊎ (why ≡ NoSeat) ⊎ ((seen : Sight) × LiesIn whole past origin seen × MayNotEnter origin trees number hives seen why)
+-- the same of the last registry of a run: nothing is asked for after it
+pub record LiesLast (sole : Bool) (whole past : List HistoryEntry) (start : Point) (seen : Sight) : Type 0 where
+  pub lies : LiesIn sole whole past start seen
+  pub last : asked_in whole ≡ asked_in (past ++ lies.own)
+
+-- If there is a sole asker, nothing was asked for after this past, but for the ends of sessions.
+abbrev pub AsksNoMore : Bool → List HistoryEntry → List HistoryEntry → Type 0
+AsksNoMore sole whole past = sole ≡ true → (ends : List HistoryEntry) × EndSessions ends × (asked_in whole ≡ asked_in past ++ ends)
+
+-- Why no part begins over an engine: there is no memory, or no reader, and nothing more is asked for. Or session 0 was
+-- refused in the whole history.
+abbrev pub MayNotBegin : List HistoryEntry → List HistoryEntry → Bool → Point → List TreeMap → ℕ → ℕ → Refusal → Type 0
+MayNotBegin whole past sole origin trees number hives why =
+    (((why ≡ NoMemory) ⊎ (why ≡ NoSeat)) × AsksNoMore sole whole past)
+    ⊎ ((seen : Sight) × LiesLast sole whole past origin seen × MayNotEnter sole origin trees number hives no_sight seen why)
 
 -- a part begins after this past, on these trees after the change of this number, at this moment; or none does, and why
-abbrev pub BeginsOrNot : List HistoryEntry → List HistoryEntry → Point → List TreeMap → ℕ → ℕ → ℕ → Result Part Refusal → Type 0
-BeginsOrNot whole past origin trees number hives moment (Ok part) = (part.past ≡ past) × (part.start ≡ origin) × (part.trees ≡ trees) × (part.number ≡ number) × (part.hives ≡ hives) × IsBegun origin trees number hives moment part.script
-BeginsOrNot whole past origin trees number hives moment (Err why) = MayNotBegin whole past origin trees number hives why
+abbrev pub BeginsOrNot : List HistoryEntry → List HistoryEntry → Bool → Point → List TreeMap → ℕ → ℕ → ℕ → Result Part Refusal → Type 0
+BeginsOrNot whole past sole origin trees number hives moment (Ok part) = (part.past ≡ past) × (part.sole ≡ sole) × (part.start ≡ origin) × (part.trees ≡ trees) × (part.number ≡ number) × (part.hives ≡ hives) × IsBegun sole origin trees number hives moment part.script
+BeginsOrNot whole past sole origin trees number hives moment (Err why) = MayNotBegin whole past sole origin trees number hives why
 
 -- why a history isn't folded of which all is durable: there is no memory, or the device has failed
 abbrev pub MayNotFold : Refusal → Type 0
 MayNotFold why = (why ≡ NoMemory) ⊎ (is_of_device why ≡ true)
 
--- The history of a registry is folded, after its own history, by further events of the run's. The next part comes after
--- all of them. Its list of changes begins on the trees after the changes that this registry accepted, and its number is
+-- The history of a registry is folded, after its own history, by further events of the run's, for which nobody asks. The
+-- next part comes after all of them. Its list of changes begins on the trees after the changes that this registry accepted, and its number is
 -- the last one plus their count.
-pub record NextBegins (whole past own : List HistoryEntry) (start : Point) (trees : List TreeMap) (number hives moment : ℕ) (next : Result Part Refusal) : Type 0 where
+pub record NextBegins (sole : Bool) (whole past own : List HistoryEntry) (start : Point) (trees : List TreeMap) (number hives moment : ℕ) (next : Result Part Refusal) : Type 0 where
   pub folding : List HistoryEntry
+  pub unasked : asked_in folding ≡ []
   pub within : IsPrefix (past ++ (own ++ folding)) whole
-  pub begins : BeginsOrNot whole (past ++ (own ++ folding)) (end_of start (own ++ folding)) (after_elements trees (end_of start own).machine.accepted) (number + length (end_of start own).machine.accepted) hives moment next
+  pub begins : BeginsOrNot whole (past ++ (own ++ folding)) sole (end_of start (own ++ folding)) (after_elements trees (end_of start own).machine.accepted) (number + length (end_of start own).machine.accepted) hives moment next
 
--- A registry of which this was seen ends, and its history is folded: the next part begins. Or no part follows, and why.
-abbrev pub FoldsAt : List HistoryEntry → List HistoryEntry → Point → List TreeMap → ℕ → ℕ → Sight → ℕ → Result Part Refusal → Type 0
-FoldsAt whole past start trees number hives seen moment next =
-    (stands : LiesIn whole past start seen) × (NextBegins whole past stands.own start trees number hives moment next ⊎ ((why : Refusal) × MayNotFold why × (next ≡ Err why)))
+-- A registry of which this was seen ends, and its history is folded: the next part begins. Or no part follows, and why;
+-- nothing more is asked for then.
+abbrev pub FoldsAt : List HistoryEntry → List HistoryEntry → Bool → Point → List TreeMap → ℕ → ℕ → Sight → ℕ → Result Part Refusal → Type 0
+FoldsAt whole past sole start trees number hives seen moment next =
+    (stands : LiesIn sole whole past start seen) × (NextBegins sole whole past stands.own start trees number hives moment next ⊎ ((why : Refusal) × MayNotFold why × (next ≡ Err why) × (asked_in whole ≡ asked_in (past ++ stands.own))))
 
 -- the history of a part is folded, and the moment stays
 abbrev pub Folds : List HistoryEntry → Part → Result Part Refusal → Type 0
-Folds whole old next = FoldsAt whole old.past old.start old.trees old.number old.hives old.script.session.seen old.script.moment next
+Folds whole old next = FoldsAt whole old.past old.sole old.start old.trees old.number old.hives old.script.session.seen old.script.moment next
 
 -- what is printed as a part begins
 abbrev pub kind_text : PartKind → ℕ → List ℕ
@@ -117,5 +138,5 @@ abbrev pub KeepsOrFolds : List HistoryEntry → ℕ → Part → ReplyLine → R
 KeepsOrFolds whole limit old reported kept =
     (kept ≡ Ok old)
     ⊎ (IsDue limit old (number_told reported) × IsUnlabelled old.script
-    × (((flushed : ReplyLine) × (new : Script) × FlushesThen old.start old.trees old.number old.hives old.script flushed new × (kept ≡ Ok (with_script old new)))
-    ⊎ ((mid : Script) × IsFlushed old.start old.trees old.number old.hives old.script mid × Folds whole (with_script old mid) kept)))
+    × (((flushed : ReplyLine) × (new : Script) × FlushesThen old.sole old.start old.trees old.number old.hives old.script flushed new × (kept ≡ Ok (with_script old new)))
+    ⊎ ((mid : Script) × IsFlushed old.sole old.start old.trees old.number old.hives old.script mid × Folds whole (with_script old mid) kept)))

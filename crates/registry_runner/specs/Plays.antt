@@ -42,9 +42,9 @@ PlaysOn whole limit (Err why) number lines end_of_script text status end = IsSto
 PlaysOn whole limit (Ok old) number [] end_of_script text status end = EndsAs end_of_script text status × (end ≡ Ok old)
 PlaysOn whole limit (Ok old) number (line ∷ lines) end_of_script text status end =
     ((line_asked line ≡ None) × IsWrongLine number lines end_of_script text status × (end ≡ Ok old))
-    ⊎ ((asked : Line) × (reported : ReplyLine) × (new : Script) × (kept : Result Part Refusal) × (rest : List ℕ) × (later : Status) × (line_asked line ≡ Some asked) × Answers old.start old.trees old.number old.hives old.script asked reported new
+    ⊎ ((asked : Line) × (reported : ReplyLine) × (new : Script) × (kept : Result Part Refusal) × (rest : List ℕ) × (later : Status) × (line_asked line ≡ Some asked) × Answers old.sole old.start old.trees old.number old.hives old.script asked reported new
     × KeepsOrFolds whole limit (with_script old new) reported kept × PlaysOn whole limit kept (number + 1) lines end_of_script rest later end × (text ≡ reply_line reported ++ rest) × (status ≡ with_refusal (is_refusal reported) later))
-    ⊎ ((mid : Script) × (next : Result Part Refusal) × (rest : List ℕ) × (line_asked line ≡ Some Fold) × IsFlushed old.start old.trees old.number old.hives old.script mid × Folds whole (with_script old mid) next
+    ⊎ ((mid : Script) × (next : Result Part Refusal) × (rest : List ℕ) × (line_asked line ≡ Some Fold) × IsFlushed old.sole old.start old.trees old.number old.hives old.script mid × Folds whole (with_script old mid) next
     × PlaysOn whole limit next (number + 1) lines end_of_script rest status end × (text ≡ start_text Folded next ++ rest))
 
 -- a script that can be read was read so; of another one no line is read
@@ -73,7 +73,7 @@ LinesCome whole limit can_read old number known was (come.ToFold next) new rest 
 -- the lines were read, and the flush at their end was answered this reply
 abbrev pub HaveEnded : List HistoryEntry → ℕ → Bool → Part → ℕ → Option (List ℕ) → Option (List ℕ) → Option (List ℕ) → Status → ReplyLine → Script → Type 0
 HaveEnded whole limit can_read old number known was is status flushed last =
-    (end : Script) × IsPlayedOn whole limit can_read (Ok old) number known was is status (Ok (with_script old end)) × Answers old.start old.trees old.number old.hives end Flush flushed last
+    (end : Script) × IsPlayedOn whole limit can_read (Ok old) number known was is status (Ok (with_script old end)) × Answers old.sole old.start old.trees old.number old.hives end Flush flushed last
 
 -- what came of a part's lines, and of the flush at their end
 abbrev pub PartComes : List HistoryEntry → ℕ → Bool → Part → ℕ → Option (List ℕ) → Option (List ℕ) → LinesEnded → Script → Option (List ℕ) → Option (List ℕ) → Type 0

@@ -18,6 +18,7 @@ use Rattle.store_driver.specs.Openings.{IsOpenedOn, MayNotOpen}
 use Rattle.script_runner.specs.Plays.{opened_text}
 use Rattle.script_loop.specs.declared.end_of_script.EndOfScript.{EndOfScript}
 use Rattle.recovery.specs.Recovered.{seen_in}
+use Rattle.histories.specs.Asked.{asked_in}
 use Rattle.histories.specs.Histories.{LeadsTo}
 use Rattle.histories.specs.Leaving.{LeavesHistory}
 use Rattle.histories.specs.Points.{HistoryEntry, Point, point_of}
@@ -27,9 +28,9 @@ use Rattle.ktm_calls.specs.declared.registry.Denied.{Denied}
 use Rattle.commit_journal.specs.Store.{Store}
 use Rattle.disk_model.specs.FileState.{FileState}
 use Rattle.store_model.specs.Machine.{Machine}
-use Rattle.registry_runner.specs.Parts.{Part, BeginsOrNot, FoldsAt, IsBegun, MayNotBegin, LiesIn, sight_of, start_text}
+use Rattle.registry_runner.specs.Parts.{Part, BeginsOrNot, FoldsAt, IsBegun, MayNotBegin, LiesLast, SeesAllAsked, start_text}
 use Rattle.registry_runner.specs.Plays.{IsPlayedOn, PlaysOn, WereReadIf}
-use Rattle.registry_runner.specs.Scripts.{Script, Answers, MayNotEnter}
+use Rattle.registry_runner.specs.Scripts.{Script, Answers, MayNotEnter, MayProbe}
 use Rattle.registry_runner.specs.declared.parts.PartStart.{PartStart}
 use Rattle.registry_runner.specs.declared.parts.PartEnd.{PartEnd}
 use Rattle.registry_runner.specs.declared.parts.PartEnd.TheVariants.{RunEnded, ToFold}
@@ -58,23 +59,24 @@ undone false (Err why) = unless_faulted (denial_of why)
 abbrev pub MayHaveEnded : Option Refusal → Type 0
 MayHaveEnded ended = (ended ≡ None) ⊎ (ended ≡ Some DiskFault) ⊎ (ended ≡ Some NoMemory)
 
--- What the end of a run may report of them: the device has failed, if by what is seen then a machine of the registry
--- refused an event for being faulted; or want of memory.
-abbrev pub MayBeUndone : Point → List TreeMap → ℕ → ℕ → Sight → Option Refusal → Type 0
-MayBeUndone origin trees number hives seen undone =
-    (undone ≡ None) ⊎ ((undone ≡ Some DiskFault) × MayNotEnter origin trees number hives seen Faulted) ⊎ (undone ≡ Some NoMemory)
+-- What the end of a run may report of them: the device has failed, if the question whether the store is faulted was
+-- refused for that; or want of memory.
+abbrev pub MayBeUndone : Bool → Point → List TreeMap → ℕ → ℕ → Sight → Sight → Option Refusal → Type 0
+MayBeUndone sole origin trees number hives was seen undone =
+    (undone ≡ None) ⊎ ((undone ≡ Some DiskFault) × MayNotEnter sole origin trees number hives was seen Faulted) ⊎ (undone ≡ Some NoMemory)
 
 -- A script that reached this status ends in this part: all is flushed, which is reported if it is refused, and then what
--- is left undone. What was seen by then stands in the run's whole history.
+-- is left undone. What was seen by then stands in the run's whole history, and nothing is asked for after it.
 pub record HasEnded (whole : List HistoryEntry) (part : Part) (came_to : Status) (before after : Option (List ℕ)) (status : Status) : Type 0 where
   pub reported : ReplyLine
   pub last : Script
-  pub flushed : Answers part.start part.trees part.number part.hives part.script Flush reported last
+  pub flushed : Answers part.sole part.start part.trees part.number part.hives part.script Flush reported last
   pub seen : Sight
   pub later : SeesMore last.session.seen seen
-  pub stands : LiesIn whole part.past part.start seen
+  pub probes : MayProbe part.sole last.session.seen seen
+  pub stands : LiesLast part.sole whole part.past part.start seen
   pub undone : Option Refusal
-  pub may : MayBeUndone part.start part.trees part.number part.hives seen undone
+  pub may : MayBeUndone part.sole part.start part.trees part.number part.hives last.session.seen seen undone
   pub wrote : Appends before after (flushed_text reported ++ undone_text undone)
   pub status_is : status ≡ with_refusal (is_some undone) (with_refusal (is_refusal reported) came_to)
 
@@ -85,15 +87,15 @@ EndsRun whole (Err why) came_to before after status = Keeps before after × (sta
 
 -- The store's number was reported; these lines were played over registries of the store, up to this end of the script;
 -- and at the end all was flushed. Each line was answered in this whole history of the run, in the order of the lines.
-pub record RunsOver (whole : List HistoryEntry) (limit : ℕ) (origin : Point) (trees : List TreeMap) (number hives : ℕ) (lines : List (List ℕ)) (end_of_script : Option EndOfScript) (before after : Option (List ℕ)) (status : Status) : Type 0 where
+pub record RunsOver (whole : List HistoryEntry) (limit : ℕ) (sole : Bool) (origin : Point) (trees : List TreeMap) (number hives : ℕ) (lines : List (List ℕ)) (end_of_script : Option EndOfScript) (before after : Option (List ℕ)) (status : Status) : Type 0 where
   pub opened : Option (List ℕ)
   pub told : Appends before opened (opened_text number)
   pub script : Script
-  pub begun : IsBegun origin trees number hives 0 script
+  pub begun : IsBegun sole origin trees number hives 0 script
   pub text : List ℕ
   pub came_to : Status
   pub end : Result Part Refusal
-  pub plays : PlaysOn whole limit (Ok (record { past = []; start = origin; trees = trees; number = number; hives = hives; script = script })) 1 lines end_of_script text came_to end
+  pub plays : PlaysOn whole limit (Ok (record { past = []; sole = sole; start = origin; trees = trees; number = number; hives = hives; script = script })) 1 lines end_of_script text came_to end
   pub played : Option (List ℕ)
   pub wrote : Appends opened played text
   pub ends : EndsRun whole end came_to played after status
@@ -106,10 +108,10 @@ pub record IsReported (may : Refusal → Type 0) (before after : Option (List �
   pub status_is : status ≡ Refused
 
 -- A script over an opened store: it doesn't begin, and the reason is written; or it runs.
-abbrev pub RunsOrNot : List HistoryEntry → ℕ → Bool → Option (List ℕ) → Point → List TreeMap → ℕ → ℕ → Option (List ℕ) → Option (List ℕ) → Status → Type 0
-RunsOrNot whole limit can_read known origin trees number hives before after status =
-    IsReported (MayNotBegin whole [] origin trees number hives) before after status
-    ⊎ ((lines : List (List ℕ)) × (end_of_script : Option EndOfScript) × WereReadIf can_read known lines end_of_script × RunsOver whole limit origin trees number hives lines end_of_script before after status)
+abbrev pub RunsOrNot : List HistoryEntry → ℕ → Bool → Option (List ℕ) → Bool → Point → List TreeMap → ℕ → ℕ → Option (List ℕ) → Option (List ℕ) → Status → Type 0
+RunsOrNot whole limit can_read known sole origin trees number hives before after status =
+    IsReported (MayNotBegin whole [] sole origin trees number hives) before after status
+    ⊎ ((lines : List (List ℕ)) × (end_of_script : Option EndOfScript) × WereReadIf can_read known lines end_of_script × RunsOver whole limit sole origin trees number hives lines end_of_script before after status)
 
 -- a machine is of a registry of the store that was opened on these trees after the change of this number: some changes
 -- were folded, and its history begins after them
@@ -120,7 +122,7 @@ IsOfStore trees number hives machine = (folded : List Element) × IsOf (after_el
 -- `first`: if it is faithful, the first registry's list begins with the number and the trees that the files recover. One
 -- history leads from there to the last registry's machine, and to the disk that is handed back. If all could be written,
 -- what was written and the status are those of a run over this machine, in this history: each line's event stands in it
--- with the reply that was written.
+-- with the reply that was written, and nothing else is asked for.
 pub record OpensAndRuns {D E : Type 0} (is_faithful : D → Type 0) (states_of : D → ℕ → ℕ → FileState) (clock_of failures_of : D → ℕ) (files : ℕ → List ℕ) (disk : D) (can_read : Bool) (known before after : Option (List ℕ)) (told : Result Status E) : Type 0 where
   pub first : D
   pub store : Store
@@ -131,7 +133,11 @@ pub record OpensAndRuns {D E : Type 0} (is_faithful : D → Type 0) (states_of :
   pub last : Machine
   pub owner : IsOfStore machine.opened number machine.bounds.hives last
   pub left : LeavesHistory is_faithful states_of clock_of failures_of store first machine disk history last
-  pub runs : IfOk told (λ status. RunsOrNot history machine.bounds.changes can_read known (point_of machine (clock_of first) (failures_of first)) machine.opened number machine.bounds.hives before after status)
+  pub runs : IfOk told (λ status. RunsOrNot history machine.bounds.changes can_read known true (point_of machine (clock_of first) (failures_of first)) machine.opened number machine.bounds.hives before after status)
+
+-- nothing in a history was asked for
+abbrev pub IsUnasked : List HistoryEntry → Type 0
+IsUnasked history = asked_in history ≡ []
 
 -- one history has led there, and this is so of it
 abbrev pub HasLedWith : Point → (ℕ → Machine → Type 0) → Type 0 → (ℕ → Machine → Type 0) → Type 0 → Point → (List HistoryEntry → Type 0) → Type 0
@@ -151,21 +157,21 @@ GoesToEnd whole limit can_read (Ok here) line known was is status =
 
 -- A part was to begin after this past, on these trees after the change of this number: from there the run went to its
 -- end.
-abbrev pub RunsFrom : List HistoryEntry → List HistoryEntry → PartStart → Point → List TreeMap → ℕ → ℕ → Option (List ℕ) → Option (List ℕ) → Option (List ℕ) → Status → Type 0
-RunsFrom whole past start origin trees number hives known was is status =
-    (first : Result Part Refusal) × (told : Option (List ℕ)) × BeginsOrNot whole past origin trees number hives start.moment first × Appends was told (start_text start.kind first) × GoesToEnd whole start.limit start.can_read first start.line known told is status
+abbrev pub RunsFrom : List HistoryEntry → List HistoryEntry → PartStart → Bool → Point → List TreeMap → ℕ → ℕ → Option (List ℕ) → Option (List ℕ) → Option (List ℕ) → Status → Type 0
+RunsFrom whole past start sole origin trees number hives known was is status =
+    (first : Result Part Refusal) × (told : Option (List ℕ)) × BeginsOrNot whole past sole origin trees number hives start.moment first × Appends was told (start_text start.kind first) × GoesToEnd whole start.limit start.can_read first start.line known told is status
 
 -- The run ended in a part that was to begin so, and of which this was seen. Or the part's history is to be folded: however
 -- the run goes to its end then, that is how it does from the part's beginning. In each case what was seen stands in the
 -- whole history.
-abbrev pub EndsPart : List HistoryEntry → List HistoryEntry → PartStart → Point → List TreeMap → ℕ → ℕ → Sight → Option (List ℕ) → Option (List ℕ) → PartEnd → Option (List ℕ) → Option (List ℕ) → Type 0
-EndsPart whole past start origin trees number hives seen known was (RunEnded ran) rest is = LiesIn whole past origin seen → IfOk ran (λ status. RunsFrom whole past start origin trees number hives known was is status)
-EndsPart whole past start origin trees number hives seen known was (ToFold next) rest is =
-    (follows : Result Part Refusal) (told after : Option (List ℕ)) (status : Status) → FoldsAt whole past origin trees number hives seen next.moment follows → Appends is told (start_text next.kind follows) → GoesToEnd whole start.limit start.can_read follows next.line rest told after status
-    → RunsFrom whole past start origin trees number hives known was after (with_refusal next.has_refusal status)
+abbrev pub EndsPart : List HistoryEntry → List HistoryEntry → PartStart → Bool → Point → List TreeMap → ℕ → ℕ → Sight → Option (List ℕ) → Option (List ℕ) → PartEnd → Option (List ℕ) → Option (List ℕ) → Type 0
+EndsPart whole past start sole origin trees number hives seen known was (RunEnded ran) rest is = LiesLast sole whole past origin seen → IfOk ran (λ status. RunsFrom whole past start sole origin trees number hives known was is status)
+EndsPart whole past start sole origin trees number hives seen known was (ToFold next) rest is =
+    (follows : Result Part Refusal) (told after : Option (List ℕ)) (status : Status) → FoldsAt whole past sole origin trees number hives seen next.moment follows → Appends is told (start_text next.kind follows) → GoesToEnd whole start.limit start.can_read follows next.line rest told after status
+    → RunsFrom whole past start sole origin trees number hives known was after (with_refusal next.has_refusal status)
 
 -- A part ends so over a registry that has this history of its own: something was seen of it, and wherever that history
 -- comes in a run's whole one, the part ends so.
-abbrev pub EndsPartAfter : List HistoryEntry → PartStart → Point → List TreeMap → ℕ → ℕ → Option (List ℕ) → Option (List ℕ) → PartEnd → Option (List ℕ) → Option (List ℕ) → Type 0
-EndsPartAfter own start origin trees number hives known was end rest is =
-    (seen : Sight) × SeesMore seen (sight_of origin own) × ((whole past : List HistoryEntry) → EndsPart whole past start origin trees number hives seen known was end rest is)
+abbrev pub EndsPartAfter : List HistoryEntry → PartStart → Bool → Point → List TreeMap → ℕ → ℕ → Option (List ℕ) → Option (List ℕ) → PartEnd → Option (List ℕ) → Option (List ℕ) → Type 0
+EndsPartAfter own start sole origin trees number hives known was end rest is =
+    (seen : Sight) × SeesAllAsked sole origin seen own × ((whole past : List HistoryEntry) → EndsPart whole past start sole origin trees number hives seen known was end rest is)

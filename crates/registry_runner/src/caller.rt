@@ -1,17 +1,19 @@
 //! The registry as a script calls it, and the replies to lines.
-ghost use Rattle.std.specs.Prelude.{◌≡◌, ◌⊎◌, ℕ, List, IfErr, IfOk};
+ghost use Rattle.std.specs.Prelude.{◌≡◌, ◌⊎◌, ℕ, Bool, List, IfErr, IfOk, OnOk};
 ghost use Rattle.refusals.specs.declared.refusal.Refusal.TheVariants.{Faulted, NoMemory};
 ghost use Rattle.reg_tree.specs.Maps.{TreeMap};
 ghost use Rattle.histories.specs.Points.{Point};
+ghost use Rattle.published_trees.specs.declared.rule.TheConstants.{MOST_READERS};
 ghost use Rattle.store_model.specs.declared.event.Event.{Event};
+ghost use Rattle.store_model.specs.declared.event.Event.TheVariants as event;
 ghost use Rattle.ktm_calls.specs.Denials.{IsDenied, IsOpened};
 ghost use Rattle.ktm_calls.specs.Kinds.{Told as AnyTold};
-ghost use Rattle.ktm_calls.specs.Moments.{SeesMore, Sight as AnySight};
+ghost use Rattle.ktm_calls.specs.Moments.{Sight as AnySight};
 ghost use Rattle.registry_runner.specs.Heard.{GoesOn, HearsAlone, HearsInside, denied_reply, told_reply};
-ghost use Rattle.registry_runner.specs.Scripts.{MayNotEnter};
+ghost use Rattle.registry_runner.specs.Scripts.{EntersSession, IsNotFaulted, MayNotEnter, MayProbe};
 
 use histories::Start;
-use ktm_calls::{Denied, Key, Registry, Session, Sight, Told};
+use ktm_calls::{Asker, Denied, Key, Registry, Session, SessionHandle, Told};
 use refusals::Refusal;
 use reply_lines::ReplyLine;
 use script_runner::{Operation, reply_of};
@@ -35,7 +37,7 @@ pub struct Caller<'a, E: StoreEngine, O: Start, R> {
 impl<'a, E: StoreEngine, O: Start, R: Wait> Caller<'a, E, O, R> {
     /// The reply to a request alone, at a moment.
     pub fn reply_alone(&self, session: &mut Session<O>, moment: u64, asked: Operation) -> ReplyLine
-        ensures { HearsAlone O.start O.trees O.number O.hives moment session.old asked result session.new }
+        ensures { HearsAlone O.sole O.start O.trees O.number O.hives moment session.old asked result session.new }
     {
         match asked {
             Operation::Write { op } => {
@@ -61,7 +63,7 @@ impl<'a, E: StoreEngine, O: Start, R: Wait> Caller<'a, E, O, R> {
         tx: Tx,
         asked: Operation,
     ) -> ReplyLine
-        ensures { HearsInside O.start O.trees O.number O.hives moment tx session.old asked result session.new }
+        ensures { HearsInside O.sole O.start O.trees O.number O.hives moment tx session.old asked result session.new }
     {
         match asked {
             Operation::Write { op } => {
@@ -86,54 +88,47 @@ impl<'a, E: StoreEngine, O: Start, R: Wait> Caller<'a, E, O, R> {
         }
     }
 
-    /// All that there is to see.
-    pub fn all_seen(&self) -> Sight<O> {
-        self.registry.all_seen(self.rt)
-    }
-
-    /// Opens a session after all that there is to see. Refused as it is, with what is seen then.
-    pub fn open_session(&self) -> Result<Session<O>, (Refusal, Sight<O>)>
-        ensures opened { IfOk result (λ session. (told : AnyTold) × (was : AnySight)
-            × IsOpened O.start O.trees O.number O.hives was session told) }
-        ensures refused { IfErr result (λ why. MayNotEnter O.start O.trees O.number O.hives why.1 why.0) }
+    /// Opens the first session, as this one asks. Refused as its event is; who asked comes back then.
+    pub fn first_session(&self, asker: Asker<O>) -> Result<Session<O>, (Refusal, Asker<O>)>
+        ensures opened { IfOk result (λ session. (told : AnyTold)
+            × IsOpened O.sole O.start O.trees O.number O.hives asker session told) }
+        ensures refused { IfErr result (λ why.
+            MayNotEnter O.sole O.start O.trees O.number O.hives asker why.1 why.0) }
     {
-        let mut seen = self.all_seen();
-        match self.registry.session_after(self.rt, &mut seen) {
+        match self.registry.first_session(self.rt, asker) {
             Ok((session, _told)) => Ok(session),
-            Err(denied) => Err((refusal_of(denied), seen)),
+            Err((denied, asker)) => Err((refusal_of(denied), asker)),
         }
     }
 
-    /// The same, of a session that has seen what another has. That one has seen it open, or be refused.
-    pub fn open_session_after(&self, before: &mut Session<O>) -> Result<Session<O>, Refusal>
-        ensures goes_on { GoesOn before.old before.new }
-        ensures opened { IfOk result (λ session. SeesMore before.old.seen session.seen) }
-        ensures refused { IfErr result (MayNotEnter O.start O.trees O.number O.hives before.new.seen) }
+    /// Opens another session than this one.
+    pub fn open_handle(&self, session: &mut Session<O>) -> Result<SessionHandle<O>, Refusal>
+        ensures goes_on { GoesOn session.old session.new }
+        ensures opened { IfOk result (λ handle. (told : AnyTold)
+            × IsOpened O.sole O.start O.trees O.number O.hives session.old.seen
+            (record { number = handle; seen = session.new.seen }) told) }
+        ensures refused { IfErr result (MayNotEnter O.sole O.start O.trees O.number O.hives session.old.seen
+            session.new.seen) }
     {
-        let mut seen = before.sight().again();
-        let opened = self.registry.session_after(self.rt, &mut seen);
-        before.see(&seen);
-        match opened {
-            Ok((session, _told)) => Ok(session),
+        match self.registry.open_handle(self.rt, session) {
+            Ok((handle, _told)) => Ok(handle),
             Err(denied) => Err(refusal_of(denied)),
         }
     }
 
-    /// Whether a session could be opened but for a seat, which this one has seen then. Refused with `Faulted` if the
-    /// device has failed, and with `NoMemory`.
+    /// Whether a session could be opened but for a seat. Refused with `Faulted` if the device has failed, and with
+    /// `NoMemory`.
     pub fn check_not_faulted(&self, session: &mut Session<O>) -> Result<(), Refusal>
         ensures goes_on { GoesOn session.old session.new }
-        ensures refused { IfErr result (MayNotEnter O.start O.trees O.number O.hives session.new.seen) }
+        ensures probes { MayProbe O.sole session.old.seen session.new.seen }
+        ensures sound { OnOk result (IsNotFaulted O.sole O.start O.trees O.number O.hives session.old.seen
+            session.new.seen) }
+        ensures refused { IfErr result (MayNotEnter O.sole O.start O.trees O.number O.hives session.old.seen
+            session.new.seen) }
     {
-        // a session that isn't open begins no transaction, but is refused for the device first
-        let mut nobody = self.registry.closed_session(self.rt);
-        let begun = self
-            .registry
-            .create_transaction(self.rt, &mut nobody, Uuid::nil());
-        session.see(nobody.sight());
-        match begun {
-            Ok((_tx, _told)) => Ok(()),
-            Err(denied) => unless_closed(refusal_of(denied)),
+        match self.registry.probe(self.rt, session, Uuid::nil()) {
+            Ok(_told) => Ok(()),
+            Err(denied) => unless_closed(denied),
         }
     }
 
@@ -141,8 +136,9 @@ impl<'a, E: StoreEngine, O: Start, R: Wait> Caller<'a, E, O, R> {
     /// is faulted, which the session has seen then, and else want of memory.
     pub fn step_refusal(&self, session: &mut Session<O>, why: Refusal) -> Refusal
         ensures goes_on { GoesOn session.old session.new }
-        ensures may { (result ≡ NoMemory)
-            ⊎ ((result ≡ why) × MayNotEnter O.start O.trees O.number O.hives session.new.seen Faulted) }
+        ensures probes { MayProbe O.sole session.old.seen session.new.seen }
+        ensures may { (result ≡ NoMemory) ⊎ ((result ≡ why)
+            × MayNotEnter O.sole O.start O.trees O.number O.hives session.old.seen session.new.seen Faulted) }
     {
         match self.check_not_faulted(session) {
             Err(Refusal::Faulted) => why,
@@ -151,13 +147,20 @@ impl<'a, E: StoreEngine, O: Start, R: Wait> Caller<'a, E, O, R> {
     }
 }
 
-// a refusal, unless it is that a session isn't open
-fn unless_closed(refusal: Refusal) -> Result<(), Refusal>
-    ensures { IfErr result (λ why. why ≡ refusal) }
+// the refusal of a question whether the store is faulted, unless it is that no session is open: the store isn't then
+fn unless_closed(denied: Denied) -> Result<(), Refusal>
+    ensures sound { OnOk result ((sole : Bool) (origin : Point) (trees : List TreeMap) (number hives : ℕ)
+        (was is : AnySight) (id : List ℕ) →
+        IsDenied sole origin trees number hives was is (event.Begin MOST_READERS id) denied →
+        IsNotFaulted sole origin trees number hives was is) }
+    ensures refused { IfErr result (λ why. (sole : Bool) (origin : Point) (trees : List TreeMap) (number hives : ℕ)
+        (was is : AnySight) (id : List ℕ) →
+        IsDenied sole origin trees number hives was is (event.Begin MOST_READERS id) denied →
+        MayNotEnter sole origin trees number hives was is why) }
 {
-    match refusal {
-        Refusal::NoSuchHandle => Ok(()),
-        other => Err(other),
+    match denied.refusal() {
+        Some(Refusal::NoSuchHandle) => Ok(()),
+        _ => Err(refusal_of(denied)),
     }
 }
 
@@ -185,9 +188,9 @@ pub fn denied_reply(denied: Denied) -> ReplyLine
 
 // the refusal that a call was denied with. There is one in each denial
 fn refusal_of(denied: Denied) -> Refusal
-    ensures { (origin : Point) (trees : List TreeMap) (number hives : ℕ) (was mid is : AnySight) (event : Event) →
-        IsDenied origin trees number hives was mid event denied → SeesMore mid is →
-        MayNotEnter origin trees number hives is result }
+    ensures { (sole : Bool) (origin : Point) (trees : List TreeMap) (number hives : ℕ) (was is : AnySight) (event : Event) →
+        EntersSession event → IsDenied sole origin trees number hives was is event denied →
+        MayNotEnter sole origin trees number hives was is result }
 {
     match denied.refusal() {
         Some(refusal) => refusal,

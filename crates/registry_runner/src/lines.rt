@@ -85,6 +85,18 @@ impl<O: Start> PartLines<O> {
         }
     }
 
+    /// Its script.
+    pub fn into_script(self) -> Script<O>
+        ensures { result ≡ self.script }
+    {
+        let PartLines {
+            script,
+            history: _,
+            has_failed: _,
+        } = self;
+        script
+    }
+
     /// Reads the lines, and writes the reply to each as soon as it is read.
     pub fn read<E: StoreEngine, R: Wait, B: BufRead, W: Write>(
         &mut self,
@@ -96,7 +108,7 @@ impl<O: Start> PartLines<O> {
         requires first { self.old.history.first ≡ O.number }
         requires limit { self.old.history.limit ≡ start.limit }
         ensures { (whole past : List HistoryEntry) → IfOk result (λ end. LinesCome whole start.limit true
-            (part_of past O.start O.trees O.number O.hives self.old.script) start.line (B.remaining reader.old)
+            (part_of past O.sole O.start O.trees O.number O.hives self.old.script) start.line (B.remaining reader.old)
             (W.contents writer.old) end (script_of self.new.script) (B.remaining reader.new)
             (W.contents writer.new)) }
     {
@@ -124,9 +136,9 @@ impl<'a, E: StoreEngine, O: Start, R: Wait> Answerer<Caller<'a, E, O, R>> for Pa
     ghost use Rattle.registry_runner.specs.Interpreters.{part_of, script_of};
     ghost use Rattle.registry_runner.specs.PartLines.{AnswersInPart, StopsInPart, OverHistory};
 
-    ghost answers = { λ old line text refused new. OverHistory O.number old.history new.history ((past : List HistoryEntry) → AnswersInPart old.history.limit (part_of past O.start O.trees O.number O.hives old.script) line text refused (script_of new.script)) };
+    ghost answers = { λ old line text refused new. OverHistory O.number old.history new.history ((past : List HistoryEntry) → AnswersInPart old.history.limit (part_of past O.sole O.start O.trees O.number O.hives old.script) line text refused (script_of new.script)) };
 
-    ghost stops = { λ old line text refused why new. OverHistory O.number old.history new.history ((past : List HistoryEntry) → StopsInPart old.history.limit (part_of past O.start O.trees O.number O.hives old.script) line text refused why (script_of new.script)) };
+    ghost stops = { λ old line text refused why new. OverHistory O.number old.history new.history ((past : List HistoryEntry) → StopsInPart old.history.limit (part_of past O.sole O.start O.trees O.number O.hives old.script) line text refused why (script_of new.script)) };
 
     ghost is_none = { λ line. line_asked line ≡ None };
 
@@ -182,7 +194,7 @@ fn work_between_lines<E: StoreEngine, O: Start, R: Wait, W: Write>(
     writer: &mut W,
 ) -> io::Result<BetweenLines>
     ensures between { (past : List HistoryEntry) → IfOk result (λ next. history.old.first ≡ O.number → Between history.old.limit
-        (part_of past O.start O.trees O.number O.hives script.old) told next (script_of script.new)) }
+        (part_of past O.sole O.start O.trees O.number O.hives script.old) told next (script_of script.new)) }
     ensures kept { OnOk result (Keeps (W.contents writer.old) (W.contents writer.new)) }
     ensures same { (history.new.first ≡ history.old.first) × (history.new.limit ≡ history.old.limit) }
 {

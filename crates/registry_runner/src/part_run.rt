@@ -1,13 +1,14 @@
 //! One part of a run: a script's lines over a registry, beside a flusher.
-ghost use Rattle.std.specs.Prelude.{◌≡◌, ℕ, List, [], Ok, IfErr, IfOk};
+ghost use Rattle.std.specs.Prelude.{◌≡◌, ◌<◌, ℕ, List, [], Ok, IfErr, IfOk};
 ghost use Rattle.std.specs.Io.KnownBytes.{Appends};
 ghost use Rattle.store_model.specs.Machine.{Machine};
 ghost use Rattle.histories.specs.Points.{HistoryEntry, point_of};
 ghost use Rattle.ktm_calls.specs.Denials.{IsTurnDenied};
-ghost use Rattle.ktm_calls.specs.Moments.{IsOf, SeesMore};
+ghost use Rattle.ktm_calls.specs.Moments.{IsOf, SeesMore, no_sight};
 ghost use Rattle.registry_runner.specs.Interpreters.{part_of, script_of};
 ghost use Rattle.registry_runner.specs.Parts.{IsBegun, kind_text};
 ghost use Rattle.registry_runner.specs.Plays.{IsUnread, LinesCome, PartComes};
+ghost use Rattle.registry_runner.specs.Scripts.{MayProbe};
 ghost use Rattle.registry_runner.specs.Running.{EndsPart, EndsPartAfter, HasLedWith, MayBeUndone, MayHaveEnded};
 
 use crate::caller::Caller;
@@ -17,8 +18,8 @@ use crate::parts::{NextPart, PartEnd, PartKind, PartStart};
 use crate::run_end::{finish, undone, write_refusal, written_out};
 use crate::script::Script;
 use flusher::try_run_beside;
-use histories::{EventCount, Start};
-use ktm_calls::{Denied, Ended, Registry, Sight, Stopped};
+use histories::{EventCount, Permission, RequestCount, Start};
+use ktm_calls::{Asker, Denied, Ended, Registry, Stopped};
 use published_trees::{ChangeCount, SeenChanges};
 use refusals::Refusal;
 use reply_lines::{ReplyLine, Status};
@@ -27,6 +28,7 @@ use std::alloc::Global;
 use std::io;
 use std::io::{BufRead, Write};
 use std::sync::Wait;
+use std::sync::ledger::Blank;
 use std::thread::Threads;
 use store_engine::StoreEngine;
 
@@ -42,6 +44,7 @@ pub fn run_part<
     rt: &R,
     alloc: Global,
     engine: E,
+    blank: Blank,
     events: EventCount,
     count: ChangeCount,
     seen: SeenChanges,
@@ -58,16 +61,20 @@ pub fn run_part<
     requires engine { IsOf O.trees O.number O.hives (E.machine engine)
         × ((E.machine engine).accepted ≡ []) × ((E.machine engine).sessions ≡ []) }
     requires number { start.number ≡ O.number }
+    requires blank { (blank.name ≡ O.name) × (blank.parts ≡ O.parts) × (0 < blank.parts) }
     ensures store { E.store result.0 ≡ O.store }
     ensures owner { IsOf O.trees O.number O.hives (E.machine result.0) }
     ensures sessions { (E.machine result.0).sessions ≡ [] }
     ensures ends { HasLedWith O.start O.safe O.faithful (E.safe result.0) (E.faithful result.0)
         (point_of (E.machine result.0) (E.clock result.0) (E.failures result.0))
-        (λ history. EndsPartAfter history start O.start O.trees O.number O.hives (B.remaining reader.old)
+        (λ history. EndsPartAfter history start O.sole O.start O.trees O.number O.hives (B.remaining reader.old)
         (W.contents writer.old) result.1 (B.remaining reader.new) (W.contents writer.new)) }
 {
     engine.keeps_a_prefix(); // for the prover
-    let registry = match Registry::<E, O>::new(alloc, rt, engine, events, count, seen) {
+    let (requests, share) = blank.open::<O>();
+    let asker = Asker::first(&events, &seen, Permission::sole(share));
+    let requests = RequestCount::new(requests);
+    let registry = match Registry::<E, O>::new(alloc, rt, engine, events, requests, count, seen) {
         Ok(registry) => registry,
         Err((why, engine)) => {
             let ran = write_refusal(writer, why);
@@ -79,16 +86,16 @@ pub fn run_part<
         alloc,
         registry: &registry,
     };
-    let (end, seen) = run_by(&caller, start, reader, writer);
+    let (end, asker) = run_by(&caller, asker, start, reader, writer);
     let Ended {
         engine,
         events: _,
         durable: _,
-    } = registry.end(rt, &seen, Vec::new(alloc));
+    } = registry.end(rt, asker, Vec::new(alloc));
     (engine, end)
 }
 
-// begins a script, and runs it; what was seen of the registry by its end is handed out
+// begins a script in which this one asks, and runs it; who asked is handed out
 fn run_by<
     O: Start + Send + Sync,
     E: StoreEngine + Send,
@@ -97,19 +104,21 @@ fn run_by<
     W: Write,
 >(
     caller: &Caller<'_, E, O, R>,
+    asker: Asker<O>,
     start: PartStart,
     reader: &mut B,
     writer: &mut W,
-) -> (PartEnd, Sight<O>)
+) -> (PartEnd, Asker<O>)
+    requires first { asker ≡ no_sight }
     requires number { start.number ≡ O.number }
-    ensures { (whole past : List HistoryEntry) → EndsPart whole past start O.start O.trees O.number O.hives result.1
+    ensures { (whole past : List HistoryEntry) → EndsPart whole past start O.sole O.start O.trees O.number O.hives result.1
         (B.remaining reader.old) (W.contents writer.old) result.0 (B.remaining reader.new) (W.contents writer.new) }
 {
-    match Script::begin(caller, start.moment) {
+    match Script::begin(caller, asker, start.moment) {
         Ok(script) => run_begun(caller, script, start, reader, writer),
-        Err((why, seen)) => {
+        Err((why, asker)) => {
             let ran = write_refusal(writer, why);
-            (PartEnd::RunEnded { ran }, seen)
+            (PartEnd::RunEnded { ran }, asker)
         }
     }
 }
@@ -127,16 +136,16 @@ fn run_begun<
     start: PartStart,
     reader: &mut B,
     writer: &mut W,
-) -> (PartEnd, Sight<O>)
-    requires begun { IsBegun O.start O.trees O.number O.hives start.moment (script_of script) }
+) -> (PartEnd, Asker<O>)
+    requires begun { IsBegun O.sole O.start O.trees O.number O.hives start.moment (script_of script) }
     requires number { start.number ≡ O.number }
-    ensures { (whole past : List HistoryEntry) → EndsPart whole past start O.start O.trees O.number O.hives result.1
+    ensures { (whole past : List HistoryEntry) → EndsPart whole past start O.sole O.start O.trees O.number O.hives result.1
         (B.remaining reader.old) (W.contents writer.old) result.0 (B.remaining reader.new) (W.contents writer.new) }
 {
     let mut lines = PartLines::new(script, start);
     let gate = EndOfLines::new(caller.rt);
     let end = run_told(caller, &gate, &mut lines, start, reader, writer);
-    (end, lines.script.session.sight().again())
+    (end, lines.into_script().into_asker())
 }
 
 // prints what the part prints first, and runs the script beside a flusher
@@ -154,11 +163,11 @@ fn run_told<
     reader: &mut B,
     writer: &mut W,
 ) -> PartEnd
-    requires begun { IsBegun O.start O.trees O.number O.hives start.moment (script_of lines.old.script) }
+    requires begun { IsBegun O.sole O.start O.trees O.number O.hives start.moment (script_of lines.old.script) }
     requires first { lines.old.history.first ≡ O.number }
     requires limit { lines.old.history.limit ≡ start.limit }
     requires number { start.number ≡ O.number }
-    ensures { (whole past : List HistoryEntry) → EndsPart whole past start O.start O.trees O.number O.hives
+    ensures { (whole past : List HistoryEntry) → EndsPart whole past start O.sole O.start O.trees O.number O.hives
         (script_of lines.new.script).session.seen (B.remaining reader.old) (W.contents writer.old) result
         (B.remaining reader.new) (W.contents writer.new) }
 {
@@ -190,7 +199,9 @@ fn left_undone<O: Start, E: StoreEngine, R: Wait>(
 ) -> Option<Refusal>
     requires { MayHaveEnded ended }
     ensures later { SeesMore (script_of script.old).session.seen (script_of script.new).session.seen }
-    ensures may { MayBeUndone O.start O.trees O.number O.hives (script_of script.new).session.seen result }
+    ensures probes { MayProbe O.sole (script_of script.old).session.seen (script_of script.new).session.seen }
+    ensures may { MayBeUndone O.sole O.start O.trees O.number O.hives (script_of script.old).session.seen
+        (script_of script.new).session.seen result }
 {
     match ended {
         Some(Refusal::DiskFault) => Some(caller.step_refusal(
@@ -237,7 +248,7 @@ fn read_beside_flusher<
     requires first { lines.old.history.first ≡ O.number }
     requires limit { lines.old.history.limit ≡ start.limit }
     ensures ended { (whole past : List HistoryEntry) → PartComes whole start.limit start.can_read
-        (part_of past O.start O.trees O.number O.hives lines.old.script) start.line
+        (part_of past O.sole O.start O.trees O.number O.hives lines.old.script) start.line
         (B.remaining reader.old) (W.contents writer.old) result.0 (script_of lines.new.script)
         (B.remaining reader.new) (W.contents writer.new) }
     ensures flushed { IfErr result.1 IsTurnDenied }
@@ -249,7 +260,7 @@ fn read_beside_flusher<
         &mut || -> LinesEnded
             requires { (lines.now.history.first ≡ O.number) × (lines.now.history.limit ≡ start.limit) }
             ensures { (whole past : List HistoryEntry) → PartComes whole start.limit start.can_read
-                (part_of past O.start O.trees O.number O.hives lines.entry.now.script) start.line (B.remaining reader.entry.now)
+                (part_of past O.sole O.start O.trees O.number O.hives lines.entry.now.script) start.line (B.remaining reader.entry.now)
                 (W.contents writer.entry.now) result (script_of lines.exit.now.script)
                 (B.remaining reader.exit.now) (W.contents writer.exit.now) }
         { read_to_end(caller, gate, lines, start, reader, writer) },
@@ -283,7 +294,7 @@ fn read_to_end<O: Start, E: StoreEngine, R: Wait, B: BufRead, W: Write>(
     requires first { lines.old.history.first ≡ O.number }
     requires limit { lines.old.history.limit ≡ start.limit }
     ensures { (whole past : List HistoryEntry) → PartComes whole start.limit start.can_read
-        (part_of past O.start O.trees O.number O.hives lines.old.script) start.line
+        (part_of past O.sole O.start O.trees O.number O.hives lines.old.script) start.line
         (B.remaining reader.old) (W.contents writer.old) result (script_of lines.new.script)
         (B.remaining reader.new) (W.contents writer.new) }
 {
@@ -317,7 +328,7 @@ fn read_if<O: Start, E: StoreEngine, R: Wait, B: BufRead, W: Write>(
     requires first { lines.old.history.first ≡ O.number }
     requires limit { lines.old.history.limit ≡ start.limit }
     ensures { (whole past : List HistoryEntry) → IfOk result (λ end. LinesCome whole start.limit start.can_read
-        (part_of past O.start O.trees O.number O.hives lines.old.script) start.line (B.remaining reader.old)
+        (part_of past O.sole O.start O.trees O.number O.hives lines.old.script) start.line (B.remaining reader.old)
         (W.contents writer.old) end (script_of lines.new.script) (B.remaining reader.new)
         (W.contents writer.new)) }
 {

@@ -1,14 +1,14 @@
 //! The parts of a run: each calls a registry of its own, and the history is folded between two of them.
-ghost use Rattle.std.specs.Prelude.{◌≡◌, [], IfErr, IfNone, IfOk, IfSome, IsOk, OnErr};
+ghost use Rattle.std.specs.Prelude.{◌≡◌, [], false, true, IfErr, IfNone, IfOk, IfSome, IsOk, OnErr};
 ghost use Rattle.reply_lines.specs.Statuses.{with_refusal};
 ghost use Rattle.store_model.specs.Steps.{Step};
 ghost use Rattle.store_model.specs.declared.event.Event.TheVariants as event;
 ghost use Rattle.store_model.specs.declared.event.Reply.TheVariants as reply;
-ghost use Rattle.histories.specs.Histories.{HasLed};
+ghost use Rattle.histories.specs.Asked.{is_asked};
 ghost use Rattle.histories.specs.Points.{point_of};
 ghost use Rattle.registry_runner.specs.Folding.{HistoryStays, IsFoldedAt, IsIdle};
 ghost use Rattle.registry_runner.specs.Parts.{MayNotFold};
-ghost use Rattle.registry_runner.specs.Running.{HasLedWith, IsOfStore, RunsFrom};
+ghost use Rattle.registry_runner.specs.Running.{HasLedWith, IsOfStore, IsUnasked, RunsFrom};
 
 use crate::part_run::run_part;
 use crate::run_end::write_refusal;
@@ -21,6 +21,7 @@ use std::io;
 use std::io::{BufRead, Write};
 use std::marker::Brand;
 use std::sync::Wait;
+use std::sync::ledger::Blank;
 use std::thread::Threads;
 use store_engine::StoreEngine;
 use store_model::laws::openings_stay;
@@ -99,7 +100,7 @@ pub fn run_parts<E: StoreEngine + Send, R: Threads + Wait + Sync, B: BufRead, W:
     ensures runs { HasLedWith
         (point_of (E.machine engine) (E.clock engine) (E.failures engine)) (E.safe engine) (E.faithful engine)
         (E.safe result.0) (E.faithful result.0) (point_of (E.machine result.0) (E.clock result.0) (E.failures result.0))
-        (λ history. IfOk result.1 (λ status. RunsFrom history [] start
+        (λ history. IfOk result.1 (λ status. RunsFrom history [] start true
         (point_of (E.machine engine) (E.clock engine) (E.failures engine)) (E.machine engine).opened
         (E.machine engine).before (E.machine engine).bounds.hives (B.remaining reader.old)
         (W.contents writer.old) (W.contents writer.new) status)) }
@@ -114,6 +115,7 @@ pub fn run_parts<E: StoreEngine + Send, R: Threads + Wait + Sync, B: BufRead, W:
             rt,
             alloc,
             engine,
+            Blank::new(1),
             EventCount::open(),
             count,
             seen,
@@ -174,9 +176,10 @@ impl PartStart {
 fn fold<E: StoreEngine, R: Wait>(rt: &R, engine: &mut E) -> Result<u64, Refusal>
     requires sessions { (E.machine engine.old).sessions ≡ [] }
     ensures store { E.store engine.new ≡ E.store engine.old }
-    ensures history { HasLed
+    ensures history { HasLedWith
         (point_of (E.machine engine.old) (E.clock engine.old) (E.failures engine.old)) (E.safe engine.old) (E.faithful engine.old)
-        (E.safe engine.new) (E.faithful engine.new) (point_of (E.machine engine.new) (E.clock engine.new) (E.failures engine.new)) }
+        (E.safe engine.new) (E.faithful engine.new) (point_of (E.machine engine.new) (E.clock engine.new) (E.failures engine.new))
+        IsUnasked }
     ensures folded { IfOk result (IsFoldedAt (E.machine engine.old) (E.machine engine.new)) }
     ensures refused { IfErr result MayNotFold }
     ensures stays { OnErr result (HistoryStays (E.machine engine.old) (E.machine engine.new)) }
@@ -195,9 +198,10 @@ fn fold<E: StoreEngine, R: Wait>(rt: &R, engine: &mut E) -> Result<u64, Refusal>
 // asks for a fold, and answers its number; `None` if some accepted change isn't durable
 fn ask_fold<E: StoreEngine>(engine: &mut E) -> Result<Option<u64>, Refusal>
     ensures store { E.store engine.new ≡ E.store engine.old }
-    ensures history { HasLed
+    ensures history { HasLedWith
         (point_of (E.machine engine.old) (E.clock engine.old) (E.failures engine.old)) (E.safe engine.old) (E.faithful engine.old)
-        (E.safe engine.new) (E.faithful engine.new) (point_of (E.machine engine.new) (E.clock engine.new) (E.failures engine.new)) }
+        (E.safe engine.new) (E.faithful engine.new) (point_of (E.machine engine.new) (E.clock engine.new) (E.failures engine.new))
+        IsUnasked }
     ensures folded { IfOk result (λ made. IfSome made (λ number.
         Step (E.machine engine.old) event.Fold (reply.Folded number) (E.machine engine.new))) }
     ensures waits { IfOk result (λ made. IfNone made
@@ -215,9 +219,10 @@ fn ask_fold<E: StoreEngine>(engine: &mut E) -> Result<Option<u64>, Refusal>
 // makes one step of the journal
 fn make_durable<E: StoreEngine>(engine: &mut E) -> Result<(), Refusal>
     ensures store { E.store engine.new ≡ E.store engine.old }
-    ensures history { HasLed
+    ensures history { HasLedWith
         (point_of (E.machine engine.old) (E.clock engine.old) (E.failures engine.old)) (E.safe engine.old) (E.faithful engine.old)
-        (E.safe engine.new) (E.faithful engine.new) (point_of (E.machine engine.new) (E.clock engine.new) (E.failures engine.new)) }
+        (E.safe engine.new) (E.faithful engine.new) (point_of (E.machine engine.new) (E.clock engine.new) (E.failures engine.new))
+        IsUnasked }
     ensures refused { IfErr result MayNotFold }
     ensures stays { HistoryStays (E.machine engine.old) (E.machine engine.new) }
 {
@@ -229,11 +234,13 @@ fn make_durable<E: StoreEngine>(engine: &mut E) -> Result<(), Refusal>
 
 // puts an event to an engine, which is the whole history from there on
 fn put<E: StoreEngine>(engine: &mut E, event: Event) -> Reply
+    requires unasked { is_asked event ≡ false }
     ensures store { E.store engine.new ≡ E.store engine.old }
     ensures step { Step (E.machine engine.old) event result (E.machine engine.new) }
-    ensures history { HasLed
+    ensures history { HasLedWith
         (point_of (E.machine engine.old) (E.clock engine.old) (E.failures engine.old)) (E.safe engine.old) (E.faithful engine.old)
-        (E.safe engine.new) (E.faithful engine.new) (point_of (E.machine engine.new) (E.clock engine.new) (E.failures engine.new)) }
+        (E.safe engine.new) (E.faithful engine.new) (point_of (E.machine engine.new) (E.clock engine.new) (E.failures engine.new))
+        IsUnasked }
 {
     engine.keeps_a_prefix(); // for the prover
     engine.event(event)

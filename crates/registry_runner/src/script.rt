@@ -5,6 +5,7 @@ ghost use Rattle.script_syntax.specs.declared.line.Line.{Line as AnyLine};
 ghost use Rattle.script_syntax.specs.declared.line.Line.TheVariants.{Inside, Plain};
 ghost use Rattle.reply_lines.specs.declared.reply.ReplyLine.TheVariants.{Refused};
 ghost use Rattle.script_runner.specs.Scripts.{later_line, line_asked};
+ghost use Rattle.ktm_calls.specs.Moments.{no_sight};
 ghost use Rattle.registry_runner.specs.Interpreters.{script_of};
 ghost use Rattle.registry_runner.specs.Parts.{IsBegun, IsUnlabelled};
 ghost use Rattle.registry_runner.specs.Scripts.{Answers, AnswersLine, MayNotEnter};
@@ -13,7 +14,7 @@ use crate::caller::Caller;
 use crate::labels::tx_of;
 use crate::parts::{NextPart, PartKind};
 use histories::Start;
-use ktm_calls::{Key, Session, Sight};
+use ktm_calls::{Asker, Key, Session, SessionHandle};
 use refusals::Refusal;
 use reg_names::Path;
 use reply_lines::ReplyLine;
@@ -29,8 +30,8 @@ use word_syntax::ParseError;
 pub struct OpenSession<O: Start> {
     /// The number that the script gave it.
     pub number: u32,
-    /// The session.
-    pub session: Session<O>,
+    /// Its handle.
+    pub handle: SessionHandle<O>,
 }
 
 impl<O: Start> Drop for OpenSession<O> {
@@ -38,18 +39,18 @@ impl<O: Start> Drop for OpenSession<O> {
     fn drop(self) {
         let OpenSession {
             number: _,
-            session: _,
+            handle: _,
         } = self;
     }
 }
 
 impl<O: Start> OpenSession<O> {
-    /// The session alone.
-    pub fn into_session(self) -> Session<O>
-        ensures { result ≡ self.session }
+    /// The handle alone.
+    pub fn into_handle(self) -> SessionHandle<O>
+        ensures { result ≡ self.handle }
     {
-        let OpenSession { number: _, session } = self;
-        session
+        let OpenSession { number: _, handle } = self;
+        handle
     }
 }
 
@@ -95,20 +96,23 @@ impl<O: Start> Drop for Script<O> {
 }
 
 impl<O: Start> Script<O> {
-    /// A script before its first line: no label names anything, and session 0 is open and the current one. Refused as
-    /// that session is, and with `NoMemory`; what is seen then comes back.
+    /// A script before its first line: no label names anything, and session 0 is open and the current one, in which this
+    /// one asks. Refused as that session is, and with `NoMemory`; who asked comes back then.
     pub fn begin<E: StoreEngine, R: Wait>(
         caller: &Caller<'_, E, O, R>,
+        asker: Asker<O>,
         moment: u64,
-    ) -> Result<Script<O>, (Refusal, Sight<O>)>
-        ensures begun { IfOk result (λ script. IsBegun O.start O.trees O.number O.hives moment (script_of script)) }
-        ensures refused { IfErr result (λ why. MayNotEnter O.start O.trees O.number O.hives why.1 why.0) }
+    ) -> Result<Script<O>, (Refusal, Asker<O>)>
+        requires first { asker ≡ no_sight }
+        ensures begun { IfOk result (λ script. IsBegun O.sole O.start O.trees O.number O.hives moment (script_of script)) }
+        ensures refused { IfErr result (λ why.
+            MayNotEnter O.sole O.start O.trees O.number O.hives no_sight why.1 why.0) }
     {
         let Ok(root) = Path::root(caller.alloc) else {
-            return Err((Refusal::NoMemory, caller.all_seen()));
+            return Err((Refusal::NoMemory, asker));
         };
         let root = Key::new(0, root);
-        let session = caller.open_session()?;
+        let session = caller.first_session(asker)?;
         Ok(Script {
             moment,
             labels: None,
@@ -118,6 +122,23 @@ impl<O: Start> Script<O> {
             others: Vec::new(caller.alloc),
             root,
         })
+    }
+
+    /// Who asked in its sessions.
+    pub fn into_asker(self) -> Asker<O>
+        ensures { result ≡ (script_of self).session.seen }
+    {
+        let Script {
+            moment: _,
+            labels: _,
+            number: _,
+            is_open: _,
+            session,
+            others: _,
+            root: _,
+        } = self;
+        let (_handle, asker) = session.into_parts();
+        asker
     }
 
     /// Answers a line, or `None` if the bytes are no such line. Memory is refused only for reading the line, before
@@ -132,7 +153,7 @@ impl<O: Start> Script<O> {
         ensures err { OnErr result (self.new ≡ self.old) }
         ensures some { IfOk result (λ made. IfSome made
             (λ answer. (asked : AnyLine) × (line_asked bytes.now ≡ Some asked)
-            × AnswersLine O.start O.trees O.number O.hives (script_of self.old) asked answer (script_of self.new))) }
+            × AnswersLine O.sole O.start O.trees O.number O.hives (script_of self.old) asked answer (script_of self.new))) }
     {
         match read_line(caller.alloc, bytes) {
             Ok(line) => Ok(self.answer(caller, line)),
@@ -149,7 +170,7 @@ impl<O: Start> Script<O> {
     ) -> Option<LineAnswer>
         ensures answered { MatchOption result ((later_line (Some line) ≡ None) × (self.new ≡ self.old))
             (λ answer. (later_line (Some line) ≡ Some line)
-            × AnswersLine O.start O.trees O.number O.hives (script_of self.old) line answer (script_of self.new)) }
+            × AnswersLine O.sole O.start O.trees O.number O.hives (script_of self.old) line answer (script_of self.new)) }
     {
         let answered = match line {
             Line::Hives { .. } | Line::History { .. } | Line::Lab { .. } => return None,
@@ -183,9 +204,9 @@ impl<O: Start> Script<O> {
         caller: &Caller<'_, E, O, R>,
         request: Request,
     ) -> Result<ReplyLine, Refusal>
-        ensures ok { IfOk result (λ reported. Answers O.start O.trees O.number O.hives (script_of self.old) (Plain request)
+        ensures ok { IfOk result (λ reported. Answers O.sole O.start O.trees O.number O.hives (script_of self.old) (Plain request)
             reported (script_of self.new)) }
-        ensures refused { IfErr result (λ refusal. Answers O.start O.trees O.number O.hives (script_of self.old)
+        ensures refused { IfErr result (λ refusal. Answers O.sole O.start O.trees O.number O.hives (script_of self.old)
             (Plain request) (Refused refusal) (script_of self.new)) }
     {
         let asked = operation_of(caller.alloc, request)?;
@@ -198,9 +219,9 @@ impl<O: Start> Script<O> {
         label: Label,
         request: Request,
     ) -> Result<ReplyLine, Refusal>
-        ensures ok { IfOk result (λ reported. Answers O.start O.trees O.number O.hives (script_of self.old) (Inside label request)
+        ensures ok { IfOk result (λ reported. Answers O.sole O.start O.trees O.number O.hives (script_of self.old) (Inside label request)
             reported (script_of self.new)) }
-        ensures refused { IfErr result (λ refusal. Answers O.start O.trees O.number O.hives (script_of self.old)
+        ensures refused { IfErr result (λ refusal. Answers O.sole O.start O.trees O.number O.hives (script_of self.old)
             (Inside label request) (Refused refusal) (script_of self.new)) }
     {
         let asked = operation_of(caller.alloc, request)?;

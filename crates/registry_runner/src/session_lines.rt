@@ -2,7 +2,6 @@
 ghost use Rattle.std.specs.Prelude.{◌≡◌, ◌<◌, IfErr, IfNone, IfOk, IfSome};
 ghost use Rattle.std.specs.Vec.{vec_capacity, vec_len};
 ghost use Rattle.script_syntax.specs.declared.line.Line.TheVariants as line;
-ghost use Rattle.ktm_calls.specs.Moments.{SeesMore};
 ghost use Rattle.reply_lines.specs.declared.reply.ReplyLine.TheVariants.{Refused};
 ghost use Rattle.registry_runner.specs.Interpreters.{script_of};
 ghost use Rattle.registry_runner.specs.Scripts.{Answers, InSession};
@@ -10,7 +9,7 @@ ghost use Rattle.registry_runner.specs.Scripts.{Answers, InSession};
 use crate::caller::{Caller, reply_to};
 use crate::script::{OpenSession, Script};
 use histories::Start;
-use ktm_calls::Session;
+use ktm_calls::SessionHandle;
 use refusals::Refusal;
 use reply_lines::ReplyLine;
 use std::mem;
@@ -24,37 +23,36 @@ impl<O: Start> Script<O> {
         caller: &Caller<'_, E, O, R>,
         number: u32,
     ) -> Result<ReplyLine, Refusal>
-        ensures ok { IfOk result (λ reported. Answers O.start O.trees O.number O.hives (script_of self.old) (line.Session number)
+        ensures ok { IfOk result (λ reported. Answers O.sole O.start O.trees O.number O.hives (script_of self.old) (line.Session number)
             reported (script_of self.new)) }
-        ensures refused { IfErr result (λ refusal. Answers O.start O.trees O.number O.hives (script_of self.old)
+        ensures refused { IfErr result (λ refusal. Answers O.sole O.start O.trees O.number O.hives (script_of self.old)
             (line.Session number) (Refused refusal) (script_of self.new)) }
     {
         if self.is_open && number == self.number {
             caller.check_not_faulted(&mut self.session)?;
             return Ok(ReplyLine::Done);
         }
-        self.others.reserve(1)?;
-        let session = match self.place_of(number) {
+        if self.others.reserve(1).is_err() {
+            return Err(Refusal::NoMemory);
+        }
+        let handle = match self.place_of(number) {
             Some(place) => {
                 caller.check_not_faulted(&mut self.session)?;
                 self.take_other(place)
             }
-            None => caller.open_session_after(&mut self.session)?,
+            None => caller.open_handle(&mut self.session)?,
         };
-        self.make_current(number, session);
+        self.make_current(number, handle);
         Ok(ReplyLine::Done)
     }
 
-    // takes one of the other sessions, which has seen what the current one has
-    fn take_other(&mut self, place: usize) -> Session<O>
+    // takes one of the other sessions
+    fn take_other(&mut self, place: usize) -> SessionHandle<O>
         requires there { place < vec_len self.old.others }
         ensures same { script_of self.new ≡ script_of self.old }
         ensures room { vec_len self.new.others < vec_capacity self.new.others }
-        ensures seen { SeesMore (script_of self.old).session.seen result.seen }
     {
-        let mut session = self.others.swap_remove(place).into_session();
-        session.see(self.session.sight());
-        session
+        self.others.swap_remove(place).into_handle()
     }
 
     // the place of the session of this number among those that aren't the current one
@@ -64,14 +62,16 @@ impl<O: Start> Script<O> {
         self.others.iter().position(|open| open.number == number)
     }
 
-    // a session is the current one; the one before it is among the others, if it is open
-    fn make_current(&mut self, number: u32, session: Session<O>)
+    // another session is the current one; the one before it is among the others, if it is open
+    fn make_current(&mut self, number: u32, handle: SessionHandle<O>)
         requires room { vec_len self.old.others < vec_capacity self.old.others }
-        ensures { script_of self.new ≡ record (script_of self.old) { session = session } }
+        ensures { script_of self.new ≡ record (script_of self.old) {
+          session = record (script_of self.old).session { number = handle };
+        } }
     {
         let before = OpenSession {
             number: mem::replace(&mut self.number, number),
-            session: mem::replace(&mut self.session, session),
+            handle: self.session.switch_to(handle),
         };
         if mem::replace(&mut self.is_open, true) {
             match self.others.push(before) {
@@ -88,42 +88,35 @@ impl<O: Start> Script<O> {
         caller: &Caller<'_, E, O, R>,
         number: u32,
     ) -> Result<ReplyLine, Refusal>
-        ensures ok { IfOk result (λ reported. Answers O.start O.trees O.number O.hives (script_of self.old) (line.End number)
+        ensures ok { IfOk result (λ reported. Answers O.sole O.start O.trees O.number O.hives (script_of self.old) (line.End number)
             reported (script_of self.new)) }
-        ensures refused { IfErr result (λ refusal. Answers O.start O.trees O.number O.hives (script_of self.old)
+        ensures refused { IfErr result (λ refusal. Answers O.sole O.start O.trees O.number O.hives (script_of self.old)
             (line.End number) (Refused refusal) (script_of self.new)) }
     {
-        match self.take(caller, number) {
-            Some(session) => {
-                let (answer, seen) = caller.registry.leave_session(caller.rt, session);
-                self.session.see(&seen);
+        match self.take(number) {
+            Some(handle) => {
+                let answer = caller
+                    .registry
+                    .end_handle(caller.rt, handle, &mut self.session);
                 Ok(reply_to(answer))
             }
             None => Err(Refusal::NoSuchHandle),
         }
     }
 
-    // Takes the session of this number out of those that are open. It has seen what the current one has. After the current
-    // one, what follows is asked in a session that isn't open
-    fn take<E: StoreEngine, R: Wait>(
-        &mut self,
-        caller: &Caller<'_, E, O, R>,
-        number: u32,
-    ) -> Option<Session<O>>
+    // Takes the session of this number out of those that are open. After the current one, what follows is asked in a
+    // session that isn't open
+    fn take(&mut self, number: u32) -> Option<SessionHandle<O>>
         ensures some { InSession (script_of self.old) (script_of self.new) }
         ensures none { IfNone result (script_of self.new ≡ script_of self.old) }
-        ensures seen { IfSome result (λ session. SeesMore (script_of self.old).session.seen session.seen) }
+        ensures seen { (script_of self.new).session.seen ≡ (script_of self.old).session.seen }
     {
         if self.is_open && number == self.number {
             self.is_open = false;
-            let closed = caller
-                .registry
-                .closed_session_after(caller.rt, self.session.sight());
-            return Some(mem::replace(&mut self.session, closed));
+            let closed = self.session.closed_handle();
+            return Some(self.session.switch_to(closed));
         }
         let place = self.place_of(number)?;
-        let mut session = self.others.swap_remove(place).into_session();
-        session.see(self.session.sight());
-        Some(session)
+        Some(self.others.swap_remove(place).into_handle())
     }
 }

@@ -4,7 +4,7 @@ ghost use Rattle.script_syntax.specs.declared.line.Line.TheVariants.{Begin, Clos
 ghost use Rattle.reply_lines.specs.declared.reply.ReplyLine.TheVariants.{Refused};
 ghost use Rattle.registry_runner.specs.Interpreters.{script_of};
 ghost use Rattle.registry_runner.specs.Heard.{GoesOn};
-ghost use Rattle.registry_runner.specs.Scripts.{Answers, AnswersLine, InSession, MayNotStep};
+ghost use Rattle.registry_runner.specs.Scripts.{Answers, AnswersLine, InSession, MayNotStep, MayProbe};
 
 use crate::caller::{Caller, denied_reply, reply_to};
 use crate::labels::{make_room, name};
@@ -28,9 +28,9 @@ impl<O: Start> Script<O> {
         label: Label,
         id: Uuid,
     ) -> Result<ReplyLine, Refusal>
-        ensures ok { IfOk result (λ reported. Answers O.start O.trees O.number O.hives (script_of self.old) (Begin label id)
+        ensures ok { IfOk result (λ reported. Answers O.sole O.start O.trees O.number O.hives (script_of self.old) (Begin label id)
             reported (script_of self.new)) }
-        ensures refused { IfErr result (λ refusal. Answers O.start O.trees O.number O.hives (script_of self.old)
+        ensures refused { IfErr result (λ refusal. Answers O.sole O.start O.trees O.number O.hives (script_of self.old)
             (Begin label id) (Refused refusal) (script_of self.new)) }
     {
         make_room(&mut self.labels, caller.alloc, label)?;
@@ -52,9 +52,9 @@ impl<O: Start> Script<O> {
         caller: &Caller<'_, E, O, R>,
         label: Label,
     ) -> Result<ReplyLine, Refusal>
-        ensures ok { IfOk result (λ reported. Answers O.start O.trees O.number O.hives (script_of self.old) (Commit label)
+        ensures ok { IfOk result (λ reported. Answers O.sole O.start O.trees O.number O.hives (script_of self.old) (Commit label)
             reported (script_of self.new)) }
-        ensures refused { IfErr result (λ refusal. Answers O.start O.trees O.number O.hives (script_of self.old)
+        ensures refused { IfErr result (λ refusal. Answers O.sole O.start O.trees O.number O.hives (script_of self.old)
             (Commit label) (Refused refusal) (script_of self.new)) }
     {
         let tx = self.tx(label)?;
@@ -74,9 +74,9 @@ impl<O: Start> Script<O> {
         caller: &Caller<'_, E, O, R>,
         label: Label,
     ) -> Result<ReplyLine, Refusal>
-        ensures ok { IfOk result (λ reported. Answers O.start O.trees O.number O.hives (script_of self.old) (Rollback label)
+        ensures ok { IfOk result (λ reported. Answers O.sole O.start O.trees O.number O.hives (script_of self.old) (Rollback label)
             reported (script_of self.new)) }
-        ensures refused { IfErr result (λ refusal. Answers O.start O.trees O.number O.hives (script_of self.old)
+        ensures refused { IfErr result (λ refusal. Answers O.sole O.start O.trees O.number O.hives (script_of self.old)
             (Rollback label) (Refused refusal) (script_of self.new)) }
     {
         let tx = self.tx(label)?;
@@ -91,9 +91,9 @@ impl<O: Start> Script<O> {
         caller: &Caller<'_, E, O, R>,
         label: Label,
     ) -> Result<ReplyLine, Refusal>
-        ensures ok { IfOk result (λ reported. Answers O.start O.trees O.number O.hives (script_of self.old) (Close label)
+        ensures ok { IfOk result (λ reported. Answers O.sole O.start O.trees O.number O.hives (script_of self.old) (Close label)
             reported (script_of self.new)) }
-        ensures refused { IfErr result (λ refusal. Answers O.start O.trees O.number O.hives (script_of self.old)
+        ensures refused { IfErr result (λ refusal. Answers O.sole O.start O.trees O.number O.hives (script_of self.old)
             (Close label) (Refused refusal) (script_of self.new)) }
     {
         let tx = self.tx(label)?;
@@ -108,9 +108,9 @@ impl<O: Start> Script<O> {
         caller: &Caller<'_, E, O, R>,
         label: Label,
     ) -> Result<ReplyLine, Refusal>
-        ensures ok { IfOk result (λ reported. Answers O.start O.trees O.number O.hives (script_of self.old) (Outcome label)
+        ensures ok { IfOk result (λ reported. Answers O.sole O.start O.trees O.number O.hives (script_of self.old) (Outcome label)
             reported (script_of self.new)) }
-        ensures refused { IfErr result (λ refusal. Answers O.start O.trees O.number O.hives (script_of self.old)
+        ensures refused { IfErr result (λ refusal. Answers O.sole O.start O.trees O.number O.hives (script_of self.old)
             (Outcome label) (Refused refusal) (script_of self.new)) }
     {
         let tx = self.tx(label)?;
@@ -127,7 +127,7 @@ impl<O: Start> Script<O> {
         caller: &Caller<'_, E, O, R>,
         id: Uuid,
     ) -> ReplyLine
-        ensures { Answers O.start O.trees O.number O.hives (script_of self.old) (Kept id) result (script_of self.new) }
+        ensures { Answers O.sole O.start O.trees O.number O.hives (script_of self.old) (Kept id) result (script_of self.new) }
     {
         if self.is_open {
             return match self.session.outcome_of(&id) {
@@ -143,7 +143,7 @@ impl<O: Start> Script<O> {
 
     /// Makes all accepted changes durable, as the line `flush` does.
     pub fn flush<E: StoreEngine, R: Wait>(&mut self, caller: &Caller<'_, E, O, R>) -> ReplyLine
-        ensures { Answers O.start O.trees O.number O.hives (script_of self.old) Flush result (script_of self.new) }
+        ensures { Answers O.sole O.start O.trees O.number O.hives (script_of self.old) Flush result (script_of self.new) }
     {
         match caller
             .registry
@@ -159,7 +159,7 @@ impl<O: Start> Script<O> {
     /// Makes ready for a fold: makes all accepted changes durable, as the line `flush` does, and moves them into the
     /// hives. If one of the two is refused, that is the reply.
     pub fn fold<E: StoreEngine, R: Wait>(&mut self, caller: &Caller<'_, E, O, R>) -> LineAnswer
-        ensures { AnswersLine O.start O.trees O.number O.hives (script_of self.old) Fold result (script_of self.new) }
+        ensures { AnswersLine O.sole O.start O.trees O.number O.hives (script_of self.old) Fold result (script_of self.new) }
     {
         let reply = self.flush(caller);
         if is_refusal(&reply) {
@@ -184,7 +184,9 @@ impl<O: Start> Script<O> {
     ) -> Refusal
         ensures session { InSession (script_of self.old) (script_of self.new) }
         ensures goes_on { GoesOn (script_of self.old).session (script_of self.new).session }
-        ensures may { MayNotStep O.start O.trees O.number O.hives (script_of self.new).session.seen result }
+        ensures probes { MayProbe O.sole (script_of self.old).session.seen (script_of self.new).session.seen }
+        ensures may { MayNotStep O.sole O.start O.trees O.number O.hives (script_of self.old).session.seen
+            (script_of self.new).session.seen result }
     {
         match denied.refusal() {
             Some(Refusal::DiskFault) => caller.step_refusal(&mut self.session, Refusal::DiskFault),

@@ -1,7 +1,7 @@
 use denote.Exit.{no}
 use denote.Param.{param}
 use denote.Param.Send.{param_send, arg_send}
-use Rattle.std.proofs.Common.{ℕ, [], inl, inr, subst, sym}
+use Rattle.std.proofs.Common.{ℕ, true, [], inl, inr, subst, sym}
 use Rattle.engine_send.proofs.EngineCrossing.{engine_send}
 use Rattle.script_loop.proofs.Texts.{if_ok}
 use Rattle.histories.specs.Points.{point_of}
@@ -47,9 +47,9 @@ returns-in-Ok-clause-runs g c =
       owner = subst (λ n. IsOfStore engine.machine.opened n engine.machine.bounds.hives last.machine) same c.run_parts-engine.ensures.owner;
       left = (leaves_history D.faithful D.state_at D.clock D.failures engine.store last.store engine.disk last.disk c.into_disk.result engine.machine last.machine c.into_disk.ensures c.run_parts-engine.ensures.store (led.0, led.1)
           (λ f e. c.reads_a_prefix.ensures.honest f (inl e)) (λ f e. c.reads_a_prefix.ensures.prefix f (inl e)));
-      runs = if_ok (λ status. RunsFrom led.0 [] (start c.history_limit.result) at engine.machine.opened engine.machine.before engine.machine.bounds.hives known before after status) _ c.run_parts-engine.result.1
-          (λ status runs. run_from led.0 engine.machine.bounds.changes number engine.machine.bounds.hives c.args.can_read at engine.machine.opened known before after status
-          (subst (λ limit. RunsFrom led.0 [] (start limit) at engine.machine.opened number engine.machine.bounds.hives known before after status) c.history_limit.ensures (subst (λ n. RunsFrom led.0 [] (start c.history_limit.result) at engine.machine.opened n engine.machine.bounds.hives known before after status) same runs)))
+      runs = if_ok (λ status. RunsFrom led.0 [] (start c.history_limit.result) true at engine.machine.opened engine.machine.before engine.machine.bounds.hives known before after status) _ c.run_parts-engine.result.1
+          (λ status runs. run_from led.0 engine.machine.bounds.changes number engine.machine.bounds.hives c.args.can_read true at engine.machine.opened known before after status
+          (subst (λ limit. RunsFrom led.0 [] (start limit) true at engine.machine.opened number engine.machine.bounds.hives known before after status) c.history_limit.ensures (subst (λ n. RunsFrom led.0 [] (start c.history_limit.result) true at engine.machine.opened n engine.machine.bounds.hives known before after status) same runs)))
           led.2;
     })
 

@@ -6,4 +6,4 @@ pub returns-in-Err : goal.returns-in-Err
 returns-in-Err g c whole past stands =
     let O = g.O.Origin in
     let contents = g.W.Write.contents in
-    begins_not whole past c.args.start g.O.Start.start O.trees O.number O.hives (g.B.Read.remaining c.args.reader.now) (contents c.args.writer.now) (contents c.write_refusal-ran.new.writer) c.in-Err.why c.write_refusal-ran.result (inr (inr (c.in-Err.seen, stands, c.in-Err.ensures.refused))) c.write_refusal-ran.ensures
+    begins_not whole past c.args.start g.O.Start.sole g.O.Start.start O.trees O.number O.hives (g.B.Read.remaining c.args.reader.now) (contents c.args.writer.now) (contents c.write_refusal-ran.new.writer) c.in-Err.why c.write_refusal-ran.result (inr (c.in-Err.asker, stands, c.in-Err.ensures.refused)) c.write_refusal-ran.ensures

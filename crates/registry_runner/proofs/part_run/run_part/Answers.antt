@@ -1,8 +1,8 @@
-use Rattle.std.proofs.Common.{[], refl, subst, sym}
+use Rattle.std.proofs.Common.{[], arith, refl, subst, sym}
 use mathlib.Core.List.{IsPrefix}
 use Rattle.histories.specs.Points.{Point, point_of}
-use Rattle.ktm_calls.specs.Moments.{SeesMore, no_sight}
-use Rattle.registry_runner.specs.Parts.{sight_of}
+use Rattle.ktm_calls.specs.Moments.{no_sight}
+use Rattle.registry_runner.specs.Parts.{SeesAllAsked}
 use Rattle.registry_runner.specs.Running.{EndsPartAfter}
 use Rattle.registry_runner.specs.declared.parts.PartEnd.TheVariants.{RunEnded}
 use Rattle.registry_runner.proofs.Ending.{begins_not}
@@ -21,11 +21,11 @@ returns-in-Err-clause-ends g c =
     let after = contents ran.new.writer in
     let engine = c.args.engine in
     let now = point_of (E.machine engine) (E.clock engine) (E.failures engine) in
-    let nothing : SeesMore no_sight (sight_of S.start []) = record { list = (S.start.machine.accepted, refl); history = ([], refl) } in
-    let ends : EndsPartAfter [] c.args.start S.start O.trees O.number O.hives known before (RunEnded ran.result) known after = (
+    let nothing : SeesAllAsked S.sole S.start no_sight [] = record { begins = record { list = (S.start.machine.accepted, refl); history = ([], refl) }; asked = λ so. ([], (λ k d l. absurd (omega (arith, l))), refl) } in
+    let ends : EndsPartAfter [] c.args.start S.sole S.start O.trees O.number O.hives known before (RunEnded ran.result) known after = (
       no_sight,
       nothing,
-      λ whole past stands. begins_not whole past c.args.start S.start O.trees O.number O.hives known before after c.in-Err.why ran.result (not_made whole past S.start O.trees O.number O.hives c.in-Err.why c.in-Err.ensures.refused.0) ran.ensures,
+      λ whole past stands. begins_not whole past c.args.start S.sole S.start O.trees O.number O.hives known before after c.in-Err.why ran.result (not_made S.sole whole past S.start O.trees O.number O.hives c.in-Err.why c.in-Err.ensures.refused.0 stands) ran.ensures,
     ) in
     rw c.in-Err.ensures.refused.1 (
       [],
@@ -43,7 +43,7 @@ returns-clause-ends g c =
       ended.ensures.history,
       (
         run.result.1,
-        record { list = subst (λ (p : Point). IsPrefix run.result.1.list p.machine.accepted) (sym ended.ensures.history.now_is) stood.0; history = stood.1 },
+        record { begins = record { list = subst (λ (p : Point). IsPrefix run.result.1.list p.machine.accepted) (sym ended.ensures.history.now_is) stood.0; history = stood.1 }; asked = ended.ensures.asked },
         λ whole past. run.ensures whole past,
       ),
     )

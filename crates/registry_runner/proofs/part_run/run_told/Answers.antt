@@ -22,8 +22,8 @@ returns-in-ToFold g c whole past =
     let rest = remaining call.new.reader in
     let mid = contents call.new.writer in
     let told = subst (λ n. Appends before opened (kind_text start.kind n)) c.requires.number c.in_default.ensures in
-    folds_from whole past start g.O.Start.start O.trees O.number O.hives known before opened script c.requires.begun told c.in-ToFold.next last rest mid
-    (subst (λ e. PartComes whole start.limit start.can_read (part past g.O.Start.start O.trees O.number O.hives script) start.line known opened e last rest mid) c.in-ToFold.is (call.ensures.ended whole past))
+    folds_from whole past start g.O.Start.sole g.O.Start.start O.trees O.number O.hives known before opened script c.requires.begun told c.in-ToFold.next last rest mid
+    (subst (λ e. PartComes whole start.limit start.can_read (part past g.O.Start.sole g.O.Start.start O.trees O.number O.hives script) start.line known opened e last rest mid) c.in-ToFold.is (call.ensures.ended whole past))
 
 pub returns-in-AtEnd : goal.returns-in-AtEnd
 returns-in-AtEnd g c whole past stands =
@@ -40,6 +40,6 @@ returns-in-AtEnd g c whole past stands =
     let mid = contents call.new.writer in
     let told = subst (λ n. Appends before opened (kind_text start.kind n)) c.requires.number c.in_default.ensures in
     let at = c.in-AtEnd in
-    ran whole past start g.O.Start.start O.trees O.number O.hives known before opened script c.requires.begun told mid (contents c.finish.new.writer) last at.flush
-    (script_of c.left_undone-left.new.script).session.seen c.left_undone-left.result c.left_undone-left.ensures.later c.left_undone-left.ensures.may stands c.finish.result at.played c.finish.ensures.played c.finish.ensures.reported
-    (subst (λ e. PartComes whole start.limit start.can_read (part past g.O.Start.start O.trees O.number O.hives script) start.line known opened e last (remaining call.new.reader) mid) at.is (call.ensures.ended whole past))
+    ran whole past start g.O.Start.sole g.O.Start.start O.trees O.number O.hives known before opened script c.requires.begun told mid (contents c.finish.new.writer) last at.flush
+    (script_of c.left_undone-left.new.script).session.seen c.left_undone-left.result c.left_undone-left.ensures.later c.left_undone-left.ensures.probes c.left_undone-left.ensures.may stands c.finish.result at.played c.finish.ensures.played c.finish.ensures.reported
+    (subst (λ e. PartComes whole start.limit start.can_read (part past g.O.Start.sole g.O.Start.start O.trees O.number O.hives script) start.line known opened e last (remaining call.new.reader) mid) at.is (call.ensures.ended whole past))

@@ -1,13 +1,19 @@
-use Rattle.std.proofs.Common.{◌∙◌, ℕ, Option, rules, subst}
+use Rattle.std.proofs.Common.{◌∙◌, ℕ, [], refl, Option, rules, subst}
 use Rattle.std.specs.Prelude.{IfSome}
 use Rattle.store_model.specs.Steps.{Step}
 use Rattle.store_model.specs.declared.event.Event.TheVariants as event
 use Rattle.store_model.specs.declared.event.Reply.TheVariants as reply
 use Rattle.histories.specs.Points.{point_of}
-use Rattle.histories.proofs.Leading.{led_on}
+use Rattle.histories.proofs.Leading.{leads_from}
 use Rattle.registry_runner.specs.Folding.{HistoryStays}
-use Rattle.registry_runner.proofs.Folding.{folded_at, stays_again}
+use Rattle.registry_runner.proofs.Folding.{folded_at, stays_again, stays_same, unasked_on}
 use Rattle.registry_runner.proofs.parts.fold.Goals as goal
+
+pub loop-init : goal.loop-init
+loop-init g c =
+    let E = g.E.StoreEngine in
+    let engine = c.args.engine.now in
+    (stays_same (E.machine engine) (E.machine engine) refl, refl, ([], leads_from (point_of (E.machine engine) (E.clock engine) (E.failures engine)) (E.safe engine) (E.faithful engine) c.keeps_a_prefix.ensures, refl))
 
 pub returns-in-Some-2-clause-folded : goal.returns-in-Some-2-clause-folded
 returns-in-Some-2-clause-folded g c =
@@ -24,7 +30,7 @@ returns-in-Some-2-clause-history g c =
     let first = c.args.engine.now in
     let begin = c.loop.engine in
     let asked = c.ask_fold.new.engine in
-    led_on (point_of (E.machine first) (E.clock first) (E.failures first)) (point_of (E.machine begin) (E.clock begin) (E.failures begin)) (point_of (E.machine asked) (E.clock asked) (E.failures asked))
+    unasked_on (point_of (E.machine first) (E.clock first) (E.failures first)) (point_of (E.machine begin) (E.clock begin) (E.failures begin)) (point_of (E.machine asked) (E.clock asked) (E.failures asked))
     (E.safe first) (E.safe begin) (E.safe asked) (E.faithful first) (E.faithful begin) (E.faithful asked) c.loop.invariant.2 c.ask_fold.ensures.history
 
 pub returns-in_err-number-clause-history : goal.returns-in_err-number-clause-history
@@ -33,7 +39,7 @@ returns-in_err-number-clause-history g c =
     let first = c.args.engine.now in
     let begin = c.loop.engine in
     let asked = c.ask_fold.new.engine in
-    led_on (point_of (E.machine first) (E.clock first) (E.failures first)) (point_of (E.machine begin) (E.clock begin) (E.failures begin)) (point_of (E.machine asked) (E.clock asked) (E.failures asked))
+    unasked_on (point_of (E.machine first) (E.clock first) (E.failures first)) (point_of (E.machine begin) (E.clock begin) (E.failures begin)) (point_of (E.machine asked) (E.clock asked) (E.failures asked))
     (E.safe first) (E.safe begin) (E.safe asked) (E.faithful first) (E.faithful begin) (E.faithful asked) c.loop.invariant.2 c.ask_fold.ensures.history
 
 pub returns-in_err-make_durable-clause-history : goal.returns-in_err-make_durable-clause-history
@@ -43,8 +49,8 @@ returns-in_err-make_durable-clause-history g c =
     let begin = c.loop.engine in
     let asked = c.ask_fold.new.engine in
     let made = c.make_durable.new.engine in
-    led_on (point_of (E.machine first) (E.clock first) (E.failures first)) (point_of (E.machine asked) (E.clock asked) (E.failures asked)) (point_of (E.machine made) (E.clock made) (E.failures made))
-    (E.safe first) (E.safe asked) (E.safe made) (E.faithful first) (E.faithful asked) (E.faithful made) (led_on (point_of (E.machine first) (E.clock first) (E.failures first)) (point_of (E.machine begin) (E.clock begin) (E.failures begin)) (point_of (E.machine asked) (E.clock asked) (E.failures asked))
+    unasked_on (point_of (E.machine first) (E.clock first) (E.failures first)) (point_of (E.machine asked) (E.clock asked) (E.failures asked)) (point_of (E.machine made) (E.clock made) (E.failures made))
+    (E.safe first) (E.safe asked) (E.safe made) (E.faithful first) (E.faithful asked) (E.faithful made) (unasked_on (point_of (E.machine first) (E.clock first) (E.failures first)) (point_of (E.machine begin) (E.clock begin) (E.failures begin)) (point_of (E.machine asked) (E.clock asked) (E.failures asked))
     (E.safe first) (E.safe begin) (E.safe asked) (E.faithful first) (E.faithful begin) (E.faithful asked) c.loop.invariant.2 c.ask_fold.ensures.history) c.make_durable.ensures.history
 
 pub loop-preserved : goal.loop-preserved
@@ -57,7 +63,7 @@ loop-preserved g c =
     let waited : HistoryStays (E.machine begin) (E.machine asked) = search rules in (
       stays_again (E.machine first) (E.machine asked) (E.machine made) (stays_again (E.machine first) (E.machine begin) (E.machine asked) c.loop.invariant.0 waited) c.make_durable.ensures.stays,
       c.make_durable.ensures.store ∙ c.ask_fold.ensures.store ∙ c.loop.invariant.1,
-      led_on (point_of (E.machine first) (E.clock first) (E.failures first)) (point_of (E.machine asked) (E.clock asked) (E.failures asked)) (point_of (E.machine made) (E.clock made) (E.failures made))
-          (E.safe first) (E.safe asked) (E.safe made) (E.faithful first) (E.faithful asked) (E.faithful made) (led_on (point_of (E.machine first) (E.clock first) (E.failures first)) (point_of (E.machine begin) (E.clock begin) (E.failures begin)) (point_of (E.machine asked) (E.clock asked) (E.failures asked))
+      unasked_on (point_of (E.machine first) (E.clock first) (E.failures first)) (point_of (E.machine asked) (E.clock asked) (E.failures asked)) (point_of (E.machine made) (E.clock made) (E.failures made))
+          (E.safe first) (E.safe asked) (E.safe made) (E.faithful first) (E.faithful asked) (E.faithful made) (unasked_on (point_of (E.machine first) (E.clock first) (E.failures first)) (point_of (E.machine begin) (E.clock begin) (E.failures begin)) (point_of (E.machine asked) (E.clock asked) (E.failures asked))
           (E.safe first) (E.safe begin) (E.safe asked) (E.faithful first) (E.faithful begin) (E.faithful asked) c.loop.invariant.2 c.ask_fold.ensures.history) c.make_durable.ensures.history,
     )

@@ -1,8 +1,10 @@
-use Rattle.std.proofs.Common.{◌∙◌, ◌||◌, ◌++◌, [], ap, arith, refl, subst, sym}
+use Rattle.std.proofs.Common.{◌≡◌, ◌∙◌, ◌||◌, ◌++◌, true, List, [], append_assoc, ap, arith, refl, subst, sym}
 use Rattle.std.proofs.lemmas.List.{append-nil}
 use Rattle.reply_lines.specs.Statuses.{with_refusal}
 use Rattle.script_loop.proofs.Running.{refusals_join}
-use Rattle.histories.specs.Points.{Point, point_of}
+use Rattle.histories.specs.Asked.{asked_in}
+use Rattle.histories.specs.Points.{HistoryEntry, Point, point_of}
+use Rattle.histories.proofs.Asked.{asked_append}
 use Rattle.histories.proofs.Leading.{leads_from, leads_join}
 use Rattle.registry_runner.specs.Parts.{LiesIn}
 use Rattle.registry_runner.specs.Running.{EndsPart, RunsFrom}
@@ -44,13 +46,13 @@ returns-in-RunEnded-clause-runs g c =
     let own = c.run_part-ended.ensures.ends in
     let seen = own.2.0 in
     let whole = led.0 ++ own.0 in
-    let ends = subst (λ (e : PartEnd). EndsPart whole led.0 l.start here_at here.opened here.before here.bounds.hives seen (remaining l.reader) (contents l.writer) e (remaining c.run_part-ended.new.reader) after) c.in-RunEnded.is (own.2.2 whole led.0) in (
+    let ends = subst (λ (e : PartEnd). EndsPart whole led.0 l.start true here_at here.opened here.before here.bounds.hives seen (remaining l.reader) (contents l.writer) e (remaining c.run_part-ended.new.reader) after) c.in-RunEnded.is (own.2.2 whole led.0) in (
       whole,
       leads_join begun_at here_at ended_at (E.safe first) (E.safe l.engine) (E.safe ended) (E.faithful first) (E.faithful l.engine) (E.faithful ended) led.0 own.0 led.1 own.1,
-      with_earlier (λ status. RunsFrom whole led.0 l.start here_at here.opened here.before here.bounds.hives (remaining l.reader) (contents l.writer) after status)
-          (λ status. RunsFrom whole [] c.args.start begun_at begun.opened begun.before begun.bounds.hives (remaining c.args.reader.now) (contents c.args.writer.now) after status)
+      with_earlier (λ status. RunsFrom whole led.0 l.start true here_at here.opened here.before here.bounds.hives (remaining l.reader) (contents l.writer) after status)
+          (λ status. RunsFrom whole [] c.args.start true begun_at begun.opened begun.before begun.bounds.hives (remaining c.args.reader.now) (contents c.args.writer.now) after status)
           l.has_refusal c.with_refusal.result c.in-RunEnded.ran (λ status runs. led.2 whole (own.0, refl) status after runs) c.with_refusal.ensures.same c.with_refusal.ensures.status
-          (ends (record { own = own.0; begins = own.2.1; within = ([], append-nil whole) })),
+          (ends (record { lies = record { own = own.0; sees = own.2.1; within = ([], append-nil whole) }; last = refl })),
     )
 
 pub loop-preserved : goal.loop-preserved
@@ -89,13 +91,13 @@ loop-preserved g c =
         led.0 ++ (own.0 ++ folding.0),
         leads_join begun_at here_at new_at (E.safe first) (E.safe l.engine) (E.safe last) (E.faithful first) (E.faithful l.engine) (E.faithful last) led.0 (own.0 ++ folding.0) led.1 on,
         λ whole within status after runs.
-            let ends = subst (λ (e : PartEnd). EndsPart whole led.0 l.start here_at here.opened here.before here.bounds.hives seen (remaining l.reader) (contents l.writer) e rest mid) c.in-ToFold.is (own.2.2 whole led.0) in
-            let stands : LiesIn whole led.0 here_at seen = record { own = own.0; begins = own.2.1; within = prefix_front led.0 own.0 folding.0 whole within } in
-            subst (λ s. RunsFrom whole [] c.args.start begun_at begun.opened begun.before begun.bounds.hives (remaining c.args.reader.now) (contents c.args.writer.now) after s) (refusals_join l.has_refusal next.has_refusal status)
+            let ends = subst (λ (e : PartEnd). EndsPart whole led.0 l.start true here_at here.opened here.before here.bounds.hives seen (remaining l.reader) (contents l.writer) e rest mid) c.in-ToFold.is (own.2.2 whole led.0) in
+            let stands : LiesIn true whole led.0 here_at seen = record { own = own.0; sees = own.2.1; within = prefix_front led.0 own.0 folding.0 whole within } in
+            subst (λ s. RunsFrom whole [] c.args.start true begun_at begun.opened begun.before begun.bounds.hives (remaining c.args.reader.now) (contents c.args.writer.now) after s) (refusals_join l.has_refusal next.has_refusal status)
             (led.2 whole (prefix_first led.0 (own.0 ++ folding.0) whole within) (with_refusal next.has_refusal status) after
-            (folded_from whole led.0 l.start next c.in-Ok.number here_at here.opened here.before here.bounds.hives seen (remaining l.reader) (contents l.writer) rest mid after status stands folding.0 old new new_at
+            (folded_from whole led.0 l.start next c.in-Ok.number true here_at here.opened here.before here.bounds.hives seen (remaining l.reader) (contents l.writer) rest mid after status stands folding.0 folding.2 old new new_at
             (ap (λ (p : Point). p.machine) own.1.now_is) on.now_is within c.run_part-ended.ensures.owner is ends
-            (subst (λ (s : PartStart). RunsFrom whole (led.0 ++ (own.0 ++ folding.0)) s new_at new.opened new.before new.bounds.hives rest mid after status) start runs))),
+            (subst (λ (s : PartStart). RunsFrom whole (led.0 ++ (own.0 ++ folding.0)) s true new_at new.opened new.before new.bounds.hives rest mid after status) start runs))),
       ),
     )
 
@@ -127,15 +129,16 @@ returns-in-Err-clause-runs g c =
     let seen = own.2.0 in
     let whole = led.0 ++ (own.0 ++ folding.0) in
     let on = leads_join here_at old_at new_at (E.safe l.engine) (E.safe ended) (E.safe last) (E.faithful l.engine) (E.faithful ended) (E.faithful last) own.0 folding.0 own.1 folding.1 in
-    let ends = subst (λ (e : PartEnd). EndsPart whole led.0 l.start here_at here.opened here.before here.bounds.hives seen (remaining l.reader) (contents l.writer) e rest mid) c.in-ToFold.is (own.2.2 whole led.0) in
-    let stands : LiesIn whole led.0 here_at seen = record { own = own.0; begins = own.2.1; within = prefix_front led.0 own.0 folding.0 whole ([], append-nil whole) } in (
+    let ends = subst (λ (e : PartEnd). EndsPart whole led.0 l.start true here_at here.opened here.before here.bounds.hives seen (remaining l.reader) (contents l.writer) e rest mid) c.in-ToFold.is (own.2.2 whole led.0) in
+    let last_is : asked_in whole ≡ asked_in (led.0 ++ own.0) = ap asked_in (sym (append_assoc led.0 own.0 folding.0)) ∙ (asked_append (led.0 ++ own.0) folding.0 ∙ (ap (λ (w : List HistoryEntry). asked_in (led.0 ++ own.0) ++ w) folding.2 ∙ append-nil (asked_in (led.0 ++ own.0)))) in
+    let stands : LiesIn true whole led.0 here_at seen = record { own = own.0; sees = own.2.1; within = prefix_front led.0 own.0 folding.0 whole ([], append-nil whole) } in (
       whole,
       leads_join begun_at here_at new_at (E.safe first) (E.safe l.engine) (E.safe last) (E.faithful first) (E.faithful l.engine) (E.faithful last) led.0 (own.0 ++ folding.0) led.1 on,
-      with_earlier (λ status. RunsFrom whole led.0 l.start here_at here.opened here.before here.bounds.hives (remaining l.reader) (contents l.writer) after (with_refusal next.has_refusal status))
-          (λ status. RunsFrom whole [] c.args.start begun_at begun.opened begun.before begun.bounds.hives (remaining c.args.reader.now) (contents c.args.writer.now) after status)
+      with_earlier (λ status. RunsFrom whole led.0 l.start true here_at here.opened here.before here.bounds.hives (remaining l.reader) (contents l.writer) after (with_refusal next.has_refusal status))
+          (λ status. RunsFrom whole [] c.args.start true begun_at begun.opened begun.before begun.bounds.hives (remaining c.args.reader.now) (contents c.args.writer.now) after status)
           (l.has_refusal || next.has_refusal) c.with_refusal-in-Err.result c.write_refusal-ran.result
-          (λ status runs. subst (λ s. RunsFrom whole [] c.args.start begun_at begun.opened begun.before begun.bounds.hives (remaining c.args.reader.now) (contents c.args.writer.now) after s) (refusals_join l.has_refusal next.has_refusal status)
+          (λ status runs. subst (λ s. RunsFrom whole [] c.args.start true begun_at begun.opened begun.before begun.bounds.hives (remaining c.args.reader.now) (contents c.args.writer.now) after s) (refusals_join l.has_refusal next.has_refusal status)
           (led.2 whole (own.0 ++ folding.0, refl) (with_refusal next.has_refusal status) after runs))
           c.with_refusal-in-Err.ensures.same c.with_refusal-in-Err.ensures.status
-          (not_folded whole led.0 l.start next here_at here.opened here.before here.bounds.hives seen (remaining l.reader) (contents l.writer) rest mid after c.in-Err.why c.write_refusal-ran.result stands ends c.in-Err.ensures.refused c.write_refusal-ran.ensures),
+          (not_folded whole led.0 l.start next true here_at here.opened here.before here.bounds.hives seen (remaining l.reader) (contents l.writer) rest mid after c.in-Err.why c.write_refusal-ran.result stands last_is ends c.in-Err.ensures.refused c.write_refusal-ran.ensures),
     )

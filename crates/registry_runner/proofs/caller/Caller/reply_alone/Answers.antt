@@ -9,5 +9,5 @@ returns-in-Write g c =
     let O = g.O.Origin in
     let old = c.args.session.now in
     let call = c.write-answer in
-    subst (λ asked. HearsAlone g.O.Start.start O.trees O.number O.hives c.args.moment old asked c.reply_to.result call.new.session) (sym c.in-Write.is)
-    (hears g.O.Start.start O.trees O.number O.hives old call.new.session (event.Write old.number c.args.moment c.in-Write.op) call.result c.reply_to.result c.reply_to.ensures call.ensures.seen call.ensures.number call.ensures.told call.ensures.denied)
+    subst (λ asked. HearsAlone g.O.Start.sole g.O.Start.start O.trees O.number O.hives c.args.moment old asked c.reply_to.result call.new.session) (sym c.in-Write.is)
+    (hears g.O.Start.sole g.O.Start.start O.trees O.number O.hives old call.new.session (event.Write old.number c.args.moment c.in-Write.op) call.result c.reply_to.result c.reply_to.ensures call.ensures.seen call.ensures.number call.ensures.told call.ensures.denied)

@@ -9,8 +9,8 @@ returns-in-Write g c =
     let O = g.O.Origin in
     let old = c.args.session.now in
     let call = c.write-answer in
-    subst (λ asked. HearsInside g.O.Start.start O.trees O.number O.hives c.args.moment c.args.tx old asked c.reply_to.result call.new.session) (sym c.in-Write.is)
-    (hears g.O.Start.start O.trees O.number O.hives old call.new.session (event.TxWrite old.number c.args.tx c.args.moment c.in-Write.op) call.result c.reply_to.result c.reply_to.ensures call.ensures.seen call.ensures.number call.ensures.told call.ensures.denied)
+    subst (λ asked. HearsInside g.O.Start.sole g.O.Start.start O.trees O.number O.hives c.args.moment c.args.tx old asked c.reply_to.result call.new.session) (sym c.in-Write.is)
+    (hears g.O.Start.sole g.O.Start.start O.trees O.number O.hives old call.new.session (event.TxWrite old.number c.args.tx c.args.moment c.in-Write.op) call.result c.reply_to.result c.reply_to.ensures call.ensures.seen call.ensures.number call.ensures.told call.ensures.denied)
 
 pub returns-in-Read : goal.returns-in-Read
 returns-in-Read g c =
@@ -18,5 +18,5 @@ returns-in-Read g c =
     let old = c.args.session.now in
     let call = c.look_up_transacted-answer in
     let asked = c.in-Read in
-    subst (λ asked. HearsInside g.O.Start.start O.trees O.number O.hives c.args.moment c.args.tx old asked c.reply_to-in-Read.result call.new.session) (sym c.in-Read.is)
-    (hears g.O.Start.start O.trees O.number O.hives old call.new.session (event.TxRead old.number c.args.tx asked.hive asked.path asked.question) call.result c.reply_to-in-Read.result c.reply_to-in-Read.ensures call.ensures.seen call.ensures.number call.ensures.told call.ensures.denied)
+    subst (λ asked. HearsInside g.O.Start.sole g.O.Start.start O.trees O.number O.hives c.args.moment c.args.tx old asked c.reply_to-in-Read.result call.new.session) (sym c.in-Read.is)
+    (hears g.O.Start.sole g.O.Start.start O.trees O.number O.hives old call.new.session (event.TxRead old.number c.args.tx asked.hive asked.path asked.question) call.result c.reply_to-in-Read.result c.reply_to-in-Read.ensures call.ensures.seen call.ensures.number call.ensures.told call.ensures.denied)

@@ -20,8 +20,8 @@ returns-in-Over g c whole past =
     let rest = g.B.Read.remaining c.run_lines.new.reader in
     let was = g.W.Write.contents c.args.writer.now in
     let is = g.W.Write.contents c.run_lines.new.writer in
-    let run = subst (λ e. EndsLoop (Answering whole past start.limit g.O.Start.start O.trees O.number O.hives view use_of) (Stopping whole past start.limit g.O.Start.start O.trees O.number O.hives view use_of) (λ line. line_asked line ≡ None) (Unanswered whole past start.limit g.O.Start.start O.trees O.number O.hives view use_of) old start.line known was e last rest is) c.in-Over.is c.in_ok-status.ensures in
-    ends_so whole past start.limit g.O.Start.start O.trees O.number O.hives view use_of old last start.line known was rest is c.requires.first c.requires.limit c.in-Over.status run
+    let run = subst (λ e. EndsLoop (Answering whole past start.limit g.O.Start.sole g.O.Start.start O.trees O.number O.hives view use_of) (Stopping whole past start.limit g.O.Start.sole g.O.Start.start O.trees O.number O.hives view use_of) (λ line. line_asked line ≡ None) (Unanswered whole past start.limit g.O.Start.sole g.O.Start.start O.trees O.number O.hives view use_of) old start.line known was e last rest is) c.in-Over.is c.in_ok-status.ensures in
+    ends_so whole past start.limit g.O.Start.sole g.O.Start.start O.trees O.number O.hives view use_of old last start.line known was rest is c.requires.first c.requires.limit c.in-Over.status run
 
 pub returns : goal.returns
 returns g c whole past =
@@ -36,5 +36,5 @@ returns g c whole past =
     let was = g.W.Write.contents c.args.writer.now in
     let is = g.W.Write.contents c.run_lines.new.writer in
     let at = c.in-Stopped in
-    let run = subst (λ e. EndsLoop (Answering whole past start.limit g.O.Start.start O.trees O.number O.hives view use_of) (Stopping whole past start.limit g.O.Start.start O.trees O.number O.hives view use_of) (λ line. line_asked line ≡ None) (Unanswered whole past start.limit g.O.Start.start O.trees O.number O.hives view use_of) old start.line known was e last rest is) at.is c.in_ok-status.ensures in
-    folds_so whole past start.limit g.O.Start.start O.trees O.number O.hives view use_of old last start.line known was rest is c.requires.first c.requires.limit at.why at.next at.has_refusal c.next_part-next.result run c.next_part-next.ensures
+    let run = subst (λ e. EndsLoop (Answering whole past start.limit g.O.Start.sole g.O.Start.start O.trees O.number O.hives view use_of) (Stopping whole past start.limit g.O.Start.sole g.O.Start.start O.trees O.number O.hives view use_of) (λ line. line_asked line ≡ None) (Unanswered whole past start.limit g.O.Start.sole g.O.Start.start O.trees O.number O.hives view use_of) old start.line known was e last rest is) at.is c.in_ok-status.ensures in
+    folds_so whole past start.limit g.O.Start.sole g.O.Start.start O.trees O.number O.hives view use_of old last start.line known was rest is c.requires.first c.requires.limit at.why at.next at.has_refusal c.next_part-next.result run c.next_part-next.ensures

@@ -23,7 +23,7 @@ returns-in-GoOn g c =
       (
         c.work_between_lines.ensures.same.0,
         c.work_between_lines.ensures.same.1,
-        λ begins past. answered_then past c.args.self.now.history.limit g.O.Start.start O.trees O.number O.hives (script_of c.args.self.now.script) (script_of c.reply_to.new.self) (script_of c.work_between_lines.new.script) c.args.line.now
+        λ begins past. answered_then past c.args.self.now.history.limit g.O.Start.sole g.O.Start.start O.trees O.number O.hives (script_of c.args.self.now.script) (script_of c.reply_to.new.self) (script_of c.work_between_lines.new.script) c.args.line.now
             arm.field-0 arm.reply written.is_refusal c.number_told-told.result worked.field-0 (GoOn c.in-GoOn.has_failed) (cc (arm.field-0-is, arm.field-0-0-is)) arm.ensures.some written.ensures.0 c.number_told-told.ensures c.in-GoOn.is (worked.ensures.between past begins),
       ),
       appends_kept before reported (contents c.work_between_lines.new.writer) text (kept_appends before out reported text c.in_ok-write_out.ensures written.ensures.1) worked.ensures.kept,
@@ -45,7 +45,7 @@ returns-in-Ok-Some-Reply g c =
       (
         c.work_between_lines.ensures.same.0,
         c.work_between_lines.ensures.same.1,
-        λ begins past. answered_then past c.args.self.now.history.limit g.O.Start.start O.trees O.number O.hives (script_of c.args.self.now.script) (script_of c.reply_to.new.self) (script_of c.work_between_lines.new.script) c.args.line.now
+        λ begins past. answered_then past c.args.self.now.history.limit g.O.Start.sole g.O.Start.start O.trees O.number O.hives (script_of c.args.self.now.script) (script_of c.reply_to.new.self) (script_of c.work_between_lines.new.script) c.args.line.now
             arm.field-0 arm.reply written.is_refusal c.number_told-told.result worked.field-0 ToFold (cc (arm.field-0-is, arm.field-0-0-is)) arm.ensures.some written.ensures.0 c.number_told-told.ensures c.in-ToFold.is (worked.ensures.between past begins),
       ),
       appends_kept before reported (contents c.work_between_lines.new.writer) text (kept_appends before out reported text c.in_ok-write_out.ensures written.ensures.1) worked.ensures.kept,
@@ -62,7 +62,7 @@ returns-in-Ok-Some-ToFold g c =
       (
         refl,
         refl,
-        λ begins past. folds_line past c.args.self.now.history.limit g.O.Start.start O.trees O.number O.hives (script_of c.args.self.now.script) (script_of c.reply_to.new.self) c.args.line.now arm.field-0 (cc (arm.field-0-is, arm.field-0-0-is)) arm.ensures.some,
+        λ begins past. folds_line past c.args.self.now.history.limit g.O.Start.sole g.O.Start.start O.trees O.number O.hives (script_of c.args.self.now.script) (script_of c.reply_to.new.self) c.args.line.now arm.field-0 (cc (arm.field-0-is, arm.field-0-0-is)) arm.ensures.some,
       ),
       kept_appends (contents c.args.writer.now) out out [] c.in_ok-write_out.ensures (appends_nothing out),
     )

@@ -8,7 +8,7 @@ returns-in-Err-clause-ok g c =
     let O = g.O.Origin in
     let old = c.args.self.now.session in
     inl (inr (record {
-      hears = hears_denied g.O.Start.start O.trees O.number O.hives old c.create_transaction.new.session (event.Begin old.number c.args.id) c.in-Err.denied c.denied_reply.result c.denied_reply.ensures c.create_transaction.ensures.seen c.create_transaction.ensures.number c.in-Err.ensures.denied;
+      hears = hears_denied g.O.Start.sole g.O.Start.start O.trees O.number O.hives old c.create_transaction.new.session (event.Begin old.number c.args.id) c.in-Err.denied c.denied_reply.result c.denied_reply.ensures c.create_transaction.ensures.seen c.create_transaction.ensures.number c.in-Err.ensures.denied;
       rest = refl;
       names = c.make_room.ensures.same;
     }))

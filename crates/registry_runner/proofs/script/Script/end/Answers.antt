@@ -1,20 +1,20 @@
-use Rattle.std.proofs.Common.{ap, inr}
+use Rattle.std.proofs.Common.{ap, inr, subst}
 use Rattle.store_model.specs.declared.event.Event.TheVariants as event
+use Rattle.ktm_calls.specs.Moments.{Sight}
+use Rattle.registry_runner.specs.Heard.{IsHeard}
 use Rattle.registry_runner.specs.Scripts.{Script}
-use Rattle.registry_runner.proofs.Hearing.{ends_heard}
+use Rattle.registry_runner.proofs.Hearing.{heard_so}
 use Rattle.registry_runner.proofs.script.Script.end.Goals as goal
 
 pub returns-in-Some-clause-ok : goal.returns-in-Some-clause-ok
 returns-in-Some-clause-ok g c =
     let O = g.O.Origin in
-    let session = c.in-Some.session in
-    let call = c.leave_session-answer in
+    let S = g.O.Start in
+    let call = c.end_handle-answer in
+    let ends = event.EndSession c.in-Some.handle in
+    let heard = heard_so S.sole S.start O.trees O.number O.hives c.take.new.self.session call.new.session ends call.result c.reply_to.result c.reply_to.ensures call.ensures.told call.ensures.denied in
     inr (
-      session.number,
-      session.seen,
-      call.result.1,
-      ends_heard g.O.Start.start O.trees O.number O.hives session.number session.seen call.result.1 (event.EndSession session.number) call.result.0 c.reply_to.result c.reply_to.ensures call.ensures.told call.ensures.denied,
-      ap (λ (s : Script). record s { session = c.see.new.self }) c.take.ensures.some,
-      c.in-Some.ensures.seen,
-      c.see.ensures.learnt,
+      c.in-Some.handle,
+      subst (λ (s : Sight). IsHeard S.sole S.start O.trees O.number O.hives (record { number = 0; seen = s }) ends c.reply_to.result call.new.session) c.take.ensures.seen heard,
+      ap (λ (s : Script). record s { session = call.new.session }) c.take.ensures.some,
     )

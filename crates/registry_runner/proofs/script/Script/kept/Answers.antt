@@ -1,19 +1,19 @@
 use Rattle.std.proofs.Common.{inl, inr, refl}
 use Rattle.store_model.specs.declared.event.Event.TheVariants as event
-use Rattle.registry_runner.proofs.Hearing.{hears_denied, same_history}
+use Rattle.registry_runner.proofs.Hearing.{hears_denied, rests}
 use Rattle.registry_runner.proofs.script.Script.kept.Goals as goal
 
 pub returns-in-Ok : goal.returns-in-Ok
-returns-in-Ok g c = inl ((record { number = c.outcome_of.ensures.number; seen = record { list = c.outcome_of.ensures.later; history = same_history c.outcome_of.ensures.history } }, inl (c.in-Ok.number, c.in-Ok.ensures.found, refl)), refl)
+returns-in-Ok g c = inl ((rests g.O.Start.sole c.args.self.now.session c.outcome_of.new.self c.outcome_of.ensures.number c.outcome_of.ensures.later c.outcome_of.ensures.history, inl (c.in-Ok.number, c.in-Ok.ensures.found, refl)), refl)
 
 pub returns-in-Err : goal.returns-in-Err
-returns-in-Err g c = inl ((record { number = c.outcome_of.ensures.number; seen = record { list = c.outcome_of.ensures.later; history = same_history c.outcome_of.ensures.history } }, inr (c.in-Err.refusal, c.in-Err.ensures.refused, refl)), refl)
+returns-in-Err g c = inl ((rests g.O.Start.sole c.args.self.now.session c.outcome_of.new.self c.outcome_of.ensures.number c.outcome_of.ensures.later c.outcome_of.ensures.history, inr (c.in-Err.refusal, c.in-Err.ensures.refused, refl)), refl)
 
 pub returns-in-Err-outcome_of : goal.returns-in-Err-outcome_of
 returns-in-Err-outcome_of g c =
     let O = g.O.Origin in
     inr (
-      hears_denied g.O.Start.start O.trees O.number O.hives c.args.self.now.session c.outcome_of-2.new.session (event.OutcomeOf c.args.id) c.in-Err-outcome_of.denied c.denied_reply.result c.denied_reply.ensures
+      hears_denied g.O.Start.sole g.O.Start.start O.trees O.number O.hives c.args.self.now.session c.outcome_of-2.new.session (event.OutcomeOf c.args.id) c.in-Err-outcome_of.denied c.denied_reply.result c.denied_reply.ensures
           c.outcome_of-2.ensures.seen c.outcome_of-2.ensures.number c.in-Err-outcome_of.ensures.denied,
       refl,
     )

@@ -9,4 +9,4 @@ returns-clause-ok g c =
     let old = c.args.self.now.session in
     let call = c.rollback_transaction-answer in
     labelled _ c.in_ok-tx.tx _ _ _ _ c.in_ok-tx.ensures.ok
-    (hears g.O.Start.start O.trees O.number O.hives old call.new.session (event.Rollback old.number c.in_ok-tx.tx) call.result c.reply_to.result c.reply_to.ensures call.ensures.seen call.ensures.number call.ensures.told call.ensures.denied, refl)
+    (hears g.O.Start.sole g.O.Start.start O.trees O.number O.hives old call.new.session (event.Rollback old.number c.in_ok-tx.tx) call.result c.reply_to.result c.reply_to.ensures call.ensures.seen call.ensures.number call.ensures.told call.ensures.denied, refl)
