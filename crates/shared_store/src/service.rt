@@ -1,5 +1,5 @@
 //! The service of a store to the threads of a client.
-ghost use Rattle.std.specs.Prelude.{◌≡◌, ◌⊎◌, ◌<◌, ℕ, [], IfOk, IfErr};
+ghost use Rattle.std.specs.Prelude.{◌≡◌, ◌⊎◌, ◌<◌, ℕ, [], false, IfOk, IfErr};
 ghost use Rattle.refusals.specs.declared.refusal.Refusal.TheVariants.{NoMemory, NoSeat};
 ghost use Rattle.recovery.specs.Recovered.{seen_in};
 ghost use Rattle.store_model.specs.Machine.{Machine};
@@ -12,13 +12,14 @@ ghost use Rattle.shared_store.specs.Serving.{KeepsStore, MayNotServe};
 use crate::client::Client;
 use disk_model::Disk;
 use flusher::{Worker, run_beside_from, run_workers};
-use histories::{EventCount, Start};
-use ktm_calls::{Ended, Registry, Stopped, Told};
+use histories::{EventCount, Permission, RequestCount, Start};
+use ktm_calls::{Asker, Ended, Registry, Stopped, Told};
 use published_trees::{ChangeCount, SeenChanges};
 use refusals::Refusal;
 use std::alloc::Global;
-use std::marker::Brand;
+use std::marker::{Brand, PhantomData};
 use std::sync::Wait;
+use std::sync::ledger::Blank;
 use std::thread::Threads;
 use store_driver::{BUSY_ROOM, open_engine};
 use store_engine::StoreEngine;
@@ -64,6 +65,7 @@ pub fn serve<D: Disk + Send, C: Client<R> + Sync, R: Threads + Wait + Sync>(
         rt,
         alloc,
         engine,
+        Blank::new(1),
         EventCount::open(),
         count,
         seen,
@@ -96,11 +98,14 @@ fn serve_over<
     rt: &R,
     alloc: Global,
     engine: E,
+    blank: Blank,
     events: EventCount,
     count: ChangeCount,
     seen: SeenChanges,
     sharing: Sharing<'_, C>,
 ) -> (E, Result<Served, Refusal>)
+    requires shared { O.sole ≡ false }
+    requires blank { (blank.name ≡ O.name) × (blank.parts ≡ O.parts) }
     requires book { (count ≡ O.book) × (seen ≡ record { book = O.book; list = [] }) }
     requires events { events ≡ record { book = O.history; log = [] } }
     requires store { E.store engine ≡ O.store }
@@ -118,18 +123,20 @@ fn serve_over<
     ensures refused { IfErr result.1 (λ why. (why ≡ NoMemory) ⊎ (why ≡ NoSeat)) }
 {
     engine.keeps_a_prefix(); // for the prover
-    let registry = match Registry::<E, O>::new(alloc, rt, engine, events, count, seen) {
+    let (requests, _share) = blank.open::<O>();
+    let requests = RequestCount::new(requests);
+    let asker = Asker::first(&events, &seen, Permission::shared());
+    let registry = match Registry::<E, O>::new(alloc, rt, engine, events, requests, count, seen) {
         Ok(registry) => registry,
         Err((why, engine)) => return (engine, Err(why)),
     };
     let opened = sharing.opened;
     let flushed = share(rt, &registry, sharing);
-    let seen = registry.all_seen(rt);
     let Ended {
         engine,
         events: _,
         durable,
-    } = registry.end(rt, &seen, Vec::new(alloc));
+    } = registry.end(rt, asker, Vec::new(alloc));
     let served = Served {
         opened,
         durable,
@@ -138,13 +145,16 @@ fn serve_over<
     (engine, Ok(served))
 }
 
-// a client as a worker on threads
+// a client as a worker on the threads of a registry in which each may ask
 #[derive(Drop)]
-struct ClientThreads<'a, C> {
+struct ClientThreads<'a, C, O: Start> {
     client: &'a C,
+    of: PhantomData<O>,
+    ghost shared: { O.sole ≡ false },
 }
 
-impl<'a, C: Client<R>, E: StoreEngine, O: Start, R: Wait> Worker<E, O, R> for ClientThreads<'a, C> {
+impl<'a, C: Client<R>, E: StoreEngine, O: Start, R: Wait> Worker<E, O, R>
+    for ClientThreads<'a, C, O> {
     fn work(&self, rt: &R, registry: &Registry<E, O>, index: usize) {
         self.client.run(rt, registry, index);
     }
@@ -156,13 +166,18 @@ fn share<
     E: StoreEngine + Send,
     C: Client<R> + Sync,
     R: Threads + Wait + Sync,
->(rt: &R, registry: &Registry<E, O>, sharing: Sharing<'_, C>) -> Result<Stopped, Told> {
+>(rt: &R, registry: &Registry<E, O>, sharing: Sharing<'_, C>) -> Result<Stopped, Told>
+    requires shared { O.sole ≡ false }
+{
     let Sharing {
         client,
         threads,
         opened: _,
     } = sharing;
-    let worker = ClientThreads { client };
+    let worker: ClientThreads<'_, C, O> = ClientThreads {
+        client,
+        of: PhantomData,
+    };
     let (_done, flushed) = run_beside_from(rt, registry, BUSY_ROOM, || {
         run_workers(rt, registry, &worker, threads)
     });

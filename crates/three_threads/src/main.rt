@@ -1,6 +1,8 @@
 //! Makes a store in the folder `store`. Three threads count in it, while a flusher moves their changes into its hive.
 #![tactic(auto)]
 
+ghost use Rattle.std.specs.Prelude.{◌≡◌, false};
+
 use file_disk::{FileDisk, Unknown};
 use histories::Start;
 use ktm_calls::{Key, Registry};
@@ -39,7 +41,9 @@ fn count<E: StoreEngine, O: Start, R: Wait>(
     alloc: Global,
     registry: &Registry<E, O>,
     letter: u16,
-) -> Result<(), Refusal> {
+) -> Result<(), Refusal>
+    requires shared { O.sole ≡ false }
+{
     let (mut session, _) = registry.session(rt)?;
     let mut key = Key::new(0, Path::parse(alloc, &[letter])?);
     registry.reg_create_key(rt, &mut session, &key, 0)?;
