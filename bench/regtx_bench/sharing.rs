@@ -8,13 +8,14 @@ use crate::store::opened_store;
 use crate::trouble::Trouble;
 use crate::words::Work;
 use disk_model::Disk;
-use histories::{EventCount, Start};
-use ktm_calls::{Ended, Registry};
+use histories::{EventCount, Permission, RequestCount, Start};
+use ktm_calls::{Asker, Ended, Registry};
 use published_trees::{ChangeCount, SeenChanges};
 use std::alloc::Global;
 use std::marker::Brand;
 use std::sync::Wait;
 use std::sync::atomic::AtomicU64;
+use std::sync::ledger::Blank;
 use std::thread::Threads;
 use std::time::Clock;
 use store_engine::StoreEngine;
@@ -48,17 +49,20 @@ fn measure_shared<
     work: Work,
     syncs: &AtomicU64,
 ) -> Result<(), Trouble> {
-    let registry = match Registry::<E, O>::new(alloc, rt, engine, EventCount::open(), count, seen) {
+    let (requests, _share) = Blank::new(1).open::<O>();
+    let requests = RequestCount::new(requests);
+    let events = EventCount::open();
+    let asker = Asker::first(&events, &seen, Permission::shared());
+    let registry = match Registry::<E, O>::new(alloc, rt, engine, events, requests, count, seen) {
         Ok(registry) => registry,
         Err((why, _engine)) => return Err(Trouble::Refused(why)),
     };
     let done = measure_on(rt, alloc, &registry, work, syncs);
-    let seen = registry.all_seen(rt);
     let Ended {
         engine: _,
         events: _,
         durable: _,
-    } = registry.end(rt, &seen, Vec::new(alloc));
+    } = registry.end(rt, asker, Vec::new(alloc));
     done
 }
 

@@ -2,13 +2,17 @@
 //!
 //! The promises of the calls themselves would be stated at each step of a test, though no test relies on them.
 use disk_model::Progress;
-use histories::Start;
-use ktm_calls::{Denied, Disposition, EventKind, Key, Receipt, Registry, Session, Told, Turn};
+use histories::{EventCount, Permission, RequestCount, Start};
+use ktm_calls::{
+    Asker, Denied, Disposition, EventKind, Key, Receipt, Registry, Session, Told, Turn,
+};
+use published_trees::{ChangeCount, SeenChanges};
 use refusals::Refusal;
 use reg_names::{Name, Path};
 use reg_tree::{Data, Info, Value};
 use std::alloc::Global;
 use std::sync::Wait;
+use std::sync::ledger::Blank;
 use store_engine::StoreEngine;
 use store_model::{Outcome, ReadResult, Reply, Tx};
 use uuid::Uuid;
@@ -159,6 +163,24 @@ fn counts_of(info: Info) -> Answer {
     Answer::Counts(subkeys, values, time)
 }
 
+/// A registry over an engine that was just opened, in which each may ask, and one who has seen nothing of it yet.
+pub fn share<E: StoreEngine + Drop, O: Start, R: Wait>(
+    rt: &R,
+    alloc: Global,
+    engine: E,
+    count: ChangeCount,
+    seen: SeenChanges,
+) -> Result<(Registry<E, O>, Asker<O>), Refusal> {
+    let (requests, _share) = Blank::new(1).open::<O>();
+    let requests = RequestCount::new(requests);
+    let events = EventCount::open();
+    let asker = Asker::first(&events, &seen, Permission::shared());
+    match Registry::<E, O>::new(alloc, rt, engine, events, requests, count, seen) {
+        Ok(registry) => Ok((registry, asker)),
+        Err((why, _engine)) => Err(why),
+    }
+}
+
 /// A registry, as a test calls it.
 pub struct Calls<'a, E: StoreEngine, O: Start, R: Wait> {
     /// The runtime.
@@ -188,9 +210,15 @@ impl<'a, E: StoreEngine, O: Start, R: Wait> Calls<'a, E, O, R> {
         }
     }
 
-    /// A session that isn't open.
-    pub fn closed(&self) -> Session<O> {
-        self.registry.closed_session(self.rt)
+    /// A session that isn't open: one that was, and has ended.
+    pub fn closed(&self) -> Result<Session<O>, Refusal> {
+        let mut session = self.start()?;
+        let closed = session.closed_handle();
+        let open = session.switch_to(closed);
+        match self.registry.end_handle(self.rt, open, &mut session) {
+            Ok(_told) => Ok(session),
+            Err(denied) => Err(refusal_of(denied)),
+        }
     }
 
     /// Ends a session.

@@ -1,13 +1,13 @@
 //! One engine whose history may have two changes, in one registry after another, with a fold after each.
 
-use crate::registries::calls::{Answer, Calls};
+use crate::registries::calls::{Answer, Calls, share};
 use crate::registries::device::{Device, NO_FAILURE, TestDisk};
 use crate::registries::playing::{make, open};
 use crate::registries::sharing::key_of;
 use engine::Engine;
-use histories::{EventCount, Start};
+use histories::Start;
 use ktm_calls::laws::folded_engines_are_shared_again;
-use ktm_calls::{Ended, Registry, Session};
+use ktm_calls::{Ended, Session};
 use published_trees::{ChangeCount, SeenChanges};
 use refusals::Refusal;
 use reg_tree::Info;
@@ -80,10 +80,7 @@ fn take_turn<O: Start, E: StoreEngine + Drop, R: Wait>(
     seen: SeenChanges,
     numbers: &[u64; 2],
 ) -> Result<Option<E>, Refusal> {
-    let registry = match Registry::<E, O>::new(alloc, rt, engine, EventCount::open(), count, seen) {
-        Ok(registry) => registry,
-        Err((why, _engine)) => return Err(why),
-    };
+    let (registry, asker) = share::<E, O, R>(rt, alloc, engine, count, seen)?;
     let filled = fill(
         &Calls {
             rt,
@@ -92,12 +89,11 @@ fn take_turn<O: Start, E: StoreEngine + Drop, R: Wait>(
         },
         numbers,
     );
-    let seen = registry.all_seen(rt);
     let Ended {
         mut engine,
         events: _,
         durable: _,
-    } = registry.end(rt, &seen, Vec::new(alloc));
+    } = registry.end(rt, asker, Vec::new(alloc));
     let is_filled = filled?;
     folded_engines_are_shared_again();
     match engine.event(Event::Fold) {

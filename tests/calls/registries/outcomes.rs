@@ -1,11 +1,11 @@
 //! More commits than a store keeps, each of a unit of work of its own, and what a session is told of them.
 
-use crate::registries::calls::{Answer, Calls};
+use crate::registries::calls::{Answer, Calls, share};
 use crate::registries::device::{Device, NO_FAILURE};
 use crate::registries::playing::new_engine;
 use crate::registries::sharing::key_of;
-use histories::{EventCount, Start};
-use ktm_calls::{Ended, Key, Registry, Session};
+use histories::Start;
+use ktm_calls::{Ended, Key, Session};
 use published_trees::{ChangeCount, SeenChanges};
 use refusals::Refusal;
 use std::alloc::Global;
@@ -87,21 +87,17 @@ fn play_over<O: Start, E: StoreEngine + Drop, R: Wait>(
     count: ChangeCount,
     seen: SeenChanges,
 ) -> Result<bool, Refusal> {
-    let registry = match Registry::<E, O>::new(alloc, rt, engine, EventCount::open(), count, seen) {
-        Ok(registry) => registry,
-        Err((why, _engine)) => return Err(why),
-    };
+    let (registry, asker) = share::<E, O, R>(rt, alloc, engine, count, seen)?;
     let is_well = is_all_told(&Calls {
         rt,
         alloc,
         registry: &registry,
     });
-    let seen = registry.all_seen(rt);
     let Ended {
         engine: _,
         events: _,
         durable: _,
-    } = registry.end(rt, &seen, Vec::new(alloc));
+    } = registry.end(rt, asker, Vec::new(alloc));
     is_well
 }
 

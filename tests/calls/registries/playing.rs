@@ -1,6 +1,6 @@
 //! A registry over a new store on a disk in memory, and what is played on it.
 
-use crate::registries::calls::Calls;
+use crate::registries::calls::{Calls, share};
 use crate::registries::committers::Committers;
 use crate::registries::device::{Device, TestDisk};
 use crate::registries::flushing::Holding;
@@ -9,8 +9,8 @@ use crate::registries::sharing::Sharing;
 use crate::registries::steps::Wrong;
 use crate::registries::{committers, flushing, handing_over, sharing, steps};
 use engine::Engine;
-use histories::{EventCount, Start};
-use ktm_calls::{Ended, Receipt, Registry, Session};
+use histories::Start;
+use ktm_calls::{Asker, Ended, Receipt, Registry, Session};
 use published_trees::{ChangeCount, MOST_READERS, SeenChanges};
 use recovery::Opened;
 use refusals::Refusal;
@@ -125,17 +125,14 @@ fn play_over<O: Start + Send + Sync, E: StoreEngine + Drop + Send, R: Threads + 
     seen: SeenChanges,
     scene: Scene<'_>,
 ) -> Result<Played, Refusal> {
-    let registry = match Registry::<E, O>::new(alloc, rt, engine, EventCount::open(), count, seen) {
-        Ok(registry) => registry,
-        Err((why, _engine)) => return Err(why),
-    };
+    let (registry, asker) = share::<E, O, R>(rt, alloc, engine, count, seen)?;
     let mut left = Left {
         sessions: Vec::new(alloc),
         transactions: Vec::new(alloc),
         receipts: Vec::new(alloc),
     };
     let wrong = play_on(rt, alloc, device, &registry, scene, &mut left);
-    end(rt, alloc, registry, left, wrong)
+    end(rt, alloc, registry, asker, left, wrong)
 }
 
 // ends the registry
@@ -143,6 +140,7 @@ fn end<O: Start, E: StoreEngine + Drop, R: Wait>(
     rt: &R,
     alloc: Global,
     registry: Registry<E, O>,
+    asker: Asker<O>,
     left: Left<O>,
     wrong: Result<Option<Wrong>, Refusal>,
 ) -> Result<Played, Refusal> {
@@ -151,12 +149,11 @@ fn end<O: Start, E: StoreEngine + Drop, R: Wait>(
         transactions: _,
         receipts,
     } = left;
-    let seen = registry.all_seen(rt);
     let Ended {
         mut engine,
         events: _,
         durable,
-    } = registry.end(rt, &seen, receipts);
+    } = registry.end(rt, asker, receipts);
     Ok(Played {
         wrong: wrong?,
         durable,

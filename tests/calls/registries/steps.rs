@@ -224,7 +224,7 @@ impl<O: Start> Left<O> {
         &mut self,
         calls: &Calls<'_, E, O, R>,
     ) -> Result<Answer, Refusal> {
-        let session = calls.closed();
+        let session = calls.closed()?;
         let number = session.number();
         self.sessions.push(session)?;
         Ok(Answer::Session(number))

@@ -14,13 +14,14 @@ use crate::oom::registry_calls::{Call, Calls, key_of, refusal_of};
 use crate::oom::watched_disk::DiskWatch;
 use crate::oom::{OomDisk, WatchedEngine, expect_no_memory, refused_again};
 use engine::Engine;
-use histories::{EventCount, Start};
-use ktm_calls::{Ended, Key, Registry, Session};
+use histories::{EventCount, Permission, RequestCount, Start};
+use ktm_calls::{Asker, Ended, Key, Registry, Session};
 use published_trees::{ChangeCount, SeenChanges};
 use refusals::Refusal;
 use std::alloc::Global;
 use std::marker::Brand;
 use std::sync::Wait;
+use std::sync::ledger::Blank;
 use store_engine::StoreEngine;
 use store_model::Outcome;
 
@@ -239,7 +240,11 @@ fn live_over<O: Start, E: StoreEngine + Drop, R: Wait>(
     watch: &DiskWatch,
     patience: Patience,
 ) -> Result<(E, Result<bool, Fault>), (Refusal, E)> {
-    let registry = match Registry::<E, O>::new(alloc, rt, engine, EventCount::open(), count, seen) {
+    let (requests, _share) = Blank::new(1).open::<O>();
+    let requests = RequestCount::new(requests);
+    let events = EventCount::open();
+    let asker = Asker::first(&events, &seen, Permission::shared());
+    let registry = match Registry::<E, O>::new(alloc, rt, engine, events, requests, count, seen) {
         Ok(registry) => registry,
         Err(back) => return Err(back),
     };
@@ -252,12 +257,11 @@ fn live_over<O: Start, E: StoreEngine + Drop, R: Wait>(
         },
         patience,
     );
-    let seen = registry.all_seen(rt);
     let Ended {
         engine,
         events: _,
         durable: _,
-    } = registry.end(rt, &seen, Vec::new(alloc));
+    } = registry.end(rt, asker, Vec::new(alloc));
     Ok((engine, lived))
 }
 
