@@ -7,9 +7,9 @@ use Rattle.logbook.proofs.word.Word.TheSendSync as word
 use Rattle.histories.specs.contracts.book.EventCount as EventCount
 use Rattle.histories.specs.contracts.book.SeenEvents as SeenEvents
 use Rattle.histories.specs.declared.start.Start as Start
-use Rattle.core.specs.declared.ledger.Ledger as Ledger
-use Rattle.core.proofs.ledger.Book.TheSendSync as book
-use Rattle.core.proofs.ledger.Share.TheSendSync as share
+use Rattle.std.specs.declared.sync.ledger.Ledger as Ledger
+use Rattle.std.proofs.sync.ledger.Book.TheSendSync as book
+use Rattle.std.proofs.sync.ledger.Share.TheSendSync as share
 use Rattle.published_trees.specs.contracts.change_list.ChangeCount as ChangeCount
 use Rattle.published_trees.specs.contracts.publication.Publication as Publication
 use Rattle.published_trees.specs.declared.origin.Origin as Origin
