@@ -7,7 +7,8 @@ ghost use Rattle.commit_journal.specs.Store.{IsStore, Store, all_hives};
 ghost use Rattle.store_model.specs.Machine.{Machine, is_of_device};
 ghost use Rattle.store_model.specs.declared.event.Reply.TheVariants.{Refused};
 ghost use Rattle.engine.specs.Lives.{AreLives, EachLifeContinues, IsSafe, Life, ReadsSafely, end_of as end_of_life};
-ghost use Rattle.histories.specs.Points.{HistoryEntry, Point};
+ghost use Rattle.engine_invariant.specs.Engines.{EngineView};
+ghost use Rattle.histories.specs.Points.{HistoryEntry};
 ghost use Rattle.histories.specs.Histories.{AreSafe, HasBoundary, IsHistory, end_of};
 ghost use Rattle.histories.specs.ProgramRuns.{AreProgramRuns, ProgramRun};
 
@@ -18,11 +19,11 @@ use store_engine::StoreEngine;
 /// - `after`: a moment from the end of a beginning on is that of a boundary that isn't before it, which is safe then.
 /// - `durable`: what was durable at the end of a beginning is durable at the end.
 pub fn moments_are_safe<E: StoreEngine>(engine: &E)
-    ensures after { (start : Point) (first history : List HistoryEntry) (moment : ℕ) →
+    ensures after { (start : EngineView) (first history : List HistoryEntry) (moment : ℕ) →
         IsHistory start history → AreSafe (E.safe engine.now) start history → IsPrefix first history →
         (end_of start first).clock ≤ moment → moment ≤ (end_of start history).clock →
         HasBoundary (E.safe engine.now) start first history moment }
-    ensures durable { (start : Point) (first history : List HistoryEntry) → IsHistory start history →
+    ensures durable { (start : EngineView) (first history : List HistoryEntry) → IsHistory start history →
         IsPrefix first history → (end_of start first).machine.durable ≤ (end_of start history).machine.durable }
 {
     let _ = engine;
@@ -31,7 +32,7 @@ pub fn moments_are_safe<E: StoreEngine>(engine: &E)
 /// A refusal that is about the device is answered in a history only if the device failed in it. Or the store was faulted
 /// as it began.
 pub fn faults_are_failures()
-    ensures { (start : Point) (past rest : List HistoryEntry) (entry : HistoryEntry) (why : Refusal) →
+    ensures { (start : EngineView) (past rest : List HistoryEntry) (entry : HistoryEntry) (why : Refusal) →
         IsHistory start (past ++ entry ∷ rest) → entry.reply ≡ Refused why → is_of_device why ≡ true →
         (start.machine.faulted ≡ true) ⊎ (start.failures < (end_of start (past ++ entry ∷ rest)).failures) }
 {}

@@ -1,6 +1,6 @@
 //! What the history notes of an event.
 ghost use Rattle.std.specs.Prelude.{◌≡◌};
-ghost use Rattle.histories.specs.Points.{entry_of, point_of};
+ghost use Rattle.histories.specs.Points.{entry_of};
 
 use std::marker::Model;
 use std::snapshot::Snapshot;
@@ -31,21 +31,19 @@ pub struct Noted<E: StoreEngine> {
 }
 
 impl<E: StoreEngine> Model for Noted<E> {
-    ghost use Rattle.histories.specs.Points.{HistoryEntry, entry_code, entry_of, point_of};
+    ghost use Rattle.histories.specs.Points.{HistoryEntry, entry_code, entry_of};
 
     ghost Value = { HistoryEntry };
 
     ghost coded = { entry_code };
 
-    ghost view = { λ n. entry_of n.event.value n.reply.value
-        (point_of (E.machine n.engine.value) (E.clock n.engine.value) (E.failures n.engine.value)) };
+    ghost view = { λ n. entry_of n.event.value n.reply.value (E.state n.engine.value) };
 }
 
 impl<E: StoreEngine> Noted<E> {
     /// That an event was answered so, and that the engine is so then.
     pub fn of(event: Snapshot<Event>, reply: &Reply, engine: &E) -> Noted<E>
-        ensures { result ≡ entry_of event.value reply.now
-            (point_of (E.machine engine.now) (E.clock engine.now) (E.failures engine.now)) }
+        ensures { result ≡ entry_of event.value reply.now (E.state engine.now) }
     {
         Noted {
             event,

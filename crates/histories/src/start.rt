@@ -3,7 +3,7 @@ use published_trees::Origin;
 use std::marker::Brand;
 use std::sync::ledger::Ledger;
 
-/// Where a history begins: its book, and the store before its first event. It names one history, so that what was seen of
+/// Where a history begins: its book, and the engine before its first event. It names one history, so that what was seen of
 /// two has two types. Each call of a program may choose it.
 ///
 /// As a ledger it counts the events that are asked for, if one owner alone may ask.
@@ -12,13 +12,13 @@ pub trait Start: Origin + Ledger {
     ghost use Rattle.logbook.specs.Pages.{Book};
     ghost use Rattle.commit_journal.specs.Store.{Store};
     ghost use Rattle.store_model.specs.Machine.{Machine};
-    ghost use Rattle.histories.specs.Points.{Point};
+    ghost use Rattle.engine_invariant.specs.Engines.{EngineView};
 
     /// The book of the history.
     ghost history: { Book };
 
-    /// The store before the first event.
-    ghost start: { Point };
+    /// The engine before the first event.
+    ghost start: { EngineView };
 
     /// The store whose files are on the device.
     ghost store: { Store };
@@ -36,11 +36,11 @@ pub trait Start: Origin + Ledger {
 impl Start for Brand {
     ghost use Rattle.std.specs.Prelude.{[], false};
     ghost use Rattle.commit_journal.specs.declared.store_layout.Layout.TheVariants.{HivesAlone};
-    ghost use Rattle.histories.specs.Points.{no_point};
+    ghost use Rattle.histories.specs.Points.{no_view};
 
     ghost history = { record { number = 0; log_name = 0; cells_name = 0 } };
 
-    ghost start = { no_point 0 };
+    ghost start = { no_view 0 };
 
     ghost store = { record { id = []; hives = 0; layout = HivesAlone } };
 

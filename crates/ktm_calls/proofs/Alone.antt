@@ -8,13 +8,13 @@ use Rattle.ktm_calls.specs.Answers.{WriteStands}
 use Rattle.ktm_calls.specs.Calls.{IsDeniedAlone}
 use Rattle.ktm_calls.specs.Denials.{IsDenied}
 use Rattle.ktm_calls.specs.Kinds.{Told}
-use Rattle.histories.specs.Points.{Point}
+use Rattle.engine_invariant.specs.Engines.{EngineView}
 use Rattle.ktm_calls.specs.Moments.{Sight, Tells}
 use Rattle.ktm_calls.specs.declared.registry.Denied.{Denied}
 use Rattle.ktm_calls.specs.declared.registry.Denied.TheVariants as denied
 use Rattle.ktm_calls.proofs.Answering.{write_stands}
 
-module _ (sole : Bool) (start : Point) (trees : List TreeMap) (number hives : ℕ) (was is : Sight) (session moment : ℕ) (op : Op) where
+module _ (sole : Bool) (start : EngineView) (trees : List TreeMap) (number hives : ℕ) (was is : Sight) (session moment : ℕ) (op : Op) where
   pub alone_stands : (r : Result Told Denied) → IfOk r (λ t. Tells sole start trees number hives was is (event.Write session moment op) t) → IfOk r (λ t. WriteStands trees number hives is.list moment op t.reply)
   alone_stands (Ok t) h = write_stands trees number hives was.list is.list session moment op t.reply h.answered
   alone_stands (Err e) h = tt

@@ -1,15 +1,11 @@
 -- Events that end sessions, one after another.
-use Rattle.std.proofs.Common.{◌≡◌, ◌∙◌, Bool, true, List, [], ◌∷◌, ◌++◌, refl, append_assoc, ap, sym, arith}
-use Rattle.std.proofs.lemmas.List.{append-nil}
+use Rattle.std.proofs.Common.{◌≡◌, ◌∙◌, Bool, true, List, [], ◌∷◌, ◌++◌, refl, append_assoc, ap}
 use Rattle.std.proofs.lemmas.List.Elements.{All-head, All-push, All-tail}
 use Rattle.histories.specs.Asked.{EndSessions, EndsSession, asked_in, is_asked}
 use Rattle.histories.specs.Points.{HistoryEntry}
 use Rattle.histories.proofs.Asked.{asked_append}
 use Rattle.store_model.specs.declared.event.Event.{Event}
 use Rattle.store_model.specs.declared.event.Event.TheVariants as event
-
-pub no_ends : (first : List HistoryEntry) → (ends : List HistoryEntry) × EndSessions ends × (first ≡ first ++ ends)
-no_ends first = ([], (λ k d l. absurd (omega (arith, l))), sym (append-nil first))
 
 pub one_more_end : (first was is : List HistoryEntry) (x : HistoryEntry) → EndsSession x.event → is ≡ was ++ x ∷ []
     → ((ends : List HistoryEntry) × EndSessions ends × (was ≡ first ++ ends)) → (ends : List HistoryEntry) × EndSessions ends × (is ≡ first ++ ends)

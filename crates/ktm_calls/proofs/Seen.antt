@@ -3,7 +3,8 @@ use Rattle.std.specs.Prelude.{OnErr}
 use Rattle.std.proofs.Common.{◌≡◌, ◌∙◌, ◌≤◌, ℕ, Result, Ok, Err, length, arith, Bool, true, false, List, [], ◌∷◌, ◌++◌, ◌⊎◌, inl, inr, refl, ap}
 use Rattle.published_trees.proofs.Prefixes.{prefix_self, prefix_trans}
 use Rattle.histories.specs.Asked.{asked_in, is_asked}
-use Rattle.histories.specs.Points.{HistoryEntry, Point, entry_of}
+use Rattle.engine_invariant.specs.Engines.{EngineView}
+use Rattle.histories.specs.Points.{HistoryEntry, entry_of}
 use Rattle.histories.proofs.Asked.{asked_none, asked_one, asked_same}
 use mathlib.Core.List.{IsPrefix}
 use Rattle.refusals.specs.declared.refusal.Refusal.TheVariants.{NoMemory}
@@ -39,7 +40,7 @@ module _ (sole : Bool) (was is : Sight) (log : List HistoryEntry) (alone : sole 
   lacks_one true x asks added so = inr (ap asked_in added ∙ (asked_one log x asks ∙ ap (λ (w : List HistoryEntry). w ++ x ∷ []) (alone so)))
   lacks_one false x asks added so = inl (ap asked_in added ∙ (asked_none log x asks ∙ alone so))
 
-  pub lacks : (event : Event) (now : Point) → AddsAtMost log event now is.history → AsksAtMost sole was is event
+  pub lacks : (event : Event) (now : EngineView) → AddsAtMost log event now is.history → AsksAtMost sole was is event
   lacks event now (inl same) so = inl (ap asked_in same ∙ alone so)
   lacks event now (inr added) so =
       elim (lacks_one (is_asked event) (entry_of event (Refused NoMemory) now) refl added so) [ inl none ↦ inl none | inr one ↦ inr (now, one) ]
@@ -47,7 +48,7 @@ module _ (sole : Bool) (was is : Sight) (log : List HistoryEntry) (alone : sole 
   pub steps_on : (x : HistoryEntry) → is_asked x.event ≡ false → SeesMore was is → is.history ≡ log ++ x ∷ [] → SeesSteps sole was is
   steps_on x unasked more added = record { more = more; alone = λ so. ap asked_in added ∙ (asked_none log x unasked ∙ alone so) }
 
-  pub steps_lacking : (event : Event) (now : Point) → is_asked event ≡ false → SeesMore was is → AddsAtMost log event now is.history → SeesSteps sole was is
+  pub steps_lacking : (event : Event) (now : EngineView) → is_asked event ≡ false → SeesMore was is → AddsAtMost log event now is.history → SeesSteps sole was is
   steps_lacking event now unasked more (inl same) = record { more = more; alone = λ so. ap asked_in same ∙ alone so }
   steps_lacking event now unasked more (inr added) = steps_on (entry_of event (Refused NoMemory) now) unasked more added
 

@@ -14,7 +14,8 @@ use Rattle.transactions.specs.declared.prepared.Next.{Next}
 use Rattle.published_trees.specs.Lists.{list_code}
 use Rattle.histories.specs.Asked.{asked_in}
 use Rattle.histories.specs.Histories.{end_of}
-use Rattle.histories.specs.Points.{HistoryEntry, Point, entry_code, entry_of}
+use Rattle.engine_invariant.specs.Engines.{EngineView}
+use Rattle.histories.specs.Points.{HistoryEntry, SeenHistory, entry_code, entry_of, seen_code}
 use Rattle.ktm_calls.specs.Kinds.{Told, kind_of}
 
 -- what was seen of a registry: a beginning of the changes that it accepted, and of its history
@@ -47,6 +48,14 @@ pub record NumberedSight : Type 0 where
 abbrev pub numbered_code : Coded NumberedSight
 numbered_code = code_by (ℕ × Sight) (coded× coded_ℕ sight_code) (λ m. (m.number, m.seen)) (λ p. record { number = p.0; seen = p.1 }) (λ _. refl)
 
+-- the end of a flusher: up to which number all was durable, and the history that was seen
+pub record FlusherEnd : Type 0 where
+  pub number : ℕ
+  pub seen : SeenHistory
+
+abbrev pub flusher_end_code : Coded FlusherEnd
+flusher_end_code = code_by (ℕ × SeenHistory) (coded× coded_ℕ seen_code) (λ e. (e.number, e.seen)) (λ p. record { number = p.0; seen = p.1 }) (λ _. refl)
+
 -- A machine is the store's that was opened on these trees after the change of this number. Its calls may name this many
 -- hives.
 pub record IsOf (trees : List TreeMap) (number named : ℕ) (machine : Machine) : Type 0 where
@@ -66,9 +75,9 @@ pub record IsAnswered (trees : List TreeMap) (number hives : ℕ) (was is : List
 
 -- The event stands in the history with this reply, as the last one that is seen of it then. What was seen before is a
 -- beginning of what was before the event. The machines are those before and after it.
-pub record StandsLast (start : Point) (was : List HistoryEntry) (event : Event) (reply : Reply) (old new : Machine) (is : List HistoryEntry) : Type 0 where
+pub record StandsLast (start : EngineView) (was : List HistoryEntry) (event : Event) (reply : Reply) (old new : Machine) (is : List HistoryEntry) : Type 0 where
   pub past : List HistoryEntry
-  pub after : Point
+  pub after : EngineView
   pub seen : IsPrefix was past
   pub there : is ≡ past ++ entry_of event reply after ∷ []
   pub old_is : (end_of start past).machine ≡ old
@@ -76,7 +85,7 @@ pub record StandsLast (start : Point) (was : List HistoryEntry) (event : Event) 
 
 -- What is told of the event: its kind, and the reply that it was answered. It stands in the history that begins here. If
 -- there is a sole asker, nothing else was asked for since what was seen before.
-pub record Tells (sole : Bool) (start : Point) (trees : List TreeMap) (number hives : ℕ) (was is : Sight) (event : Event) (told : Told) : Type 0 where
+pub record Tells (sole : Bool) (start : EngineView) (trees : List TreeMap) (number hives : ℕ) (was is : Sight) (event : Event) (told : Told) : Type 0 where
   pub kind : told.kind ≡ kind_of event
   pub answered : IsAnswered trees number hives was.list is.list event told.reply
   pub stands : StandsLast start was.history event told.reply answered.old answered.new is.history
@@ -84,7 +93,7 @@ pub record Tells (sole : Bool) (start : Point) (trees : List TreeMap) (number hi
 
 -- The event was answered with a number, and then waited for, by steps and questions alone: the receipt has that number,
 -- and all that was seen by then, in which it is durable.
-pub record TellsDurably (sole : Bool) (start : Point) (trees : List TreeMap) (number hives : ℕ) (was is : Sight) (event : Event) (receipt : NumberedSight) (told : Told) : Type 0 where
+pub record TellsDurably (sole : Bool) (start : EngineView) (trees : List TreeMap) (number hives : ℕ) (was is : Sight) (event : Event) (receipt : NumberedSight) (told : Told) : Type 0 where
   pub mid : Sight
   pub own : Tells sole start trees number hives was mid event told
   pub later : SeesSteps sole mid is
@@ -108,10 +117,10 @@ with_next list (Some next) = list ++ next.change.value ∷ []
 
 -- Nothing was put to the engine. Or the event was, which had no memory, and is the last one of the history; the engine is
 -- at this moment then.
-abbrev pub AddsAtMost : List HistoryEntry → Event → Point → List HistoryEntry → Type 0
+abbrev pub AddsAtMost : List HistoryEntry → Event → EngineView → List HistoryEntry → Type 0
 AddsAtMost was event now is = (is ≡ was) ⊎ (is ≡ was ++ entry_of event (reply.Refused NoMemory) now ∷ [])
 
 -- If there is a sole asker, nothing was asked for. Or this event was, for which there was no memory.
 abbrev pub AsksAtMost : Bool → Sight → Sight → Event → Type 0
 AsksAtMost sole was is event =
-    sole ≡ true → (asked_in is.history ≡ asked_in was.history) ⊎ ((after : Point) × (asked_in is.history ≡ asked_in was.history ++ entry_of event (reply.Refused NoMemory) after ∷ []))
+    sole ≡ true → (asked_in is.history ≡ asked_in was.history) ⊎ ((after : EngineView) × (asked_in is.history ≡ asked_in was.history ++ entry_of event (reply.Refused NoMemory) after ∷ []))

@@ -5,7 +5,7 @@ ghost use Rattle.reg_tree.specs.Sequences.{after_elements};
 ghost use Rattle.store_model.specs.Steps.{Step, may_accept};
 ghost use Rattle.store_model.specs.declared.event.Reply.TheVariants as reply;
 ghost use Rattle.histories.specs.Histories.{LeadsTo};
-ghost use Rattle.histories.specs.Points.{entry_of, point_of};
+ghost use Rattle.histories.specs.Points.{entry_of};
 ghost use Rattle.ktm_calls.specs.Moments.{with_next};
 
 use histories::{EventCount, Noted, Start};
@@ -26,15 +26,15 @@ pub fn put_event<E: StoreEngine, O: Start, R: Wait>(
     event: Event,
 ) -> Reply
     requires leads { LeadsTo O.start O.safe O.faithful (E.safe engine.old) (E.faithful engine.old) events.old.log
-        (point_of (E.machine engine.old) (E.clock engine.old) (E.failures engine.old)) }
+        (E.state engine.old) }
     ensures leads { LeadsTo O.start O.safe O.faithful (E.safe engine.new) (E.faithful engine.new) events.new.log
-        (point_of (E.machine engine.new) (E.clock engine.new) (E.failures engine.new)) }
+        (E.state engine.new) }
     ensures store { E.store engine.new ≡ E.store engine.old }
     ensures book { events.new.book ≡ events.old.book }
-    ensures added { events.new.log ≡ events.old.log ++ entry_of event result
-        (point_of (E.machine engine.new) (E.clock engine.new) (E.failures engine.new)) ∷ [] }
-    ensures step { Step (E.machine engine.old) event result (E.machine engine.new) }
-    ensures call { (E.clock engine.old ≤ E.clock engine.new) × (E.clock engine.new ≤ E.clock engine.old + 1) }
+    ensures added { events.new.log ≡ events.old.log ++ entry_of event result (E.state engine.new) ∷ [] }
+    ensures step { Step (E.state engine.old).machine event result (E.state engine.new).machine }
+    ensures call { ((E.state engine.old).clock ≤ (E.state engine.new).clock)
+        × ((E.state engine.new).clock ≤ (E.state engine.old).clock + 1) }
 {
     let known = Snapshot::of(&event);
     let reply = engine.event(event);
@@ -55,23 +55,24 @@ pub fn accept_event<E: StoreEngine, O: Start, R: Wait>(
     event: Event,
 ) -> Result<Reply, Refusal>
     requires accepts { may_accept event ≡ true }
-    requires opened { (E.machine engine.old).opened ≡ O.trees }
-    requires list { publication.old ≡ (E.machine engine.old).accepted }
+    requires opened { (E.state engine.old).machine.opened ≡ O.trees }
+    requires list { publication.old ≡ (E.state engine.old).machine.accepted }
     requires room { length publication.old < u64.MAX }
     requires leads { LeadsTo O.start O.safe O.faithful (E.safe engine.old) (E.faithful engine.old) events.old.log
-        (point_of (E.machine engine.old) (E.clock engine.old) (E.failures engine.old)) }
+        (E.state engine.old) }
     ensures leads { LeadsTo O.start O.safe O.faithful (E.safe engine.new) (E.faithful engine.new) events.new.log
-        (point_of (E.machine engine.new) (E.clock engine.new) (E.failures engine.new)) }
+        (E.state engine.new) }
     ensures store { E.store engine.new ≡ E.store engine.old }
     ensures book { events.new.book ≡ events.old.book }
     ensures added { IfOk result (λ answer. events.new.log ≡ events.old.log ++ entry_of event answer
-        (point_of (E.machine engine.new) (E.clock engine.new) (E.failures engine.new)) ∷ []) }
-    ensures list { publication.new ≡ (E.machine engine.new).accepted }
-    ensures step { IfOk result (λ answer. Step (E.machine engine.old) event answer (E.machine engine.new)) }
+        (E.state engine.new) ∷ []) }
+    ensures list { publication.new ≡ (E.state engine.new).machine.accepted }
+    ensures step { IfOk result (λ answer. Step (E.state engine.old).machine event answer (E.state engine.new).machine) }
     ensures fed { IfOk result (λ answer. ¬ (answer ≡ reply.Refused NoMemory)) }
     ensures refused { IfErr result (λ why. why ≡ NoMemory) }
-    ensures unchanged { OnErr result ((E.machine engine.new ≡ E.machine engine.old) × (events.new ≡ events.old)) }
-    ensures call { E.clock engine.new ≡ E.clock engine.old }
+    ensures unchanged { OnErr result (((E.state engine.new).machine ≡ (E.state engine.old).machine)
+        × (events.new ≡ events.old)) }
+    ensures call { (E.state engine.new).clock ≡ (E.state engine.old).clock }
 {
     let known = Snapshot::of(&event);
     let prepared = engine.prepare(event);
@@ -92,8 +93,7 @@ fn note<E: StoreEngine, R: Wait>(
 )
     ensures { events.new ≡ record {
       book = events.old.book;
-      log = events.old.log ++ entry_of event.value reply.now
-          (point_of (E.machine engine.now) (E.clock engine.now) (E.failures engine.now)) ∷ [];
+      log = events.old.log ++ entry_of event.value reply.now (E.state engine.now) ∷ [];
     } }
 {
     let entry = Noted::<E>::of(event, reply, engine);

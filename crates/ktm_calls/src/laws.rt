@@ -1,11 +1,16 @@
-//! A law of engines that one registry after another shares.
-ghost use Rattle.std.specs.Prelude.{◌≡◌, ℕ, [], List};
+//! Laws of calls, and of engines that one registry after another shares.
+ghost use Rattle.std.specs.Prelude.{◌≡◌, ◌++◌, ◌∷◌, ℕ, [], Bool, List, true};
 ghost use Rattle.reg_tree.specs.Maps.{TreeMap};
 ghost use Rattle.store_model.specs.Machine.{Machine, trees_now};
 ghost use Rattle.store_model.specs.Steps.{Step};
+ghost use Rattle.store_model.specs.declared.event.Event.{Event};
 ghost use Rattle.store_model.specs.declared.event.Event.TheVariants as event;
 ghost use Rattle.store_model.specs.declared.event.Reply.TheVariants as reply;
-ghost use Rattle.ktm_calls.specs.Moments.{IsOf};
+ghost use Rattle.engine_invariant.specs.Engines.{EngineView};
+ghost use Rattle.histories.specs.Asked.{asked_in, is_asked};
+ghost use Rattle.histories.specs.Points.{entry_of};
+ghost use Rattle.ktm_calls.specs.Kinds.{Told};
+ghost use Rattle.ktm_calls.specs.Moments.{IsOf, Sight, Tells};
 
 use store_model::laws::{folds_keep, openings_stay};
 
@@ -23,3 +28,11 @@ pub fn folded_engines_are_shared_again()
     folds_keep();
     openings_stay();
 }
+
+/// A call of a sole asker adds its own event to those that were asked for, and no other.
+pub fn calls_ask_once()
+    ensures { (start : EngineView) (trees : List TreeMap) (number hives : ℕ) (was is : Sight) (event : Event) (told : Told) →
+        Tells true start trees number hives was is event told → is_asked event ≡ true →
+        (after : EngineView) × (asked_in is.history
+        ≡ asked_in was.history ++ entry_of event told.reply after ∷ []) }
+{}

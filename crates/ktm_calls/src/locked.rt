@@ -9,7 +9,7 @@ ghost use Rattle.store_model.specs.declared.event.Event.TheVariants as event;
 ghost use Rattle.store_model.specs.declared.event.Reply.TheVariants as reply;
 ghost use Rattle.histories.specs.Asked.{EndSessions, asked_in, is_asked as is_asked_by};
 ghost use Rattle.histories.specs.Histories.{LeadsTo};
-ghost use Rattle.histories.specs.Points.{HistoryEntry, entry_of, point_of};
+ghost use Rattle.histories.specs.Points.{HistoryEntry, entry_of};
 ghost use Rattle.ktm_calls.specs.Denials.{OpensOrNot, refusal_in};
 ghost use Rattle.ktm_calls.specs.Kinds.{kind_of};
 ghost use Rattle.ktm_calls.specs.Moments.{AddsAtMost, IsOf, AsksAtMost, SeesMore, SeesSteps, Tells};
@@ -20,7 +20,7 @@ use crate::event_kind::{EventKind, may_accept};
 use crate::holding::{accept_event, put_event};
 use crate::session::SessionHandle;
 use crate::sight::Sight;
-use histories::{EventCount, Permission, RequestCount, Start, is_asked};
+use histories::{EventCount, Permission, RequestCount, SeenEvents, Start, is_asked};
 use published_trees::{ChangeCount, MOST_READERS, Publication, SeenChanges, TreesReader};
 use refusals::Refusal;
 use std::alloc::Global;
@@ -117,7 +117,6 @@ impl<E: StoreEngine, O: Start> Model for Locked<E, O> {
     ghost use Rattle.std.specs.Prelude.{◌≡◌, ◌≤◌, ◌^◌, length, true};
     ghost use Rattle.histories.specs.Asked.{asked_in};
     ghost use Rattle.histories.specs.Histories.{LeadsTo};
-    ghost use Rattle.histories.specs.Points.{point_of};
     ghost use Rattle.ktm_calls.specs.Held.{Held, held_code};
     ghost use Rattle.ktm_calls.specs.Moments.{IsOf};
     ghost use Rattle.ktm_calls.specs.OpenSessions.{AreBelow};
@@ -132,10 +131,10 @@ impl<E: StoreEngine, O: Start> Model for Locked<E, O> {
       book : l.events.book ≡ O.history;
       store : E.store l.engine ≡ O.store;
       leads : LeadsTo O.start O.safe O.faithful (E.safe l.engine) (E.faithful l.engine) l.events.log
-          (point_of (E.machine l.engine) (E.clock l.engine) (E.failures l.engine));
-      owner : IsOf O.trees O.number O.hives (E.machine l.engine);
-      list : l.publication ≡ (E.machine l.engine).accepted;
-      sessions : AreBelow l.session_bound (E.machine l.engine);
+          (E.state l.engine);
+      owner : IsOf O.trees O.number O.hives (E.state l.engine).machine;
+      list : l.publication ≡ (E.state l.engine).machine.accepted;
+      sessions : AreBelow l.session_bound (E.state l.engine).machine;
       bound : l.session_bound ≤ 2 ^ 32;
       asked : O.sole ≡ true → l.requests ≡ length (asked_in l.events.log);
     } };
@@ -156,17 +155,16 @@ impl<E: StoreEngine, O: Start> Locked<E, O> {
         requires may { is_asked_by event ≡ true → permission.old.held ≡ true }
         ensures kind { IfOk result (λ t. t.kind ≡ kind_of event) }
         ensures step { IfOk result (λ t.
-            Step (E.machine self.old.engine) event t.reply (E.machine self.new.engine)) }
+            Step (E.state self.old.engine).machine event t.reply (E.state self.new.engine).machine) }
         ensures fed { IfOk result (λ t. ¬ (t.reply ≡ reply.Refused NoMemory)) }
         ensures refused { IfErr result (λ why. why ≡ NoMemory) }
-        ensures unchanged { OnErr result (E.machine self.new.engine ≡ E.machine self.old.engine) }
+        ensures unchanged { OnErr result ((E.state self.new.engine).machine ≡ (E.state self.old.engine).machine) }
         ensures history { IfOk result (λ t. self.new.history ≡ self.old.history ++ entry_of event t.reply
-            (point_of (E.machine self.new.engine) (E.clock self.new.engine) (E.failures self.new.engine)) ∷ []) }
-        ensures lacked { OnErr result (AddsAtMost self.old.history event
-            (point_of (E.machine self.new.engine) (E.clock self.new.engine) (E.failures self.new.engine))
+            (E.state self.new.engine) ∷ []) }
+        ensures lacked { OnErr result (AddsAtMost self.old.history event (E.state self.new.engine)
             self.new.history) }
-        ensures call { (E.clock self.old.engine ≤ E.clock self.new.engine)
-            × (E.clock self.new.engine ≤ E.clock self.old.engine + 1) }
+        ensures call { ((E.state self.old.engine).clock ≤ (E.state self.new.engine).clock)
+            × ((E.state self.new.engine).clock ≤ (E.state self.old.engine).clock + 1) }
         ensures stopped { self.new.stopped ≡ self.old.stopped }
         ensures held { permission.new.held ≡ permission.old.held }
         ensures counts { O.sole ≡ true → permission.new.asked + length (asked_in self.old.history)
@@ -191,17 +189,16 @@ impl<E: StoreEngine, O: Start> Locked<E, O> {
         requires may { is_asked_by event ≡ true → permission.old.held ≡ true }
         ensures kind { IfOk result (λ t. t.kind ≡ kind_of event) }
         ensures step { IfOk result (λ t.
-            Step (E.machine self.old.engine) event t.reply (E.machine self.new.engine)) }
+            Step (E.state self.old.engine).machine event t.reply (E.state self.new.engine).machine) }
         ensures fed { IfOk result (λ t. ¬ (t.reply ≡ reply.Refused NoMemory)) }
         ensures refused { IfErr result (λ why. why ≡ NoMemory) }
-        ensures unchanged { OnErr result (E.machine self.new.engine ≡ E.machine self.old.engine) }
+        ensures unchanged { OnErr result ((E.state self.new.engine).machine ≡ (E.state self.old.engine).machine) }
         ensures history { IfOk result (λ t. self.new.history ≡ self.old.history ++ entry_of event t.reply
-            (point_of (E.machine self.new.engine) (E.clock self.new.engine) (E.failures self.new.engine)) ∷ []) }
-        ensures lacked { OnErr result (AddsAtMost self.old.history event
-            (point_of (E.machine self.new.engine) (E.clock self.new.engine) (E.failures self.new.engine))
+            (E.state self.new.engine) ∷ []) }
+        ensures lacked { OnErr result (AddsAtMost self.old.history event (E.state self.new.engine)
             self.new.history) }
-        ensures call { (E.clock self.old.engine ≤ E.clock self.new.engine)
-            × (E.clock self.new.engine ≤ E.clock self.old.engine + 1) }
+        ensures call { ((E.state self.old.engine).clock ≤ (E.state self.new.engine).clock)
+            × ((E.state self.new.engine).clock ≤ (E.state self.old.engine).clock + 1) }
         ensures stopped { self.new.stopped ≡ self.old.stopped }
         ensures held { permission.new.held ≡ permission.old.held }
         ensures counts { O.sole ≡ true → permission.new.asked + length (asked_in self.old.history)
@@ -237,17 +234,16 @@ impl<E: StoreEngine, O: Start> Locked<E, O> {
         requires may { is_asked_by event ≡ true → permission.old.held ≡ true }
         ensures kind { IfOk result (λ t. t.kind ≡ kind_of event) }
         ensures step { IfOk result (λ t.
-            Step (E.machine self.old.engine) event t.reply (E.machine self.new.engine)) }
+            Step (E.state self.old.engine).machine event t.reply (E.state self.new.engine).machine) }
         ensures fed { IfOk result (λ t. ¬ (t.reply ≡ reply.Refused NoMemory)) }
         ensures refused { IfErr result (λ why. why ≡ NoMemory) }
-        ensures unchanged { OnErr result (E.machine self.new.engine ≡ E.machine self.old.engine) }
+        ensures unchanged { OnErr result ((E.state self.new.engine).machine ≡ (E.state self.old.engine).machine) }
         ensures history { IfOk result (λ t. self.new.history ≡ self.old.history ++ entry_of event t.reply
-            (point_of (E.machine self.new.engine) (E.clock self.new.engine) (E.failures self.new.engine)) ∷ []) }
-        ensures lacked { OnErr result (AddsAtMost self.old.history event
-            (point_of (E.machine self.new.engine) (E.clock self.new.engine) (E.failures self.new.engine))
+            (E.state self.new.engine) ∷ []) }
+        ensures lacked { OnErr result (AddsAtMost self.old.history event (E.state self.new.engine)
             self.new.history) }
-        ensures call { (E.clock self.old.engine ≤ E.clock self.new.engine)
-            × (E.clock self.new.engine ≤ E.clock self.old.engine + 1) }
+        ensures call { ((E.state self.old.engine).clock ≤ (E.state self.new.engine).clock)
+            × ((E.state self.new.engine).clock ≤ (E.state self.old.engine).clock + 1) }
         ensures stopped { self.new.stopped ≡ self.old.stopped }
         ensures held { permission.new.held ≡ permission.old.held }
         ensures counts { O.sole ≡ true → permission.new.asked + length (asked_in self.old.history)
@@ -271,24 +267,31 @@ impl<E: StoreEngine, O: Start> Locked<E, O> {
 
     /// What is seen under the lock: all of the list, which is what the engine accepted, and all of the history.
     pub fn sight(&self) -> Sight<O>
-        ensures owner { IsOf O.trees O.number O.hives (E.machine self.now.engine) }
+        ensures owner { IsOf O.trees O.number O.hives (E.state self.now.engine).machine }
         ensures whole { result ≡ record {
-          list = (E.machine self.now.engine).accepted;
+          list = (E.state self.now.engine).machine.accepted;
           history = self.now.history;
         } }
-        ensures durable { (E.machine self.now.engine).durable
-            ≤ O.number + length (E.machine self.now.engine).accepted }
+        ensures durable { (E.state self.now.engine).machine.durable
+            ≤ O.number + length (E.state self.now.engine).machine.accepted }
     {
         self.engine.stays_within();
         Sight::new(self.publication.seen(), self.events.all().again())
     }
 
+    /// The whole history.
+    pub fn events(&self) -> SeenEvents
+        ensures { result ≡ record { book = O.history; log = self.now.history } }
+    {
+        self.events.all().again()
+    }
+
     /// Brings what was seen to all that is seen under the lock, which it begins.
     pub(crate) fn show<R: Wait>(&self, rt: &R, mine: &mut Sight<O>)
         ensures more { SeesMore mine.old mine.new }
-        ensures owner { IsOf O.trees O.number O.hives (E.machine self.now.engine) }
+        ensures owner { IsOf O.trees O.number O.hives (E.state self.now.engine).machine }
         ensures whole { mine.new ≡ record {
-          list = (E.machine self.now.engine).accepted;
+          list = (E.state self.now.engine).machine.accepted;
           history = self.now.history;
         } }
     {
@@ -299,7 +302,7 @@ impl<E: StoreEngine, O: Start> Locked<E, O> {
 
     /// The number up to which changes are durable.
     pub fn durable(&self) -> u64
-        ensures { result ≡ (E.machine self.now.engine).durable }
+        ensures { result ≡ (E.state self.now.engine).machine.durable }
     {
         self.engine.durable()
     }
@@ -323,18 +326,18 @@ impl<E: StoreEngine, O: Start> Locked<E, O> {
         requires no_fold { is_fold event ≡ false }
         ensures seen { SeesMore mine.old mine.new }
         ensures whole { mine.new ≡ record {
-          list = (E.machine self.new.engine).accepted;
+          list = (E.state self.new.engine).machine.accepted;
           history = self.new.history;
         } }
         ensures told { IfOk result (λ t. Tells O.sole O.start O.trees O.number O.hives mine.old mine.new event t) }
         ensures step { IfOk result (λ t.
-            Step (E.machine self.old.engine) event t.reply (E.machine self.new.engine)) }
+            Step (E.state self.old.engine).machine event t.reply (E.state self.new.engine).machine) }
         ensures fed { IfOk result (λ t. ¬ (t.reply ≡ reply.Refused NoMemory)) }
         ensures refused { IfErr result (λ why. why ≡ NoMemory) }
         ensures lacked { OnErr result (AsksAtMost O.sole mine.old mine.new event) }
         ensures unasked { is_asked_by event ≡ false → SeesSteps O.sole mine.old mine.new }
-        ensures call { (E.clock self.old.engine ≤ E.clock self.new.engine)
-            × (E.clock self.new.engine ≤ E.clock self.old.engine + 1) }
+        ensures call { ((E.state self.old.engine).clock ≤ (E.state self.new.engine).clock)
+            × ((E.state self.new.engine).clock ≤ (E.state self.old.engine).clock + 1) }
         ensures stopped { self.new.stopped ≡ self.old.stopped }
     {
         self.audit(&mut mine.permission); // for the prover
@@ -411,11 +414,11 @@ impl<E: StoreEngine, O: Start> Locked<E, O> {
         requires events { events ≡ record { book = O.history; log = [] } }
         requires requests { requests ≡ 0 }
         requires store { E.store engine ≡ O.store }
-        requires start { point_of (E.machine engine) (E.clock engine) (E.failures engine) ≡ O.start }
+        requires start { E.state engine ≡ O.start }
         requires faithful { E.faithful engine → O.faithful }
         requires safe { (moment : ℕ) (machine : Machine) → O.safe moment machine → E.safe engine moment machine }
-        requires engine { IsOf O.trees O.number O.hives (E.machine engine)
-            × ((E.machine engine).accepted ≡ []) × ((E.machine engine).sessions ≡ []) }
+        requires engine { IsOf O.trees O.number O.hives (E.state engine).machine
+            × ((E.state engine).machine.accepted ≡ []) × ((E.state engine).machine.sessions ≡ []) }
         ensures same { IfOk result (λ l. l ≡ record { engine = engine; history = []; stopped = false }) }
         ensures refused { IfErr result (λ back.
             ((back.0 ≡ NoMemory) ⊎ (back.0 ≡ NoSeat)) × (back.1 ≡ engine)) }
@@ -491,7 +494,7 @@ impl<E: StoreEngine, O: Start> Locked<E, O> {
 
     /// A law: the engine is the registry's.
     pub(crate) fn is_of_registry(&self)
-        ensures { IsOf O.trees O.number O.hives (E.machine self.now.engine) }
+        ensures { IsOf O.trees O.number O.hives (E.state self.now.engine).machine }
     {
         // what the type keeps is known once a field is read
         let _ = &self.alloc; // for the prover
@@ -501,13 +504,13 @@ impl<E: StoreEngine, O: Start> Locked<E, O> {
     /// nothing else is put.
     pub(crate) fn close<R: Wait>(self, rt: &R) -> (E, EventCount)
         ensures ends { (ends : List HistoryEntry) × EndSessions ends × (result.1.log ≡ self.history ++ ends) }
-        ensures list { (E.machine result.0).accepted ≡ (E.machine self.engine).accepted }
-        ensures owner { IsOf O.trees O.number O.hives (E.machine result.0) }
-        ensures sessions { (E.machine result.0).sessions ≡ [] }
+        ensures list { (E.state result.0).machine.accepted ≡ (E.state self.engine).machine.accepted }
+        ensures owner { IsOf O.trees O.number O.hives (E.state result.0).machine }
+        ensures sessions { (E.state result.0).machine.sessions ≡ [] }
         ensures store { E.store result.0 ≡ O.store }
         ensures book { result.1.book ≡ O.history }
         ensures leads { LeadsTo O.start O.safe O.faithful (E.safe result.0) (E.faithful result.0) result.1.log
-            (point_of (E.machine result.0) (E.clock result.0) (E.failures result.0)) }
+            (E.state result.0) }
     {
         let Locked {
             alloc: _,
@@ -529,8 +532,7 @@ impl<E: StoreEngine, O: Start> Locked<E, O> {
     /// A law: the history leads from the start to the engine of now.
     pub fn keeps_history(&self)
         ensures { LeadsTo O.start O.safe O.faithful (E.safe self.now.engine) (E.faithful self.now.engine)
-            self.now.history
-            (point_of (E.machine self.now.engine) (E.clock self.now.engine) (E.failures self.now.engine)) }
+            self.now.history (E.state self.now.engine) }
     {
         // what the type keeps is known once a field is read
         let _ = &self.alloc; // for the prover
@@ -594,19 +596,19 @@ fn end_sessions<E: StoreEngine, O: Start, R: Wait>(
     events: &mut EventCount,
     bound: u64,
 )
-    requires owner { IsOf O.trees O.number O.hives (E.machine engine.old) }
-    requires below { AreBelow bound (E.machine engine.old) }
+    requires owner { IsOf O.trees O.number O.hives (E.state engine.old).machine }
+    requires below { AreBelow bound (E.state engine.old).machine }
     requires most { bound ≤ 2 ^ 32 }
     requires leads { LeadsTo O.start O.safe O.faithful (E.safe engine.old) (E.faithful engine.old) events.old.log
-        (point_of (E.machine engine.old) (E.clock engine.old) (E.failures engine.old)) }
+        (E.state engine.old) }
     ensures store { E.store engine.new ≡ E.store engine.old }
-    ensures owner { IsOf O.trees O.number O.hives (E.machine engine.new) }
-    ensures sessions { (E.machine engine.new).sessions ≡ [] }
-    ensures list { (E.machine engine.new).accepted ≡ (E.machine engine.old).accepted }
+    ensures owner { IsOf O.trees O.number O.hives (E.state engine.new).machine }
+    ensures sessions { (E.state engine.new).machine.sessions ≡ [] }
+    ensures list { (E.state engine.new).machine.accepted ≡ (E.state engine.old).machine.accepted }
     ensures book { events.new.book ≡ events.old.book }
     ensures ends { (ends : List HistoryEntry) × EndSessions ends × (events.new.log ≡ events.old.log ++ ends) }
     ensures leads { LeadsTo O.start O.safe O.faithful (E.safe engine.new) (E.faithful engine.new) events.new.log
-        (point_of (E.machine engine.new) (E.clock engine.new) (E.failures engine.new)) }
+        (E.state engine.new) }
 {
     openings_stay();
     others_accept_nothing();

@@ -1,11 +1,11 @@
 //! Receipts: of changes that are durable, and of a flusher that has nothing left to do.
 ghost use Rattle.std.specs.Prelude.{◌≡◌, ◌≤◌, ◌+◌, true, length};
-ghost use Rattle.store_model.specs.Machine.{last_number};
 ghost use Rattle.histories.specs.Histories.{IsHistory, end_of};
+ghost use Rattle.ktm_calls.specs.Waiting.{HasNoWork, IsDone};
 
 use crate::locked::Locked;
 use crate::sight::Sight;
-use histories::{EventCount, Start};
+use histories::{EventCount, SeenEvents, Start};
 use std::marker::Model;
 use std::sync::Wait;
 use store_engine::StoreEngine;
@@ -44,10 +44,10 @@ impl<O: Start> Model for Receipt<O> {
 impl<O: Start> Receipt<O> {
     /// A receipt of a number that is durable: its one maker.
     pub fn of<E: StoreEngine>(locked: &Locked<E, O>, number: u64) -> Receipt<O>
-        requires durable { number ≤ (E.machine locked.now.engine).durable }
+        requires durable { number ≤ (E.state locked.now.engine).machine.durable }
         ensures { result ≡ record {
           number = number;
-          seen = record { list = (E.machine locked.now.engine).accepted; history = locked.now.history };
+          seen = record { list = (E.state locked.now.engine).machine.accepted; history = locked.now.history };
         } }
     {
         locked.keeps_history(); // for the prover
@@ -84,27 +84,41 @@ impl<O: Start> Receipt<O> {
     }
 }
 
-/// That the flusher was told to stop, and that all that was accepted is durable.
+/// That the flusher was told to stop, and that nothing is left to do: all that was accepted is durable, and each hive has
+/// it. It carries the history as it was then.
 pub struct Stopped {
     number: u64,
+    seen: SeenEvents,
 }
 
 impl Drop for Stopped {
+    // one drop for all that own one, whose proofs see no more of it than that
     fn drop(self) {
-        let Stopped { number: _ } = self;
+        let Stopped { number: _, seen: _ } = self;
     }
+}
+
+impl Model for Stopped {
+    ghost use Rattle.ktm_calls.specs.Moments.{FlusherEnd, flusher_end_code};
+
+    ghost Value = { FlusherEnd };
+
+    ghost coded = { flusher_end_code };
+
+    ghost view = { λ s. record { number = s.number; seen = s.seen } };
 }
 
 impl Stopped {
     /// That it is so: its one maker.
     pub fn of<E: StoreEngine, O: Start>(locked: &Locked<E, O>) -> Stopped
         requires told { locked.now.stopped ≡ true }
-        requires durable { (E.machine locked.now.engine).durable
-            ≡ last_number (E.machine locked.now.engine) }
-        ensures { result.number ≡ (E.machine locked.now.engine).durable }
+        requires idle { HasNoWork (E.state locked.now.engine) }
+        ensures { IsDone O.history O.start result }
     {
+        locked.keeps_history(); // for the prover
         Stopped {
             number: locked.durable(),
+            seen: locked.events(),
         }
     }
 
@@ -113,5 +127,12 @@ impl Stopped {
         ensures { result ≡ self.now.number }
     {
         self.number
+    }
+
+    /// The history as it was then.
+    pub fn events(&self) -> &SeenEvents
+        ensures { result.now ≡ self.now.seen }
+    {
+        &self.seen
     }
 }

@@ -9,8 +9,8 @@ ghost use Rattle.store_model.specs.declared.event.Event.TheVariants as event;
 ghost use Rattle.store_model.specs.declared.event.Reply.TheVariants as reply;
 ghost use Rattle.histories.specs.Asked.{EndSessions, asked_in};
 ghost use Rattle.histories.specs.Histories.{IsHistory, LeadsTo, end_of};
-ghost use Rattle.histories.specs.Points.{HistoryEntry, point_of};
-ghost use Rattle.ktm_calls.specs.Waiting.{SteppedOrFailed, is_step_kind};
+ghost use Rattle.histories.specs.Points.{HistoryEntry};
+ghost use Rattle.ktm_calls.specs.Waiting.{IsOfAll, IsUsed, IsUsedRoom, SteppedOrFailed, is_step_kind};
 ghost use Rattle.ktm_calls.specs.Moments.{IsAwaited, IsOf, NumberedSight, SeesMore, SeesSteps, Sight as AnySight, Tells, TellsDurably};
 ghost use Rattle.ktm_calls.specs.Denials.{Denies, IsCommitDenied, IsDenied, IsNotOpened, IsOpened, IsRefusal, IsStepOrStop, IsTurnDenied, IsWaitDenied, OpensOrNot, denial_of};
 
@@ -18,6 +18,7 @@ use crate::asker::Asker;
 use crate::event_kind::may_accept;
 use crate::locked::{Locked, OpenResult, Told};
 use crate::receipt::{Receipt, Stopped};
+use crate::room::UsedRoom;
 use crate::session::{Session, SessionHandle};
 use crate::waiting::{CheckpointResult, MemoryPolicy, TurnResult, WaitMode, WaitResult};
 use disk_model::Progress;
@@ -145,11 +146,11 @@ impl<E: StoreEngine, O: Start> Registry<E, O> {
         requires events { events ≡ record { book = O.history; log = [] } }
         requires requests { requests ≡ 0 }
         requires store { E.store engine ≡ O.store }
-        requires start { point_of (E.machine engine) (E.clock engine) (E.failures engine) ≡ O.start }
+        requires start { E.state engine ≡ O.start }
         requires faithful { E.faithful engine → O.faithful }
         requires safe { (moment : ℕ) (machine : Machine) → O.safe moment machine → E.safe engine moment machine }
-        requires engine { IsOf O.trees O.number O.hives (E.machine engine)
-            × ((E.machine engine).accepted ≡ []) × ((E.machine engine).sessions ≡ []) }
+        requires engine { IsOf O.trees O.number O.hives (E.state engine).machine
+            × ((E.state engine).machine.accepted ≡ []) × ((E.state engine).machine.sessions ≡ []) }
         ensures refused { IfErr result (λ back.
             ((back.0 ≡ NoMemory) ⊎ (back.0 ≡ NoSeat)) × (back.1 ≡ engine)) }
     {
@@ -171,12 +172,13 @@ impl<E: StoreEngine, O: Start> Registry<E, O> {
         ensures denied { IfErr result (λ why. (was is : AnySight)
             × IsNotOpened O.sole O.start O.trees O.number O.hives was is why) }
     {
-        let guard = self.lock.lock(rt);
-        let seen = (&*guard).sight();
+        let mut guard = self.lock.lock(rt);
+        let mut asker = Asker::new((&*guard).sight(), Permission::shared());
+        let opened = (&mut *guard).start_session(rt, &mut asker);
         let _ = MutexGuard::unlock(guard);
-        match self.first_session(rt, Asker::new(seen, Permission::shared())) {
-            Ok(made) => Ok(made),
-            Err((why, _asker)) => Err(why),
+        match open_result(opened) {
+            Ok((handle, told)) => Ok((Session::new(handle, asker), told)),
+            Err(why) => Err(why),
         }
     }
 
@@ -278,8 +280,8 @@ impl<E: StoreEngine, O: Start> Registry<E, O> {
         }
     }
 
-    /// Asks whether the store is faulted, as an event of a session that isn't open: that is refused with `Faulted` if it
-    /// is, with `NoMemory`, and else with `NoSuchHandle`.
+    /// Asks whether the store is faulted: begins a transaction in a session that isn't open, which the machine refuses,
+    /// with `Faulted` if it is.
     pub fn probe<R: Wait>(&self, rt: &R, session: &mut Session<O>, id: Uuid) -> Result<Told, Denied>
         ensures seen { SeesMore session.old.seen session.new.seen }
         ensures number { session.new.number ≡ session.old.number }
@@ -308,15 +310,14 @@ impl<E: StoreEngine, O: Start> Registry<E, O> {
     /// If all that was accepted is durable, `Event::Fold` folds the history then, and [`Registry::new`] may take the
     /// engine again, as [`crate::laws`] says.
     pub fn end<R: Wait>(self, rt: &R, asker: Asker<O>, receipts: Vec<Receipt<O>>) -> Ended<E>
-        ensures owner { IsOf O.trees O.number O.hives (E.machine result.engine) }
-        ensures closed { (E.machine result.engine).sessions ≡ [] }
-        ensures durable { result.durable ≡ (E.machine result.engine).durable }
+        ensures owner { IsOf O.trees O.number O.hives (E.state result.engine).machine }
+        ensures closed { (E.state result.engine).machine.sessions ≡ [] }
+        ensures durable { result.durable ≡ (E.state result.engine).machine.durable }
         ensures store { E.store result.engine ≡ O.store }
         ensures history { LeadsTo O.start O.safe O.faithful (E.safe result.engine) (E.faithful result.engine)
-            result.events.log
-            (point_of (E.machine result.engine) (E.clock result.engine) (E.failures result.engine)) }
+            result.events.log (E.state result.engine) }
         ensures receipts { (i : ℕ) (r : NumberedSight) → slice_get receipts.items i ≡ Some r → r.number ≤ result.durable }
-        ensures seen { IsPrefix asker.list (E.machine result.engine).accepted
+        ensures seen { IsPrefix asker.list (E.state result.engine).machine.accepted
             × IsPrefix asker.history result.events.log }
         ensures asked { O.sole ≡ true → (ends : List HistoryEntry) × EndSessions ends
             × (asked_in result.events.log ≡ asked_in asker.history ++ ends) }
@@ -524,7 +525,7 @@ impl<E: StoreEngine, O: Start> Registry<E, O> {
     ///
     /// Refused with the first step that is refused, or with `NoMemory`.
     pub fn checkpoint<R: Wait>(&self, rt: &R) -> Result<Receipt<O>, Denied>
-        ensures all { IfOk result (λ r. r.number ≡ O.number + length r.seen.list) }
+        ensures all { IfOk result (IsOfAll O.start O.number) }
         ensures denied { IfErr result IsTurnDenied }
     {
         for _ in rt.forever() {
@@ -542,21 +543,31 @@ impl<E: StoreEngine, O: Start> Registry<E, O> {
         unreachable!()
     }
 
-    /// How many bytes of the journal's room are used. [`Registry::checkpoint`] frees them.
-    pub fn room<R: Wait>(&self, rt: &R) -> u64 {
+    /// How much of the journal's room is used. [`Registry::checkpoint`] frees it.
+    pub fn room<R: Wait>(&self, rt: &R) -> UsedRoom
+        ensures { IsUsedRoom O.history O.start result }
+    {
         let guard = self.lock.lock(rt);
-        let room = (&*guard).engine().room();
+        let used = (&*guard).used_room();
         let _ = MutexGuard::unlock(guard);
-        room
+        used
     }
 
-    /// Waits until at least so many bytes of the journal's room are used, or the flusher was told to stop.
-    pub fn wait_until_used<R: Wait>(&self, rt: &R, room: u64) {
+    /// Waits until at least so many bytes of the journal's room are used, and tells how many. `None` if the flusher was told
+    /// to stop first.
+    pub fn wait_until_used<R: Wait>(&self, rt: &R, least: u64) -> Option<UsedRoom>
+        ensures { IsUsed O.history O.start least result }
+    {
         let mut guard = self.lock.lock(rt);
         for _ in rt.forever() {
-            if (&*guard).is_stopped() || (&*guard).engine().room() >= room {
+            if (&*guard).is_stopped() {
                 let _ = MutexGuard::unlock(guard);
-                return;
+                return None;
+            }
+            let used = (&*guard).used_room();
+            if used.bytes >= least {
+                let _ = MutexGuard::unlock(guard);
+                return Some(used);
             }
             guard = self.work.wait(rt, guard);
         }
@@ -574,7 +585,7 @@ impl<E: StoreEngine, O: Start> Registry<E, O> {
     /// One event of the flusher: a step of the journal if a change is pending, else of the next hive that has work, else
     /// of a trim. It waits if there is nothing to do, and ends if it was told to stop then.
     pub fn turn<R: Wait>(&self, rt: &R) -> Result<Turn, Denied>
-        ensures turn { IfOk result IsStepOrStop }
+        ensures turn { IfOk result (IsStepOrStop O.history O.start) }
         ensures denied { IfErr result IsTurnDenied }
     {
         let mut guard = self.lock.lock(rt);
@@ -606,7 +617,7 @@ impl<E: StoreEngine, O: Start> Registry<E, O> {
     fn stepped(&self, told: Told) -> Result<Turn, Denied>
         requires step { is_step_kind told.kind ≡ true }
         requires reply { SteppedOrFailed told.reply }
-        ensures turn { IfOk result IsStepOrStop }
+        ensures turn { IfOk result (IsStepOrStop O.history O.start) }
         ensures denied { IfErr result IsTurnDenied }
     {
         if let Reply::Stepped {

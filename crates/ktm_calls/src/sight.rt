@@ -66,6 +66,13 @@ impl<O: Start> Sight<O> {
         }
     }
 
+    /// What was seen of the history.
+    pub fn events(&self) -> &SeenEvents
+        ensures { result.now ≡ record { book = O.history; log = self.now.history } }
+    {
+        &self.events
+    }
+
     /// Takes in what was seen elsewhere. What is seen then begins with both.
     pub fn learn(&mut self, other: &Sight<O>)
         ensures this { SeesMore self.old self.new }

@@ -3,9 +3,8 @@
 //! One of those who wait makes the steps of the journal for all, one a hold; the others sleep meanwhile. What is
 //! accepted during a batch is the next batch. Nobody depends on the flusher.
 ghost use Rattle.std.specs.Prelude.{◌≡◌, ◌+◌, ◌≤◌, ℕ, true, length, IfNone, IfOk, IfSome};
-ghost use Rattle.store_model.specs.Machine.{last_number};
 ghost use Rattle.ktm_calls.specs.Moments.{SeesSteps, Sight as AnySight};
-ghost use Rattle.ktm_calls.specs.Waiting.{EndsCheckpoint, EndsWait, IsTurn, IsWork, SteppedOrFailed, is_step_kind};
+ghost use Rattle.ktm_calls.specs.Waiting.{EndsCheckpoint, EndsWait, HasNoWork, IsOfAll, IsTurn, IsWork, SteppedOrFailed, is_step_kind};
 
 use crate::asker::Asker;
 use crate::event_kind::EventKind;
@@ -103,7 +102,7 @@ impl<E: StoreEngine, O: Start> Locked<E, O> {
     ) -> WaitResult<O>
         ensures seen { SeesSteps O.sole mine.old mine.new }
         ensures ends { EndsWait O.sole O.start O.trees O.number O.hives number mine.old mine.new result }
-        ensures call { E.clock self.new.engine ≤ E.clock self.old.engine + 1 }
+        ensures call { (E.state self.new.engine).clock ≤ (E.state self.old.engine).clock + 1 }
     {
         match mode {
             WaitMode::Ask | WaitMode::Sleep => self.ask(rt, mine, number, leads),
@@ -121,7 +120,7 @@ impl<E: StoreEngine, O: Start> Locked<E, O> {
     ) -> WaitResult<O>
         ensures seen { SeesSteps O.sole mine.old mine.new }
         ensures ends { EndsWait O.sole O.start O.trees O.number O.hives number mine.old mine.new result }
-        ensures call { E.clock self.new.engine ≤ E.clock self.old.engine + 1 }
+        ensures call { (E.state self.new.engine).clock ≤ (E.state self.old.engine).clock + 1 }
     {
         let Ok(told) = self.serve(rt, mine, Event::Acked { number }) else {
             return WaitResult::Again(WaitMode::Ask);
@@ -159,7 +158,7 @@ impl<E: StoreEngine, O: Start> Locked<E, O> {
     ) -> WaitResult<O>
         ensures seen { SeesSteps O.sole mine.old mine.new }
         ensures ends { EndsWait O.sole O.start O.trees O.number O.hives number mine.old mine.new result }
-        ensures call { E.clock self.new.engine ≤ E.clock self.old.engine + 1 }
+        ensures call { (E.state self.new.engine).clock ≤ (E.state self.old.engine).clock + 1 }
     {
         let Ok(told) = self.serve(rt, mine, Event::JournalStep) else {
             return self.lacks_memory(policy);
@@ -192,9 +191,8 @@ impl<E: StoreEngine, O: Start> Locked<E, O> {
 
     // what the flusher does next, if anything
     fn next_work(&self) -> Option<Event>
-        ensures some { IfSome result (IsWork (E.machine self.now.engine)) }
-        ensures none { IfNone result ((E.machine self.now.engine).durable
-            ≡ last_number (E.machine self.now.engine)) }
+        ensures some { IfSome result (IsWork (E.state self.now.engine).machine) }
+        ensures none { IfNone result (HasNoWork (E.state self.now.engine)) }
     {
         let engine = self.engine();
         engine.stays_within();
@@ -227,8 +225,8 @@ impl<E: StoreEngine, O: Start> Locked<E, O> {
 
     /// One hold of the flusher: one event, or none if there is nothing to do.
     pub(crate) fn turn<R: Wait>(&mut self, rt: &R) -> TurnResult
-        ensures turns { IsTurn result }
-        ensures call { E.clock self.new.engine ≤ E.clock self.old.engine + 1 }
+        ensures turns { IsTurn O.history O.start (E.state self.new.engine) result }
+        ensures call { (E.state self.new.engine).clock ≤ (E.state self.old.engine).clock + 1 }
     {
         let Some(event) = self.next_work() else {
             if self.is_stopped() {
@@ -244,8 +242,8 @@ impl<E: StoreEngine, O: Start> Locked<E, O> {
 
     /// One hold of a checkpoint: one event of the flusher, or a receipt if there is nothing to do.
     pub(crate) fn checkpoint<R: Wait>(&mut self, rt: &R) -> CheckpointResult<O>
-        ensures ends { EndsCheckpoint O.number result }
-        ensures call { E.clock self.new.engine ≤ E.clock self.old.engine + 1 }
+        ensures ends { EndsCheckpoint O.start O.number result }
+        ensures call { (E.state self.new.engine).clock ≤ (E.state self.old.engine).clock + 1 }
     {
         let Some(event) = self.next_work() else {
             return CheckpointResult::Done(self.receipt_of_all());
@@ -258,22 +256,22 @@ impl<E: StoreEngine, O: Start> Locked<E, O> {
 
     // one event of the flusher, which is noted if it ends a flush
     fn step<R: Wait>(&mut self, rt: &R, event: Event) -> Result<Told, Refusal>
-        requires work { IsWork (E.machine self.old.engine) event }
+        requires work { IsWork (E.state self.old.engine).machine event }
         ensures made { IfOk result (λ t. (is_step_kind t.kind ≡ true) × SteppedOrFailed t.reply) }
-        ensures call { E.clock self.new.engine ≤ E.clock self.old.engine + 1 }
+        ensures call { (E.state self.new.engine).clock ≤ (E.state self.old.engine).clock + 1 }
     {
         let told = self.hold(rt, event, &mut Permission::none())?;
         self.note_flush(&told);
         Ok(told)
     }
 
-    // the receipt of the last change, if all is durable
+    // the receipt of the last change, if nothing is left to do
     fn receipt_of_all(&self) -> Receipt<O>
-        requires durable { (E.machine self.now.engine).durable
-            ≡ last_number (E.machine self.now.engine) }
-        ensures all { result.number ≡ O.number + length result.seen.list }
+        requires idle { HasNoWork (E.state self.now.engine) }
+        ensures { IsOfAll O.start O.number result }
     {
         self.is_of_registry();
+        self.keeps_history(); // for the prover
         Receipt::of(self, self.durable())
     }
 }

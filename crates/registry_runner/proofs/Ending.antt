@@ -28,7 +28,8 @@ use Rattle.reg_tree.specs.Maps.{TreeMap}
 use Rattle.reg_tree.specs.Sequences.{after_elements}
 use Rattle.histories.specs.Asked.{asked_in}
 use Rattle.histories.specs.Histories.{end_of}
-use Rattle.histories.specs.Points.{HistoryEntry, Point}
+use Rattle.engine_invariant.specs.Engines.{EngineView}
+use Rattle.histories.specs.Points.{HistoryEntry}
 use Rattle.store_model.specs.Machine.{Machine}
 use Rattle.ktm_calls.specs.Moments.{IsOf, SeesMore, Sight}
 use Rattle.registry_runner.specs.Folding.{IsFoldedAt, IsIdle}
@@ -116,7 +117,7 @@ prefix_front xs ys zs whole p = prefix_first (xs ++ ys) zs whole (subst (λ (l :
 
 -- A part
 
-module _ (whole past : List HistoryEntry) (limit : ℕ) (can_read : Bool) (sole : Bool) (origin : Point) (trees : List TreeMap) (first hives number : ℕ) (known was : Option (List ℕ)) where
+module _ (whole past : List HistoryEntry) (limit : ℕ) (can_read : Bool) (sole : Bool) (origin : EngineView) (trees : List TreeMap) (first hives number : ℕ) (known was : Option (List ℕ)) where
   -- a script that can be read
   pub read_all : {E : Type 0} (old new : Script) (rest is : Option (List ℕ)) (r : Result LinesEnd E) → can_read ≡ true → IfOk r (λ end. LinesCome whole limit true (part past sole origin trees first hives old) number known was end new rest is) → IfOk r (λ end. LinesCome whole limit can_read (part past sole origin trees first hives old) number known was end new rest is)
   read_all old new rest is r can h = subst (λ (b : Bool). IfOk r (λ end. LinesCome whole limit b (part past sole origin trees first hives old) number known was end new rest is)) (sym can) h
@@ -137,7 +138,7 @@ module _ (whole past : List HistoryEntry) (limit : ℕ) (can_read : Bool) (sole 
   ended old end last mid is flushed played (Ok s) h o a =
       let r = subst (λ p. IfOk p (λ s. IsPlayedOn whole limit can_read (Ok (part past sole origin trees first hives old)) number known was mid s (Ok (part past sole origin trees first hives end)))) o.0 h in (end, (r.0, r.1, r.2, r.3, r.4, appends_kept was mid is r.2 r.5 o.1), a)
 
-module _ (whole past : List HistoryEntry) (start : PartStart) (sole : Bool) (origin : Point) (trees : List TreeMap) (number hives : ℕ) (known before opened : Option (List ℕ)) (script : Script) (begun : IsBegun sole origin trees number hives start.moment script) (told : Appends before opened (kind_text start.kind number)) where
+module _ (whole past : List HistoryEntry) (start : PartStart) (sole : Bool) (origin : EngineView) (trees : List TreeMap) (number hives : ℕ) (known before opened : Option (List ℕ)) (script : Script) (begun : IsBegun sole origin trees number hives start.moment script) (told : Appends before opened (kind_text start.kind number)) where
   module _ (mid after : Option (List ℕ)) (last : Script) (flushed : ReplyLine) (seen : Sight) (left : Option Refusal) (later : SeesMore last.session.seen seen) (probes : MayProbe sole last.session.seen seen) (may : MayBeUndone sole origin trees number hives last.session.seen seen left) (stands : LiesLast sole whole past origin seen) where
     abbrev pub Reports : Status → Status → Type 0
     Reports status came_to = (status ≡ with_refusal (is_some left) (with_refusal (is_refusal flushed) came_to)) × Appends mid after (flushed_text flushed ++ undone_text left)
@@ -182,12 +183,12 @@ module _ (whole past : List HistoryEntry) (start : PartStart) (sole : Bool) (ori
   )
 
 -- a part that doesn't begin
-pub begins_not : (whole past : List HistoryEntry) (start : PartStart) (sole : Bool) (origin : Point) (trees : List TreeMap) (number hives : ℕ) (known before after : Option (List ℕ)) (why : Refusal) {E : Type 0} (r : Result Status E) → MayNotBegin whole past sole origin trees number hives why → IfOk r (λ status. (status ≡ Refused) × Appends before after (refusal_text why ++ 10 ∷ [])) → IfOk r (λ status. RunsFrom whole past start sole origin trees number hives known before after status)
+pub begins_not : (whole past : List HistoryEntry) (start : PartStart) (sole : Bool) (origin : EngineView) (trees : List TreeMap) (number hives : ℕ) (known before after : Option (List ℕ)) (why : Refusal) {E : Type 0} (r : Result Status E) → MayNotBegin whole past sole origin trees number hives why → IfOk r (λ status. (status ≡ Refused) × Appends before after (refusal_text why ++ 10 ∷ [])) → IfOk r (λ status. RunsFrom whole past start sole origin trees number hives known before after status)
 begins_not whole past start sole origin trees number hives known before after why r may h =
     if_ok (λ status. (status ≡ Refused) × Appends before after (refusal_text why ++ 10 ∷ [])) (λ status. RunsFrom whole past start sole origin trees number hives known before after status) r (λ status said. (Err why, before, may, appends_nothing before, (said.1, said.0))) h
 
 -- the next part after a fold
-pub folded_from : (whole past : List HistoryEntry) (start : PartStart) (next : NextPart) (at : ℕ) (sole : Bool) (origin : Point) (trees : List TreeMap) (number hives : ℕ) (seen : Sight) (known before rest mid after : Option (List ℕ)) (status : Status) (stands : LiesIn sole whole past origin seen) (folding : List HistoryEntry) (unasked : IsUnasked folding) (old new : Machine) (begun : Point)
+pub folded_from : (whole past : List HistoryEntry) (start : PartStart) (next : NextPart) (at : ℕ) (sole : Bool) (origin : EngineView) (trees : List TreeMap) (number hives : ℕ) (seen : Sight) (known before rest mid after : Option (List ℕ)) (status : Status) (stands : LiesIn sole whole past origin seen) (folding : List HistoryEntry) (unasked : IsUnasked folding) (old new : Machine) (begun : EngineView)
     → (end_of origin stands.own).machine ≡ old → end_of origin (stands.own ++ folding) ≡ begun → IsPrefix (past ++ (stands.own ++ folding)) whole → IsOf trees number hives old → IsFoldedAt old new at → EndsPart whole past start sole origin trees number hives seen known before (ToFold next) rest mid
     → RunsFrom whole (past ++ (stands.own ++ folding)) (record start { kind = next.kind; number = at; line = next.line; moment = next.moment }) sole begun new.opened new.before new.bounds.hives rest mid after status → RunsFrom whole past start sole origin trees number hives known before after (with_refusal next.has_refusal status)
 folded_from whole past start next at sole origin trees number hives seen known before rest mid after status stands folding unasked old new begun left led within of is ends runs =
@@ -197,13 +198,13 @@ folded_from whole past start next at sole origin trees number hives seen known b
     let named = is.hives ∙ of.hives in
     let own = (end_of origin stands.own).machine in
     let begins =
-    subst (λ (p : Point). BeginsOrNot whole all sole p (after_elements trees own.accepted) (number + length own.accepted) hives next.moment runs.0) (sym led)
+    subst (λ (p : EngineView). BeginsOrNot whole all sole p (after_elements trees own.accepted) (number + length own.accepted) hives next.moment runs.0) (sym led)
     (subst (λ (h : ℕ). BeginsOrNot whole all sole begun (after_elements trees own.accepted) (number + length own.accepted) h next.moment runs.0) named
     (subst (λ (n : ℕ). BeginsOrNot whole all sole begun (after_elements trees own.accepted) n new.bounds.hives next.moment runs.0) numbered (subst (λ (t : List TreeMap). BeginsOrNot whole all sole begun t new.before new.bounds.hives next.moment runs.0) opened runs.2))) in
     ends runs.0 runs.1 after status (stands, inl (record { folding = folding; unasked = unasked; within = within; begins = begins })) runs.3 runs.4
 
 -- a fold that is refused
-pub not_folded : (whole past : List HistoryEntry) (start : PartStart) (next : NextPart) (sole : Bool) (origin : Point) (trees : List TreeMap) (number hives : ℕ) (seen : Sight) (known before rest mid after : Option (List ℕ)) (why : Refusal) {E : Type 0} (r : Result Status E) (stands : LiesIn sole whole past origin seen) → asked_in whole ≡ asked_in (past ++ stands.own) → EndsPart whole past start sole origin trees number hives seen known before (ToFold next) rest mid → MayNotFold why → IfOk r (λ status. (status ≡ Refused) × Appends mid after (refusal_text why ++ 10 ∷ []))
+pub not_folded : (whole past : List HistoryEntry) (start : PartStart) (next : NextPart) (sole : Bool) (origin : EngineView) (trees : List TreeMap) (number hives : ℕ) (seen : Sight) (known before rest mid after : Option (List ℕ)) (why : Refusal) {E : Type 0} (r : Result Status E) (stands : LiesIn sole whole past origin seen) → asked_in whole ≡ asked_in (past ++ stands.own) → EndsPart whole past start sole origin trees number hives seen known before (ToFold next) rest mid → MayNotFold why → IfOk r (λ status. (status ≡ Refused) × Appends mid after (refusal_text why ++ 10 ∷ []))
     → IfOk r (λ status. RunsFrom whole past start sole origin trees number hives known before after (with_refusal next.has_refusal status))
 not_folded whole past start next sole origin trees number hives seen known before rest mid after why r stands last ends may h =
     if_ok (λ status. (status ≡ Refused) × Appends mid after (refusal_text why ++ 10 ∷ [])) (λ status. RunsFrom whole past start sole origin trees number hives known before after (with_refusal next.has_refusal status)) r
@@ -218,14 +219,14 @@ with_earlier P Q refused (Err e) ran goes also is h = tt
 -- A run
 
 -- one part after another: from the first part that begins so, the run goes to its end
-pub run_from : (whole : List HistoryEntry) (limit number hives : ℕ) (can_read : Bool) (sole : Bool) (origin : Point) (trees : List TreeMap) (known before after : Option (List ℕ)) (status : Status) → RunsFrom whole [] (record { kind = Opened; number = number; limit = limit; can_read = can_read; line = 1; moment = 0 }) sole origin trees number hives known before after status → RunsOrNot whole limit can_read known sole origin trees number hives before after status
+pub run_from : (whole : List HistoryEntry) (limit number hives : ℕ) (can_read : Bool) (sole : Bool) (origin : EngineView) (trees : List TreeMap) (known before after : Option (List ℕ)) (status : Status) → RunsFrom whole [] (record { kind = Opened; number = number; limit = limit; can_read = can_read; line = 1; moment = 0 }) sole origin trees number hives known before after status → RunsOrNot whole limit can_read known sole origin trees number hives before after status
 run_from whole limit number hives can_read sole origin trees known before after status (Err why, told, begins, printed, on) =
     inl (record { why = why; may_be = begins; reported = kept_appends before told after (refusal_text why ++ 10 ∷ []) (kept_by_nothing before told printed) on.0; status_is = on.1 })
 run_from whole limit number hives can_read sole origin trees known before after status (Ok one, told, begins, printed, on) =
     let same : one ≡ record { past = []; sole = sole; start = origin; trees = trees; number = number; hives = hives; script = one.script } =
     ap (λ (q : List HistoryEntry). record { past = q; sole = one.sole; start = one.start; trees = one.trees; number = one.number; hives = one.hives; script = one.script }) begins.0
     ∙ ap (λ (b : Bool). record { past = []; sole = b; start = one.start; trees = one.trees; number = one.number; hives = one.hives; script = one.script }) begins.1
-    ∙ ap (λ (p : Point). record { past = []; sole = sole; start = p; trees = one.trees; number = one.number; hives = one.hives; script = one.script }) begins.2
+    ∙ ap (λ (p : EngineView). record { past = []; sole = sole; start = p; trees = one.trees; number = one.number; hives = one.hives; script = one.script }) begins.2
     ∙ ap (λ (t : List TreeMap). record { past = []; sole = sole; start = origin; trees = t; number = one.number; hives = one.hives; script = one.script }) begins.3
     ∙ ap (λ (n : ℕ). record { past = []; sole = sole; start = origin; trees = trees; number = n; hives = one.hives; script = one.script }) begins.4
     ∙ ap (λ (h : ℕ). record { past = []; sole = sole; start = origin; trees = trees; number = number; hives = h; script = one.script }) begins.5 in

@@ -18,10 +18,12 @@ use Rattle.ktm_calls.specs.Moments.{IsOf}
 use Rattle.registry_runner.specs.Folding.{HistoryStays, IsFoldedAt, IsIdle}
 use Rattle.registry_runner.specs.Parts.{MayNotFold}
 use Rattle.histories.specs.Asked.{asked_in}
-use Rattle.histories.specs.Points.{HistoryEntry, Point}
+use Rattle.histories.specs.Histories.{HasLedWith}
+use Rattle.engine_invariant.specs.Engines.{EngineView}
+use Rattle.histories.specs.Points.{HistoryEntry}
 use Rattle.histories.proofs.Asked.{asked_append}
 use Rattle.histories.proofs.Leading.{leads_join}
-use Rattle.registry_runner.specs.Running.{HasLedWith, IsOfStore, IsUnasked}
+use Rattle.registry_runner.specs.Running.{IsOfStore, IsUnasked}
 
 -- The steps
 
@@ -98,5 +100,5 @@ pub is_own : (machine : Machine) → IsIdle machine → IsOf machine.opened mach
 is_own machine idle = (record { opened = refl; before = refl; hives = refl }, idle.0, idle.1)
 
 -- Histories for which nobody asks, one after another.
-pub unasked_on : (from mid now : Point) (s t u : ℕ → Machine → Type 0) (f g h : Type 0) → HasLedWith from s f t g mid IsUnasked → HasLedWith mid t g u h now IsUnasked → HasLedWith from s f u h now IsUnasked
+pub unasked_on : (from mid now : EngineView) (s t u : ℕ → Machine → Type 0) (f g h : Type 0) → HasLedWith from s f t g mid IsUnasked → HasLedWith mid t g u h now IsUnasked → HasLedWith from s f u h now IsUnasked
 unasked_on from mid now s t u f g h a b = (a.0 ++ b.0, leads_join from mid now s t u f g h a.0 b.0 a.1 b.1, asked_append a.0 b.0 ∙ (ap (λ (w : List HistoryEntry). w ++ asked_in b.0) a.2 ∙ b.2))

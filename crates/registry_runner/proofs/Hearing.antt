@@ -7,7 +7,8 @@ use Rattle.refusals.specs.declared.refusal.Refusal.{Refusal}
 use Rattle.refusals.specs.declared.refusal.Refusal.TheVariants.{Faulted, NoMemory, NoSuchHandle}
 use Rattle.reg_tree.specs.Maps.{TreeMap}
 use Rattle.histories.specs.Asked.{asked_in}
-use Rattle.histories.specs.Points.{HistoryEntry, Point, entry_of}
+use Rattle.engine_invariant.specs.Engines.{EngineView}
+use Rattle.histories.specs.Points.{HistoryEntry, entry_of}
 use Rattle.histories.proofs.Asked.{asked_one}
 use Rattle.published_trees.specs.declared.rule.TheConstants.{MOST_READERS}
 use Rattle.store_model.specs.declared.event.Event.{Event}
@@ -26,7 +27,7 @@ use Rattle.store_model.specs.declared.handle.Tx.{Tx}
 use Rattle.registry_runner.specs.Heard.{Hears, IsHeard, Rests, denied_reply, told_reply}
 use Rattle.registry_runner.specs.Scripts.{EntersSession, Script, FlushesThen, IsLabelled, IsNotFaulted, MayNotEnter, MayProbe, RefusesFold}
 
-module _ (sole : Bool) (origin : Point) (trees : List TreeMap) (number hives : ℕ) (old new : NumberedSight) (event : Event) where
+module _ (sole : Bool) (origin : EngineView) (trees : List TreeMap) (number hives : ℕ) (old new : NumberedSight) (event : Event) where
   -- a denied call is heard
   pub heard_denied : (why : Denied) → IsDenied sole origin trees number hives old.seen new.seen event why → IsHeard sole origin trees number hives old event (denied_reply why) new
   heard_denied denied.NoMemory d = inl (refl, d)
@@ -47,7 +48,7 @@ one_refusal : (a b : Refusal) → answer.Refused a ≡ answer.Refused b → a �
 one_refusal a b e = subst (λ (r : Reply). IfSome (refusal_in r) (λ w. a ≡ w)) e refl
 
 -- what was asked for at most, of a question whether the store is faulted
-module _ (sole : Bool) (origin : Point) (trees : List TreeMap) (number hives : ℕ) (was is : Sight) (id : List ℕ) where
+module _ (sole : Bool) (origin : EngineView) (trees : List TreeMap) (number hives : ℕ) (was is : Sight) (id : List ℕ) where
   told_probes : (told : Told) → Tells sole origin trees number hives was is (Begin MOST_READERS id) told → MayProbe sole was is
   told_probes told t so =
       let x = entry_of (Begin MOST_READERS id) told.reply t.stands.after in
@@ -70,11 +71,11 @@ module _ (sole : Bool) (origin : Point) (trees : List TreeMap) (number hives : �
   denied_sound (denied.Told told) e d = (id, told, d.0, λ f. absurd (cc (one_refusal NoSuchHandle Faulted (sym (refused_so told.reply NoSuchHandle e) ∙ f))))
 
 -- the refusal of a denied event is why no session is entered
-pub denied_enters : (why : Denied) (refusal : Refusal) → denial_of why ≡ Some refusal → (sole : Bool) (origin : Point) (trees : List TreeMap) (number hives : ℕ) (was is : Sight) (event : Event) → EntersSession event → IsDenied sole origin trees number hives was is event why → MayNotEnter sole origin trees number hives was is refusal
+pub denied_enters : (why : Denied) (refusal : Refusal) → denial_of why ≡ Some refusal → (sole : Bool) (origin : EngineView) (trees : List TreeMap) (number hives : ℕ) (was is : Sight) (event : Event) → EntersSession event → IsDenied sole origin trees number hives was is event why → MayNotEnter sole origin trees number hives was is refusal
 denied_enters why refusal e sole origin trees number hives was is event enters d = (event, enters, why, d, e)
 
 -- what is asked in a session, and the line's reply tells
-module _ (sole : Bool) (origin : Point) (trees : List TreeMap) (number hives : ℕ) (old new : NumberedSight) (event : Event) where
+module _ (sole : Bool) (origin : EngineView) (trees : List TreeMap) (number hives : ℕ) (old new : NumberedSight) (event : Event) where
   pub hears : (r : Result Told Denied) (reported : ReplyLine) → reported ≡ told_reply r → SeesMore old.seen new.seen → new.number ≡ old.number → IfOk r (λ t. Tells sole origin trees number hives old.seen new.seen event t) → IfErr r (IsDenied sole origin trees number hives old.seen new.seen event) → Hears sole origin trees number hives old event reported new
   hears r reported said seen same told denied = (record { number = same; seen = seen }, subst (λ s. IsHeard sole origin trees number hives old event s new) (sym said) (heard sole origin trees number hives old new event r told denied))
 
@@ -89,12 +90,12 @@ pub labelled : (named : Option Tx) (tx : Tx) (asks : Tx → Type 0) (old : Scrip
 labelled named tx asks old reported new is asked = subst (λ (o : Option Tx). IsLabelled o asks old reported new) (sym is) asked
 
 -- what a call of the registry answers is heard by whoever asked
-pub heard_so : (sole : Bool) (origin : Point) (trees : List TreeMap) (number hives : ℕ) (old new : NumberedSight) (event : Event) (r : Result Told Denied) (reported : ReplyLine) → reported ≡ told_reply r → IfOk r (λ t. Tells sole origin trees number hives old.seen new.seen event t) → IfErr r (IsDenied sole origin trees number hives old.seen new.seen event)
+pub heard_so : (sole : Bool) (origin : EngineView) (trees : List TreeMap) (number hives : ℕ) (old new : NumberedSight) (event : Event) (r : Result Told Denied) (reported : ReplyLine) → reported ≡ told_reply r → IfOk r (λ t. Tells sole origin trees number hives old.seen new.seen event t) → IfErr r (IsDenied sole origin trees number hives old.seen new.seen event)
     → IsHeard sole origin trees number hives old event reported new
 heard_so sole origin trees number hives old new event r reported said t d = subst (λ s. IsHeard sole origin trees number hives old event s new) (sym said) (heard sole origin trees number hives old new event r t d)
 
 -- a fold that is refused has flushed what was accepted, or was refused that
-pub fold_refused : (sole : Bool) (origin : Point) (trees : List TreeMap) (number hives : ℕ) (old new : Script) (reported : ReplyLine) → RefusesFold sole origin trees number hives old reported new → (flushed : ReplyLine) × FlushesThen sole origin trees number hives old flushed new
+pub fold_refused : (sole : Bool) (origin : EngineView) (trees : List TreeMap) (number hives : ℕ) (old new : Script) (reported : ReplyLine) → RefusesFold sole origin trees number hives old reported new → (flushed : ReplyLine) × FlushesThen sole origin trees number hives old flushed new
 fold_refused sole origin trees number hives old new reported (inl (flushes, refused)) = (reported, (new, flushes, (record { number = refl; seen = seen_self new.session.seen }, (λ so. inl refl), refl)))
 fold_refused sole origin trees number hives old new reported (inr (mid, (flushed, flushes, granted), on, why, may, told)) = (flushed, (mid, flushes, on))
 

@@ -17,7 +17,8 @@ use Rattle.script_loop.proofs.Reading.{many_read}
 use Rattle.script_loop.proofs.Running.{refusals_join}
 use Rattle.script_runner.specs.Plays.{is_refusal}
 use Rattle.script_runner.specs.Scripts.{line_asked}
-use Rattle.histories.specs.Points.{HistoryEntry, Point}
+use Rattle.engine_invariant.specs.Engines.{EngineView}
+use Rattle.histories.specs.Points.{HistoryEntry}
 use Rattle.registry_runner.specs.Parts.{Part, Folds, KeepsOrFolds, number_told, start_text}
 use Rattle.registry_runner.specs.PartLines.{AnswersInPart, AnswersThen, Between, OverHistory, StopsInPart}
 use Rattle.registry_runner.specs.Plays.{LinesCome, PlaysOn}
@@ -33,7 +34,7 @@ use Rattle.registry_runner.specs.declared.script.LineAnswer.{LineAnswer}
 use Rattle.registry_runner.specs.declared.script.LineAnswer.TheVariants.{Reply, ToFold}
 use Rattle.registry_runner.proofs.Playing.{continued_text, part}
 
-module _ (past : List HistoryEntry) (limit : ℕ) (sole : Bool) (origin : Point) (trees : List TreeMap) (first hives : ℕ) where
+module _ (past : List HistoryEntry) (limit : ℕ) (sole : Bool) (origin : EngineView) (trees : List TreeMap) (first hives : ℕ) where
   -- a line was answered by a reply, and then that is done
   pub answered_then : (old mid new : Script) (line : List ℕ) (made : Option LineAnswer) (reported : ReplyLine) (refused : Bool) (told : ℕ) (came next : BetweenLines) → made ≡ Some (Reply reported)
       → IfSome made (λ it. (asked : Line) × (line_asked line ≡ Some asked) × AnswersLine sole origin trees first hives old asked it mid) → refused ≡ is_refusal reported → told ≡ number_told reported → came ≡ next → Between limit (part past sole origin trees first hives mid) told came new
@@ -55,7 +56,7 @@ module _ (past : List HistoryEntry) (limit : ℕ) (sole : Bool) (origin : Point)
   folds_line old new line made is some =
       let folds = subst (λ made. IfSome made (λ it. (asked : Line) × (line_asked line ≡ Some asked) × AnswersLine sole origin trees first hives old asked it new)) is some in (folds.1 ∙ ap Some folds.2.0, folds.2.1, refl, refl)
 
-module _ (whole past : List HistoryEntry) (limit : ℕ) (sole : Bool) (origin : Point) (trees : List TreeMap) (first hives : ℕ) where
+module _ (whole past : List HistoryEntry) (limit : ℕ) (sole : Bool) (origin : EngineView) (trees : List TreeMap) (first hives : ℕ) where
   same_part : (old new : Script) → new ≡ old → ◌≡◌ {A = Result Part Refusal} (Ok (part past sole origin trees first hives new)) (Ok (part past sole origin trees first hives old))
   same_part old new same = ap (λ s. Ok (part past sole origin trees first hives s)) same
 

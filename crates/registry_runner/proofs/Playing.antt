@@ -8,7 +8,8 @@ use Rattle.reg_tree.specs.Maps.{TreeMap}
 use Rattle.reply_lines.specs.declared.status.Status.{Status}
 use Rattle.reply_lines.specs.declared.status.Status.TheVariants.{Refused}
 use Rattle.script_loop.specs.Lines.{WereRead, lines_of}
-use Rattle.histories.specs.Points.{HistoryEntry, Point}
+use Rattle.engine_invariant.specs.Engines.{EngineView}
+use Rattle.histories.specs.Points.{HistoryEntry}
 use Rattle.registry_runner.specs.Plays.{IsPlayedOn}
 use Rattle.registry_runner.specs.Parts.{Part, start_text}
 use Rattle.registry_runner.specs.Scripts.{Script}
@@ -26,7 +27,7 @@ continued_text (Ok part) = refl
 continued_text (Err why) = refl
 
 -- a part of these trees and this number
-abbrev pub part : List HistoryEntry → Bool → Point → List TreeMap → ℕ → ℕ → Script → Part
+abbrev pub part : List HistoryEntry → Bool → EngineView → List TreeMap → ℕ → ℕ → Script → Part
 part past sole origin trees number hives script = record { past = past; sole = sole; start = origin; trees = trees; number = number; hives = hives; script = script }
 
 nothing_read : (known : Option (List ℕ)) → WereRead known [] None

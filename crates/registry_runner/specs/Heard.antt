@@ -9,7 +9,7 @@ use Rattle.script_runner.specs.declared.operation.Operation.{Operation}
 use Rattle.script_runner.specs.declared.operation.Operation.TheVariants.{Write, Read}
 use Rattle.reply_lines.specs.declared.reply.ReplyLine.{ReplyLine}
 use Rattle.reply_lines.specs.declared.reply.ReplyLine.TheVariants as reply
-use Rattle.histories.specs.Points.{Point}
+use Rattle.engine_invariant.specs.Engines.{EngineView}
 use Rattle.store_model.specs.Machine.{read_refusal}
 use Rattle.store_model.specs.declared.event.Event.{Event}
 use Rattle.store_model.specs.declared.event.Event.TheVariants as event
@@ -44,20 +44,20 @@ pub record Rests (sole : Bool) (old new : NumberedSight) : Type 0 where
 
 -- There was no memory, and nothing else was asked for. Or a machine of the registry answered the event, with all that the
 -- session has seen before and after it, and the reply tells its answer.
-abbrev pub IsHeard : Bool → Point → List TreeMap → ℕ → ℕ → NumberedSight → Event → ReplyLine → NumberedSight → Type 0
+abbrev pub IsHeard : Bool → EngineView → List TreeMap → ℕ → ℕ → NumberedSight → Event → ReplyLine → NumberedSight → Type 0
 IsHeard sole origin trees number hives old event reported new =
     ((reported ≡ reply.Refused NoMemory) × AsksAtMost sole old.seen new.seen event) ⊎ ((told : Told) × Tells sole origin trees number hives old.seen new.seen event told × (reported ≡ reply_of told.reply))
 
-abbrev pub Hears : Bool → Point → List TreeMap → ℕ → ℕ → NumberedSight → Event → ReplyLine → NumberedSight → Type 0
+abbrev pub Hears : Bool → EngineView → List TreeMap → ℕ → ℕ → NumberedSight → Event → ReplyLine → NumberedSight → Type 0
 Hears sole origin trees number hives old event reported new = GoesOn old new × IsHeard sole origin trees number hives old event reported new
 
 -- The event was answered with a number, and that number is durable: the reply tells it. Or the reply tells why not.
-abbrev pub IsHeardDurably : Bool → Point → List TreeMap → ℕ → ℕ → NumberedSight → Event → (ℕ → ReplyLine) → ReplyLine → NumberedSight → Type 0
+abbrev pub IsHeardDurably : Bool → EngineView → List TreeMap → ℕ → ℕ → NumberedSight → Event → (ℕ → ReplyLine) → ReplyLine → NumberedSight → Type 0
 IsHeardDurably sole origin trees number hives old event tell reported new =
     ((receipt : NumberedSight) × (told : Told) × TellsDurably sole origin trees number hives old.seen new.seen event receipt told × (reported ≡ tell receipt.number))
     ⊎ ((why : Denied) × IsCommitDenied sole origin trees number hives old.seen new.seen event why × (reported ≡ denied_reply why))
 
-abbrev pub HearsDurably : Bool → Point → List TreeMap → ℕ → ℕ → NumberedSight → Event → (ℕ → ReplyLine) → ReplyLine → NumberedSight → Type 0
+abbrev pub HearsDurably : Bool → EngineView → List TreeMap → ℕ → ℕ → NumberedSight → Event → (ℕ → ReplyLine) → ReplyLine → NumberedSight → Type 0
 HearsDurably sole origin trees number hives old event tell reported new = GoesOn old new × IsHeardDurably sole origin trees number hives old event tell reported new
 
 -- why a read may be refused: there was no memory, the session isn't open, or there is no such hive, key or value
@@ -75,16 +75,16 @@ TellsOutcome hives trees id reported =
     ((number : ℕ) × HasOutcome hives trees id number × (reported ≡ reply.Committed number))
     ⊎ ((why : Refusal) × ((why ≡ NoMemory) ⊎ (why ≡ NoSuchHandle) ⊎ HasNoOutcome hives trees id why) × (reported ≡ reply.Refused why))
 
-abbrev pub HearsOutcome : Bool → Point → List TreeMap → ℕ → ℕ → NumberedSight → List ℕ → ReplyLine → NumberedSight → Type 0
+abbrev pub HearsOutcome : Bool → EngineView → List TreeMap → ℕ → ℕ → NumberedSight → List ℕ → ReplyLine → NumberedSight → Type 0
 HearsOutcome sole origin trees number hives old id reported new = Rests sole old new × TellsOutcome hives (after_elements trees new.seen.list) id reported
 
 -- a request alone, at a moment
-abbrev pub HearsAlone : Bool → Point → List TreeMap → ℕ → ℕ → ℕ → NumberedSight → Operation → ReplyLine → NumberedSight → Type 0
+abbrev pub HearsAlone : Bool → EngineView → List TreeMap → ℕ → ℕ → ℕ → NumberedSight → Operation → ReplyLine → NumberedSight → Type 0
 HearsAlone sole origin trees number hives moment old (Write op) reported new = Hears sole origin trees number hives old (event.Write old.number moment op) reported new
 HearsAlone sole origin trees number hives moment old (Read hive path question) reported new =
     Rests sole old new × ReadsSeen (read_within hives (after_elements trees new.seen.list) hive path question) reported
 
 -- the same in a transaction
-abbrev pub HearsInside : Bool → Point → List TreeMap → ℕ → ℕ → ℕ → Tx → NumberedSight → Operation → ReplyLine → NumberedSight → Type 0
+abbrev pub HearsInside : Bool → EngineView → List TreeMap → ℕ → ℕ → ℕ → Tx → NumberedSight → Operation → ReplyLine → NumberedSight → Type 0
 HearsInside sole origin trees number hives moment tx old (Write op) reported new = Hears sole origin trees number hives old (event.TxWrite old.number tx moment op) reported new
 HearsInside sole origin trees number hives moment tx old (Read hive path question) reported new = Hears sole origin trees number hives old (event.TxRead old.number tx hive path question) reported new

@@ -1,7 +1,8 @@
 -- What a script of the program shows.
 use Rattle.std.specs.Prelude.{ℕ, Bool, List, Option, Some, None}
 use Rattle.reg_tree.specs.Maps.{TreeMap}
-use Rattle.histories.specs.Points.{HistoryEntry, Point}
+use Rattle.engine_invariant.specs.Engines.{EngineView}
+use Rattle.histories.specs.Points.{HistoryEntry}
 use Rattle.store_model.specs.declared.handle.Tx.{Tx}
 use Rattle.script_runner.specs.Labels.{HasRoom, named_by}
 use Rattle.script_runner.specs.declared.labels.Labels.{Labels}
@@ -24,5 +25,5 @@ script_of shown = record { moment = shown.moment; session = shown.session; label
 
 -- the part of a run that comes after this past, whose registry's history begins here, and its list of changes on these
 -- trees after this number
-abbrev pub part_of : {O : Type 0} → List HistoryEntry → Bool → Point → List TreeMap → ℕ → ℕ → Shown O → Part
+abbrev pub part_of : {O : Type 0} → List HistoryEntry → Bool → EngineView → List TreeMap → ℕ → ℕ → Shown O → Part
 part_of past sole origin trees number hives shown = record { past = past; sole = sole; start = origin; trees = trees; number = number; hives = hives; script = script_of shown }

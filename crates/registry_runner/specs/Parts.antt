@@ -11,7 +11,8 @@ use Rattle.reply_lines.specs.declared.reply.ReplyLine.TheVariants as reply
 use Rattle.script_runner.specs.Plays.{opened_text}
 use Rattle.histories.specs.Asked.{EndSessions, asked_in}
 use Rattle.histories.specs.Histories.{end_of}
-use Rattle.histories.specs.Points.{HistoryEntry, Point}
+use Rattle.engine_invariant.specs.Engines.{EngineView}
+use Rattle.histories.specs.Points.{HistoryEntry}
 use Rattle.store_model.specs.Machine.{is_of_device}
 use Rattle.ktm_calls.specs.Denials.{IsOpened}
 use Rattle.ktm_calls.specs.Kinds.{Told}
@@ -26,7 +27,7 @@ use Rattle.registry_runner.specs.declared.parts.PartKind.TheVariants.{Opened, Fo
 pub record Part : Type 0 where
   pub past : List HistoryEntry
   pub sole : Bool
-  pub start : Point
+  pub start : EngineView
   pub trees : List TreeMap
   pub number : ℕ
   pub hives : ℕ
@@ -37,31 +38,31 @@ with_script part script = record part { script = script }
 
 -- a script before a part's first line: a session was just opened, before which nothing was seen, and no label names
 -- anything
-pub record IsBegun (sole : Bool) (origin : Point) (trees : List TreeMap) (number hives current : ℕ) (script : Script) : Type 0 where
+pub record IsBegun (sole : Bool) (origin : EngineView) (trees : List TreeMap) (number hives current : ℕ) (script : Script) : Type 0 where
   pub told : Told
   pub opened : IsOpened sole origin trees number hives no_sight script.session told
   pub moment : script.moment ≡ current
   pub labels : (label : List ℕ) → script.labels label ≡ None
 
 -- all that there is to see of a registry after this history: the changes that were accepted in it, and the history
-abbrev pub sight_of : Point → List HistoryEntry → Sight
+abbrev pub sight_of : EngineView → List HistoryEntry → Sight
 sight_of start history = record { list = (end_of start history).machine.accepted; history = history }
 
 -- What was seen begins all that there is to see of a registry. If there is a sole asker, all that was asked for was seen,
 -- but for the ends of sessions that were still open.
-pub record SeesAllAsked (sole : Bool) (start : Point) (seen : Sight) (own : List HistoryEntry) : Type 0 where
+pub record SeesAllAsked (sole : Bool) (start : EngineView) (seen : Sight) (own : List HistoryEntry) : Type 0 where
   pub begins : SeesMore seen (sight_of start own)
   pub asked : sole ≡ true → (ends : List HistoryEntry) × EndSessions ends × (asked_in own ≡ asked_in seen.history ++ ends)
 
 -- What was seen of a registry lies in the whole history of a run: the registry's own history comes there after this
 -- past.
-pub record LiesIn (sole : Bool) (whole past : List HistoryEntry) (start : Point) (seen : Sight) : Type 0 where
+pub record LiesIn (sole : Bool) (whole past : List HistoryEntry) (start : EngineView) (seen : Sight) : Type 0 where
   pub own : List HistoryEntry
   pub sees : SeesAllAsked sole start seen own
   pub within : IsPrefix (past ++ own) whole
 
 -- the same of the last registry of a run: nothing is asked for after it
-pub record LiesLast (sole : Bool) (whole past : List HistoryEntry) (start : Point) (seen : Sight) : Type 0 where
+pub record LiesLast (sole : Bool) (whole past : List HistoryEntry) (start : EngineView) (seen : Sight) : Type 0 where
   pub lies : LiesIn sole whole past start seen
   pub last : asked_in whole ≡ asked_in (past ++ lies.own)
 
@@ -71,13 +72,13 @@ AsksNoMore sole whole past = sole ≡ true → (ends : List HistoryEntry) × End
 
 -- Why no part begins over an engine: there is no memory, or no reader, and nothing more is asked for. Or session 0 was
 -- refused in the whole history.
-abbrev pub MayNotBegin : List HistoryEntry → List HistoryEntry → Bool → Point → List TreeMap → ℕ → ℕ → Refusal → Type 0
+abbrev pub MayNotBegin : List HistoryEntry → List HistoryEntry → Bool → EngineView → List TreeMap → ℕ → ℕ → Refusal → Type 0
 MayNotBegin whole past sole origin trees number hives why =
     (((why ≡ NoMemory) ⊎ (why ≡ NoSeat)) × AsksNoMore sole whole past)
     ⊎ ((seen : Sight) × LiesLast sole whole past origin seen × MayNotEnter sole origin trees number hives no_sight seen why)
 
 -- a part begins after this past, on these trees after the change of this number, at this moment; or none does, and why
-abbrev pub BeginsOrNot : List HistoryEntry → List HistoryEntry → Bool → Point → List TreeMap → ℕ → ℕ → ℕ → Result Part Refusal → Type 0
+abbrev pub BeginsOrNot : List HistoryEntry → List HistoryEntry → Bool → EngineView → List TreeMap → ℕ → ℕ → ℕ → Result Part Refusal → Type 0
 BeginsOrNot whole past sole origin trees number hives moment (Ok part) = (part.past ≡ past) × (part.sole ≡ sole) × (part.start ≡ origin) × (part.trees ≡ trees) × (part.number ≡ number) × (part.hives ≡ hives) × IsBegun sole origin trees number hives moment part.script
 BeginsOrNot whole past sole origin trees number hives moment (Err why) = MayNotBegin whole past sole origin trees number hives why
 
@@ -88,7 +89,7 @@ MayNotFold why = (why ≡ NoMemory) ⊎ (is_of_device why ≡ true)
 -- The history of a registry is folded, after its own history, by further events of the run's, for which nobody asks. The
 -- next part comes after all of them. Its list of changes begins on the trees after the changes that this registry accepted, and its number is
 -- the last one plus their count.
-pub record NextBegins (sole : Bool) (whole past own : List HistoryEntry) (start : Point) (trees : List TreeMap) (number hives moment : ℕ) (next : Result Part Refusal) : Type 0 where
+pub record NextBegins (sole : Bool) (whole past own : List HistoryEntry) (start : EngineView) (trees : List TreeMap) (number hives moment : ℕ) (next : Result Part Refusal) : Type 0 where
   pub folding : List HistoryEntry
   pub unasked : asked_in folding ≡ []
   pub within : IsPrefix (past ++ (own ++ folding)) whole
@@ -96,7 +97,7 @@ pub record NextBegins (sole : Bool) (whole past own : List HistoryEntry) (start 
 
 -- A registry of which this was seen ends, and its history is folded: the next part begins. Or no part follows, and why;
 -- nothing more is asked for then.
-abbrev pub FoldsAt : List HistoryEntry → List HistoryEntry → Bool → Point → List TreeMap → ℕ → ℕ → Sight → ℕ → Result Part Refusal → Type 0
+abbrev pub FoldsAt : List HistoryEntry → List HistoryEntry → Bool → EngineView → List TreeMap → ℕ → ℕ → Sight → ℕ → Result Part Refusal → Type 0
 FoldsAt whole past sole start trees number hives seen moment next =
     (stands : LiesIn sole whole past start seen) × (NextBegins sole whole past stands.own start trees number hives moment next ⊎ ((why : Refusal) × MayNotFold why × (next ≡ Err why) × (asked_in whole ≡ asked_in (past ++ stands.own))))
 

@@ -19,9 +19,9 @@ use Rattle.script_runner.specs.Plays.{opened_text}
 use Rattle.script_loop.specs.declared.end_of_script.EndOfScript.{EndOfScript}
 use Rattle.recovery.specs.Recovered.{seen_in}
 use Rattle.histories.specs.Asked.{asked_in}
-use Rattle.histories.specs.Histories.{LeadsTo}
 use Rattle.histories.specs.Leaving.{LeavesHistory}
-use Rattle.histories.specs.Points.{HistoryEntry, Point, point_of}
+use Rattle.engine_invariant.specs.Engines.{EngineView}
+use Rattle.histories.specs.Points.{HistoryEntry}
 use Rattle.ktm_calls.specs.Denials.{denial_of}
 use Rattle.ktm_calls.specs.Moments.{IsOf, SeesMore, Sight}
 use Rattle.ktm_calls.specs.declared.registry.Denied.{Denied}
@@ -61,7 +61,7 @@ MayHaveEnded ended = (ended ≡ None) ⊎ (ended ≡ Some DiskFault) ⊎ (ended 
 
 -- What the end of a run may report of them: the device has failed, if the question whether the store is faulted was
 -- refused for that; or want of memory.
-abbrev pub MayBeUndone : Bool → Point → List TreeMap → ℕ → ℕ → Sight → Sight → Option Refusal → Type 0
+abbrev pub MayBeUndone : Bool → EngineView → List TreeMap → ℕ → ℕ → Sight → Sight → Option Refusal → Type 0
 MayBeUndone sole origin trees number hives was seen undone =
     (undone ≡ None) ⊎ ((undone ≡ Some DiskFault) × MayNotEnter sole origin trees number hives was seen Faulted) ⊎ (undone ≡ Some NoMemory)
 
@@ -87,7 +87,7 @@ EndsRun whole (Err why) came_to before after status = Keeps before after × (sta
 
 -- The store's number was reported; these lines were played over registries of the store, up to this end of the script;
 -- and at the end all was flushed. Each line was answered in this whole history of the run, in the order of the lines.
-pub record RunsOver (whole : List HistoryEntry) (limit : ℕ) (sole : Bool) (origin : Point) (trees : List TreeMap) (number hives : ℕ) (lines : List (List ℕ)) (end_of_script : Option EndOfScript) (before after : Option (List ℕ)) (status : Status) : Type 0 where
+pub record RunsOver (whole : List HistoryEntry) (limit : ℕ) (sole : Bool) (origin : EngineView) (trees : List TreeMap) (number hives : ℕ) (lines : List (List ℕ)) (end_of_script : Option EndOfScript) (before after : Option (List ℕ)) (status : Status) : Type 0 where
   pub opened : Option (List ℕ)
   pub told : Appends before opened (opened_text number)
   pub script : Script
@@ -108,7 +108,7 @@ pub record IsReported (may : Refusal → Type 0) (before after : Option (List �
   pub status_is : status ≡ Refused
 
 -- A script over an opened store: it doesn't begin, and the reason is written; or it runs.
-abbrev pub RunsOrNot : List HistoryEntry → ℕ → Bool → Option (List ℕ) → Bool → Point → List TreeMap → ℕ → ℕ → Option (List ℕ) → Option (List ℕ) → Status → Type 0
+abbrev pub RunsOrNot : List HistoryEntry → ℕ → Bool → Option (List ℕ) → Bool → EngineView → List TreeMap → ℕ → ℕ → Option (List ℕ) → Option (List ℕ) → Status → Type 0
 RunsOrNot whole limit can_read known sole origin trees number hives before after status =
     IsReported (MayNotBegin whole [] sole origin trees number hives) before after status
     ⊎ ((lines : List (List ℕ)) × (end_of_script : Option EndOfScript) × WereReadIf can_read known lines end_of_script × RunsOver whole limit sole origin trees number hives lines end_of_script before after status)
@@ -120,28 +120,24 @@ IsOfStore trees number hives machine = (folded : List Element) × IsOf (after_el
 
 -- A store was opened on these files, and a script ran over registries of it. The disk as it was after the opening is
 -- `first`: if it is faithful, the first registry's list begins with the number and the trees that the files recover. One
--- history leads from there to the last registry's machine, and to the disk that is handed back. If all could be written,
--- what was written and the status are those of a run over this machine, in this history: each line's event stands in it
--- with the reply that was written, and nothing else is asked for.
+-- history leads from the engine over it to the engine as it was last, and to the disk that is handed back. If all could be
+-- written, what was written and the status are those of a run over this engine, in this history: each line's event stands
+-- in it with the reply that was written, and nothing else is asked for.
 pub record OpensAndRuns {D E : Type 0} (is_faithful : D → Type 0) (states_of : D → ℕ → ℕ → FileState) (clock_of failures_of : D → ℕ) (files : ℕ → List ℕ) (disk : D) (can_read : Bool) (known before after : Option (List ℕ)) (told : Result Status E) : Type 0 where
   pub first : D
   pub store : Store
   pub number : ℕ
-  pub machine : Machine
-  pub opened : IsOpenedOn (is_faithful first) files store number [] machine
+  pub begun : EngineView
+  pub opened : IsOpenedOn (is_faithful first) files store number [] begun.machine
   pub history : List HistoryEntry
-  pub last : Machine
-  pub owner : IsOfStore machine.opened number machine.bounds.hives last
-  pub left : LeavesHistory is_faithful states_of clock_of failures_of store first machine disk history last
-  pub runs : IfOk told (λ status. RunsOrNot history machine.bounds.changes can_read known true (point_of machine (clock_of first) (failures_of first)) machine.opened number machine.bounds.hives before after status)
+  pub last : EngineView
+  pub owner : IsOfStore begun.machine.opened number begun.machine.bounds.hives last.machine
+  pub left : LeavesHistory is_faithful states_of clock_of failures_of store first begun disk history last
+  pub runs : IfOk told (λ status. RunsOrNot history begun.machine.bounds.changes can_read known true begun begun.machine.opened number begun.machine.bounds.hives before after status)
 
 -- nothing in a history was asked for
 abbrev pub IsUnasked : List HistoryEntry → Type 0
 IsUnasked history = asked_in history ≡ []
-
--- one history has led there, and this is so of it
-abbrev pub HasLedWith : Point → (ℕ → Machine → Type 0) → Type 0 → (ℕ → Machine → Type 0) → Type 0 → Point → (List HistoryEntry → Type 0) → Type 0
-HasLedWith start was_safe was_faithful safe faithful now so = (history : List HistoryEntry) × LeadsTo start was_safe was_faithful safe faithful history now × so history
 
 -- A run that begins with one disk and hands back another: no store was opened, and the reason is written; or one was.
 abbrev pub IsRun : {D E : Type 0} → (D → Type 0) → (D → ℕ → ℕ → FileState) → (D → ℕ) → (D → ℕ) → D → D → Bool → Option (List ℕ) → Option (List ℕ) → Option (List ℕ) → Result Status E → Type 0
@@ -157,14 +153,14 @@ GoesToEnd whole limit can_read (Ok here) line known was is status =
 
 -- A part was to begin after this past, on these trees after the change of this number: from there the run went to its
 -- end.
-abbrev pub RunsFrom : List HistoryEntry → List HistoryEntry → PartStart → Bool → Point → List TreeMap → ℕ → ℕ → Option (List ℕ) → Option (List ℕ) → Option (List ℕ) → Status → Type 0
+abbrev pub RunsFrom : List HistoryEntry → List HistoryEntry → PartStart → Bool → EngineView → List TreeMap → ℕ → ℕ → Option (List ℕ) → Option (List ℕ) → Option (List ℕ) → Status → Type 0
 RunsFrom whole past start sole origin trees number hives known was is status =
     (first : Result Part Refusal) × (told : Option (List ℕ)) × BeginsOrNot whole past sole origin trees number hives start.moment first × Appends was told (start_text start.kind first) × GoesToEnd whole start.limit start.can_read first start.line known told is status
 
 -- The run ended in a part that was to begin so, and of which this was seen. Or the part's history is to be folded: however
 -- the run goes to its end then, that is how it does from the part's beginning. In each case what was seen stands in the
 -- whole history.
-abbrev pub EndsPart : List HistoryEntry → List HistoryEntry → PartStart → Bool → Point → List TreeMap → ℕ → ℕ → Sight → Option (List ℕ) → Option (List ℕ) → PartEnd → Option (List ℕ) → Option (List ℕ) → Type 0
+abbrev pub EndsPart : List HistoryEntry → List HistoryEntry → PartStart → Bool → EngineView → List TreeMap → ℕ → ℕ → Sight → Option (List ℕ) → Option (List ℕ) → PartEnd → Option (List ℕ) → Option (List ℕ) → Type 0
 EndsPart whole past start sole origin trees number hives seen known was (RunEnded ran) rest is = LiesLast sole whole past origin seen → IfOk ran (λ status. RunsFrom whole past start sole origin trees number hives known was is status)
 EndsPart whole past start sole origin trees number hives seen known was (ToFold next) rest is =
     (follows : Result Part Refusal) (told after : Option (List ℕ)) (status : Status) → FoldsAt whole past sole origin trees number hives seen next.moment follows → Appends is told (start_text next.kind follows) → GoesToEnd whole start.limit start.can_read follows next.line rest told after status
@@ -172,6 +168,6 @@ EndsPart whole past start sole origin trees number hives seen known was (ToFold 
 
 -- A part ends so over a registry that has this history of its own: something was seen of it, and wherever that history
 -- comes in a run's whole one, the part ends so.
-abbrev pub EndsPartAfter : List HistoryEntry → PartStart → Bool → Point → List TreeMap → ℕ → ℕ → Option (List ℕ) → Option (List ℕ) → PartEnd → Option (List ℕ) → Option (List ℕ) → Type 0
+abbrev pub EndsPartAfter : List HistoryEntry → PartStart → Bool → EngineView → List TreeMap → ℕ → ℕ → Option (List ℕ) → Option (List ℕ) → PartEnd → Option (List ℕ) → Option (List ℕ) → Type 0
 EndsPartAfter own start sole origin trees number hives known was end rest is =
     (seen : Sight) × SeesAllAsked sole origin seen own × ((whole past : List HistoryEntry) → EndsPart whole past start sole origin trees number hives seen known was end rest is)

@@ -12,7 +12,8 @@ use Rattle.script_syntax.specs.declared.line.Line.TheVariants.{Hives, History, A
 use Rattle.reply_lines.specs.declared.reply.ReplyLine.{ReplyLine}
 use Rattle.reply_lines.specs.declared.reply.ReplyLine.TheVariants as reply
 use Rattle.histories.specs.Asked.{asked_in}
-use Rattle.histories.specs.Points.{Point, entry_of}
+use Rattle.engine_invariant.specs.Engines.{EngineView}
+use Rattle.histories.specs.Points.{entry_of}
 use Rattle.published_trees.specs.declared.rule.TheConstants.{MOST_READERS}
 use Rattle.store_model.specs.Machine.{is_of_device}
 use Rattle.store_model.specs.declared.event.Event.{Event}
@@ -57,16 +58,16 @@ IsLabelled None asks old reported new = IsRefused old NoSuchHandle reported new
 abbrev pub InSession : Script → Script → Type 0
 InSession old new = new ≡ record old { session = new.session }
 
-abbrev pub Asks : Bool → Point → List TreeMap → ℕ → ℕ → Script → Event → ReplyLine → Script → Type 0
+abbrev pub Asks : Bool → EngineView → List TreeMap → ℕ → ℕ → Script → Event → ReplyLine → Script → Type 0
 Asks sole origin trees number hives old event reported new = Hears sole origin trees number hives old.session event reported new.session × InSession old new
 
-abbrev pub AsksDurably : Bool → Point → List TreeMap → ℕ → ℕ → Script → Event → (ℕ → ReplyLine) → ReplyLine → Script → Type 0
+abbrev pub AsksDurably : Bool → EngineView → List TreeMap → ℕ → ℕ → Script → Event → (ℕ → ReplyLine) → ReplyLine → Script → Type 0
 AsksDurably sole origin trees number hives old event tell reported new = HearsDurably sole origin trees number hives old.session event tell reported new.session × InSession old new
 
-abbrev pub AsksAlone : Bool → Point → List TreeMap → ℕ → ℕ → Script → Operation → ReplyLine → Script → Type 0
+abbrev pub AsksAlone : Bool → EngineView → List TreeMap → ℕ → ℕ → Script → Operation → ReplyLine → Script → Type 0
 AsksAlone sole origin trees number hives old asked reported new = HearsAlone sole origin trees number hives old.moment old.session asked reported new.session × InSession old new
 
-abbrev pub AsksInside : Bool → Point → List TreeMap → ℕ → ℕ → Script → Tx → Operation → ReplyLine → Script → Type 0
+abbrev pub AsksInside : Bool → EngineView → List TreeMap → ℕ → ℕ → Script → Tx → Operation → ReplyLine → Script → Type 0
 AsksInside sole origin trees number hives old tx asked reported new = HearsInside sole origin trees number hives old.moment tx old.session asked reported new.session × InSession old new
 
 -- Events that enter a session: the start of one, or, if it is open, the question whether the store is faulted, which is
@@ -77,17 +78,17 @@ EntersSession (event.Begin session id) = session ≡ MOST_READERS
 EntersSession _ = ⊥
 
 -- Why no session is entered: such an event was refused so, or there was no memory for it.
-abbrev pub MayNotEnter : Bool → Point → List TreeMap → ℕ → ℕ → Sight → Sight → Refusal → Type 0
+abbrev pub MayNotEnter : Bool → EngineView → List TreeMap → ℕ → ℕ → Sight → Sight → Refusal → Type 0
 MayNotEnter sole origin trees number hives was is why =
     (event : Event) × EntersSession event × (denied : Denied) × IsDenied sole origin trees number hives was is event denied × (denial_of denied ≡ Some why)
 
 -- the store was asked whether it is faulted, and isn't
-abbrev pub IsNotFaulted : Bool → Point → List TreeMap → ℕ → ℕ → Sight → Sight → Type 0
+abbrev pub IsNotFaulted : Bool → EngineView → List TreeMap → ℕ → ℕ → Sight → Sight → Type 0
 IsNotFaulted sole origin trees number hives was is =
     (id : List ℕ) × (told : Told) × Tells sole origin trees number hives was is (event.Begin MOST_READERS id) told × ¬ (told.reply ≡ answer.Refused Faulted)
 
 -- Another session is the current one, which was opened, or was open. Or none is entered, and the current one goes on.
-abbrev pub Enters : Bool → Point → List TreeMap → ℕ → ℕ → Script → ReplyLine → Script → Type 0
+abbrev pub Enters : Bool → EngineView → List TreeMap → ℕ → ℕ → Script → ReplyLine → Script → Type 0
 Enters sole origin trees number hives old reported new =
     InSession old new
     × (((reported ≡ reply.Done) × (told : Told) × IsOpened sole origin trees number hives old.session.seen new.session told)
@@ -95,13 +96,13 @@ Enters sole origin trees number hives old reported new =
     ⊎ (GoesOn old.session new.session × (why : Refusal) × MayNotEnter sole origin trees number hives old.session.seen new.session.seen why × (reported ≡ reply.Refused why)))
 
 -- A session that is open ends, or none of this number is open. If it was the current one, another is, which isn't open.
-abbrev pub Ends : Bool → Point → List TreeMap → ℕ → ℕ → Script → ReplyLine → Script → Type 0
+abbrev pub Ends : Bool → EngineView → List TreeMap → ℕ → ℕ → Script → ReplyLine → Script → Type 0
 Ends sole origin trees number hives old reported new =
     IsRefused old NoSuchHandle reported new
     ⊎ ((session : ℕ) × IsHeard sole origin trees number hives old.session (event.EndSession session) reported new.session × InSession old new)
 
 -- a transaction is begun, and the label names it from now on
-pub record Begins (sole : Bool) (origin : Point) (trees : List TreeMap) (number hives : ℕ) (old : Script) (label id : List ℕ) (reported : ReplyLine) (new : Script) : Type 0 where
+pub record Begins (sole : Bool) (origin : EngineView) (trees : List TreeMap) (number hives : ℕ) (old : Script) (label id : List ℕ) (reported : ReplyLine) (new : Script) : Type 0 where
   pub tx : Tx
   pub told : Told
   pub tells : Tells sole origin trees number hives old.session.seen new.session.seen (event.Begin old.session.number id) told
@@ -112,45 +113,45 @@ pub record Begins (sole : Bool) (origin : Point) (trees : List TreeMap) (number 
   pub names : Names old.labels new.labels label tx
 
 -- no transaction is begun, and each label names what it named
-pub record BeginsNothing (sole : Bool) (origin : Point) (trees : List TreeMap) (number hives : ℕ) (old : Script) (id : List ℕ) (reported : ReplyLine) (new : Script) : Type 0 where
+pub record BeginsNothing (sole : Bool) (origin : EngineView) (trees : List TreeMap) (number hives : ℕ) (old : Script) (id : List ℕ) (reported : ReplyLine) (new : Script) : Type 0 where
   pub hears : Hears sole origin trees number hives old.session (event.Begin old.session.number id) reported new.session
   pub rest : new ≡ record old { session = new.session; labels = new.labels }
   pub names : SameNames old.labels new.labels
 
 -- a unit's commit is told by what the current session has seen, or by the machine
-abbrev pub TellsKept : Bool → Point → List TreeMap → ℕ → ℕ → Script → List ℕ → ReplyLine → Script → Type 0
+abbrev pub TellsKept : Bool → EngineView → List TreeMap → ℕ → ℕ → Script → List ℕ → ReplyLine → Script → Type 0
 TellsKept sole origin trees number hives old id reported new =
     (HearsOutcome sole origin trees number hives old.session id reported new.session × InSession old new) ⊎ Asks sole origin trees number hives old (event.OutcomeOf id) reported new
 
 -- all that was accepted is made durable
-abbrev pub Flushes : Bool → Point → List TreeMap → ℕ → ℕ → Script → ReplyLine → Script → Type 0
+abbrev pub Flushes : Bool → EngineView → List TreeMap → ℕ → ℕ → Script → ReplyLine → Script → Type 0
 Flushes sole origin trees number hives old reported new = AsksDurably sole origin trees number hives old event.FlushAsk reply.Flushed reported new
 
 -- all that was accepted is made durable, and that isn't refused
-abbrev pub IsFlushed : Bool → Point → List TreeMap → ℕ → ℕ → Script → Script → Type 0
+abbrev pub IsFlushed : Bool → EngineView → List TreeMap → ℕ → ℕ → Script → Script → Type 0
 IsFlushed sole origin trees number hives old new = (flushed : ReplyLine) × Flushes sole origin trees number hives old flushed new × (is_refusal flushed ≡ false)
 
 -- Nothing was asked for, if there is a sole asker. Or the question was whether the store is faulted.
 abbrev pub MayProbe : Bool → Sight → Sight → Type 0
 MayProbe sole was is =
     sole ≡ true → (asked_in is.history ≡ asked_in was.history)
-    ⊎ ((id : List ℕ) × (told : Reply) × (after : Point) × (asked_in is.history ≡ asked_in was.history ++ entry_of (event.Begin MOST_READERS id) told after ∷ []))
+    ⊎ ((id : List ℕ) × (told : Reply) × (after : EngineView) × (asked_in is.history ≡ asked_in was.history ++ entry_of (event.Begin MOST_READERS id) told after ∷ []))
 
 -- the current session goes on, with no question but that one, and nothing else changes
 abbrev pub SeesOn : Bool → Script → Script → Type 0
 SeesOn sole old new = GoesOn old.session new.session × MayProbe sole old.session.seen new.session.seen × InSession old new
 
 -- all that was accepted is made durable, and then the session may go on
-abbrev pub FlushesThen : Bool → Point → List TreeMap → ℕ → ℕ → Script → ReplyLine → Script → Type 0
+abbrev pub FlushesThen : Bool → EngineView → List TreeMap → ℕ → ℕ → Script → ReplyLine → Script → Type 0
 FlushesThen sole origin trees number hives old reported new = (mid : Script) × Flushes sole origin trees number hives old reported mid × SeesOn sole mid new
 
 -- Why a step is refused that no line asked for: there is no memory. Or the device has failed: the machine of the registry
 -- refused the question whether the store is faulted, for being so.
-abbrev pub MayNotStep : Bool → Point → List TreeMap → ℕ → ℕ → Sight → Sight → Refusal → Type 0
+abbrev pub MayNotStep : Bool → EngineView → List TreeMap → ℕ → ℕ → Sight → Sight → Refusal → Type 0
 MayNotStep sole origin trees number hives was is why = (why ≡ NoMemory) ⊎ ((is_of_device why ≡ true) × MayNotEnter sole origin trees number hives was is Faulted)
 
 -- The history isn't folded: the flush before it is refused; or a step is that moves into the hives what they lack.
-abbrev pub RefusesFold : Bool → Point → List TreeMap → ℕ → ℕ → Script → ReplyLine → Script → Type 0
+abbrev pub RefusesFold : Bool → EngineView → List TreeMap → ℕ → ℕ → Script → ReplyLine → Script → Type 0
 RefusesFold sole origin trees number hives old reported new =
     (Flushes sole origin trees number hives old reported new × (is_refusal reported ≡ true))
     ⊎ ((mid : Script) × IsFlushed sole origin trees number hives old mid × SeesOn sole mid new × (why : Refusal) × MayNotStep sole origin trees number hives mid.session.seen new.session.seen why × (reported ≡ reply.Refused why))
@@ -158,7 +159,7 @@ RefusesFold sole origin trees number hives old reported new =
 -- From old, the line may be answered this reply over a registry whose list begins with these trees after this number,
 -- and leave new. Its names are tested first: the path, then a value's name; then its label. A line `fold` is answered
 -- here only if it is refused.
-abbrev pub Answers : Bool → Point → List TreeMap → ℕ → ℕ → Script → Line → ReplyLine → Script → Type 0
+abbrev pub Answers : Bool → EngineView → List TreeMap → ℕ → ℕ → Script → Line → ReplyLine → Script → Type 0
 Answers sole origin trees number hives old (Hives count) reported new = ⊥
 Answers sole origin trees number hives old (History limit) reported new = ⊥
 Answers sole origin trees number hives old (At moment) reported new = (reported ≡ reply.Done) × (new ≡ record old { moment = moment })
@@ -184,6 +185,6 @@ Answers sole origin trees number hives old Fold reported new = RefusesFold sole 
 Answers sole origin trees number hives old (Lab line) reported new = ⊥
 
 -- a line is answered by a reply; or it is `fold`, for which all was made durable
-abbrev pub AnswersLine : Bool → Point → List TreeMap → ℕ → ℕ → Script → Line → LineAnswer → Script → Type 0
+abbrev pub AnswersLine : Bool → EngineView → List TreeMap → ℕ → ℕ → Script → Line → LineAnswer → Script → Type 0
 AnswersLine sole origin trees number hives old asked (answered.Reply reported) new = Answers sole origin trees number hives old asked reported new
 AnswersLine sole origin trees number hives old asked answered.ToFold new = (asked ≡ Fold) × IsFlushed sole origin trees number hives old new

@@ -2,7 +2,7 @@
 ghost use Rattle.std.specs.Prelude.{◌≡◌, ◌⊎◌, ℕ, Bool, List, IfErr, IfOk, OnOk};
 ghost use Rattle.refusals.specs.declared.refusal.Refusal.TheVariants.{Faulted, NoMemory};
 ghost use Rattle.reg_tree.specs.Maps.{TreeMap};
-ghost use Rattle.histories.specs.Points.{Point};
+ghost use Rattle.engine_invariant.specs.Engines.{EngineView};
 ghost use Rattle.published_trees.specs.declared.rule.TheConstants.{MOST_READERS};
 ghost use Rattle.store_model.specs.declared.event.Event.{Event};
 ghost use Rattle.store_model.specs.declared.event.Event.TheVariants as event;
@@ -149,11 +149,11 @@ impl<'a, E: StoreEngine, O: Start, R: Wait> Caller<'a, E, O, R> {
 
 // the refusal of a question whether the store is faulted, unless it is that no session is open: the store isn't then
 fn unless_closed(denied: Denied) -> Result<(), Refusal>
-    ensures sound { OnOk result ((sole : Bool) (origin : Point) (trees : List TreeMap) (number hives : ℕ)
+    ensures sound { OnOk result ((sole : Bool) (origin : EngineView) (trees : List TreeMap) (number hives : ℕ)
         (was is : AnySight) (id : List ℕ) →
         IsDenied sole origin trees number hives was is (event.Begin MOST_READERS id) denied →
         IsNotFaulted sole origin trees number hives was is) }
-    ensures refused { IfErr result (λ why. (sole : Bool) (origin : Point) (trees : List TreeMap) (number hives : ℕ)
+    ensures refused { IfErr result (λ why. (sole : Bool) (origin : EngineView) (trees : List TreeMap) (number hives : ℕ)
         (was is : AnySight) (id : List ℕ) →
         IsDenied sole origin trees number hives was is (event.Begin MOST_READERS id) denied →
         MayNotEnter sole origin trees number hives was is why) }
@@ -188,7 +188,7 @@ pub fn denied_reply(denied: Denied) -> ReplyLine
 
 // the refusal that a call was denied with. There is one in each denial
 fn refusal_of(denied: Denied) -> Refusal
-    ensures { (sole : Bool) (origin : Point) (trees : List TreeMap) (number hives : ℕ) (was is : AnySight) (event : Event) →
+    ensures { (sole : Bool) (origin : EngineView) (trees : List TreeMap) (number hives : ℕ) (was is : AnySight) (event : Event) →
         EntersSession event → IsDenied sole origin trees number hives was is event denied →
         MayNotEnter sole origin trees number hives was is result }
 {

@@ -232,7 +232,7 @@ fn free_room<E: StoreEngine, O: Start, R: Wait, W: Write>(
 ) -> io::Result<bool>
     ensures { OnOk result (Keeps (W.contents writer.old) (W.contents writer.new)) }
 {
-    if caller.registry.room(caller.rt) < BUSY_ROOM {
+    if caller.registry.room(caller.rt).bytes < BUSY_ROOM {
         return Ok(false);
     }
     writer.flush()?;

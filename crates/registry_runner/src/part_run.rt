@@ -2,14 +2,15 @@
 ghost use Rattle.std.specs.Prelude.{◌≡◌, ◌<◌, ℕ, List, [], Ok, IfErr, IfOk};
 ghost use Rattle.std.specs.Io.KnownBytes.{Appends};
 ghost use Rattle.store_model.specs.Machine.{Machine};
-ghost use Rattle.histories.specs.Points.{HistoryEntry, point_of};
+ghost use Rattle.histories.specs.Histories.{HasLedWith};
+ghost use Rattle.histories.specs.Points.{HistoryEntry};
 ghost use Rattle.ktm_calls.specs.Denials.{IsTurnDenied};
 ghost use Rattle.ktm_calls.specs.Moments.{IsOf, SeesMore, no_sight};
 ghost use Rattle.registry_runner.specs.Interpreters.{part_of, script_of};
 ghost use Rattle.registry_runner.specs.Parts.{IsBegun, kind_text};
 ghost use Rattle.registry_runner.specs.Plays.{IsUnread, LinesCome, PartComes};
 ghost use Rattle.registry_runner.specs.Scripts.{MayProbe};
-ghost use Rattle.registry_runner.specs.Running.{EndsPart, EndsPartAfter, HasLedWith, MayBeUndone, MayHaveEnded};
+ghost use Rattle.registry_runner.specs.Running.{EndsPart, EndsPartAfter, MayBeUndone, MayHaveEnded};
 
 use crate::caller::Caller;
 use crate::gate::EndOfLines;
@@ -55,18 +56,17 @@ pub fn run_part<
     requires book { (count ≡ O.book) × (seen ≡ record { book = O.book; list = [] }) }
     requires events { events ≡ record { book = O.history; log = [] } }
     requires store { E.store engine ≡ O.store }
-    requires start { point_of (E.machine engine) (E.clock engine) (E.failures engine) ≡ O.start }
+    requires start { E.state engine ≡ O.start }
     requires faithful { E.faithful engine → O.faithful }
     requires safe { (moment : ℕ) (machine : Machine) → O.safe moment machine → E.safe engine moment machine }
-    requires engine { IsOf O.trees O.number O.hives (E.machine engine)
-        × ((E.machine engine).accepted ≡ []) × ((E.machine engine).sessions ≡ []) }
+    requires engine { IsOf O.trees O.number O.hives (E.state engine).machine
+        × ((E.state engine).machine.accepted ≡ []) × ((E.state engine).machine.sessions ≡ []) }
     requires number { start.number ≡ O.number }
     requires blank { (blank.name ≡ O.name) × (blank.parts ≡ O.parts) × (0 < blank.parts) }
     ensures store { E.store result.0 ≡ O.store }
-    ensures owner { IsOf O.trees O.number O.hives (E.machine result.0) }
-    ensures sessions { (E.machine result.0).sessions ≡ [] }
-    ensures ends { HasLedWith O.start O.safe O.faithful (E.safe result.0) (E.faithful result.0)
-        (point_of (E.machine result.0) (E.clock result.0) (E.failures result.0))
+    ensures owner { IsOf O.trees O.number O.hives (E.state result.0).machine }
+    ensures sessions { (E.state result.0).machine.sessions ≡ [] }
+    ensures ends { HasLedWith O.start O.safe O.faithful (E.safe result.0) (E.faithful result.0) (E.state result.0)
         (λ history. EndsPartAfter history start O.sole O.start O.trees O.number O.hives (B.remaining reader.old)
         (W.contents writer.old) result.1 (B.remaining reader.new) (W.contents writer.new)) }
 {

@@ -5,10 +5,10 @@ ghost use Rattle.store_model.specs.Steps.{Step};
 ghost use Rattle.store_model.specs.declared.event.Event.TheVariants as event;
 ghost use Rattle.store_model.specs.declared.event.Reply.TheVariants as reply;
 ghost use Rattle.histories.specs.Asked.{is_asked};
-ghost use Rattle.histories.specs.Points.{point_of};
+ghost use Rattle.histories.specs.Histories.{HasLedWith};
 ghost use Rattle.registry_runner.specs.Folding.{HistoryStays, IsFoldedAt, IsIdle};
 ghost use Rattle.registry_runner.specs.Parts.{MayNotFold};
-ghost use Rattle.registry_runner.specs.Running.{HasLedWith, IsOfStore, IsUnasked, RunsFrom};
+ghost use Rattle.registry_runner.specs.Running.{IsOfStore, IsUnasked, RunsFrom};
 
 use crate::part_run::run_part;
 use crate::run_end::write_refusal;
@@ -92,17 +92,16 @@ pub fn run_parts<E: StoreEngine + Send, R: Threads + Wait + Sync, B: BufRead, W:
     reader: &mut B,
     writer: &mut W,
 ) -> (E, io::Result<Status>)
-    requires engine { IsIdle (E.machine engine) }
-    requires number { start.number ≡ (E.machine engine).before }
+    requires engine { IsIdle (E.state engine).machine }
+    requires number { start.number ≡ (E.state engine).machine.before }
     ensures store { E.store result.0 ≡ E.store engine }
-    ensures owner { IsOfStore (E.machine engine).opened (E.machine engine).before
-        (E.machine engine).bounds.hives (E.machine result.0) }
-    ensures runs { HasLedWith
-        (point_of (E.machine engine) (E.clock engine) (E.failures engine)) (E.safe engine) (E.faithful engine)
-        (E.safe result.0) (E.faithful result.0) (point_of (E.machine result.0) (E.clock result.0) (E.failures result.0))
+    ensures owner { IsOfStore (E.state engine).machine.opened (E.state engine).machine.before
+        (E.state engine).machine.bounds.hives (E.state result.0).machine }
+    ensures runs { HasLedWith (E.state engine) (E.safe engine) (E.faithful engine)
+        (E.safe result.0) (E.faithful result.0) (E.state result.0)
         (λ history. IfOk result.1 (λ status. RunsFrom history [] start true
-        (point_of (E.machine engine) (E.clock engine) (E.failures engine)) (E.machine engine).opened
-        (E.machine engine).before (E.machine engine).bounds.hives (B.remaining reader.old)
+        (E.state engine) (E.state engine).machine.opened
+        (E.state engine).machine.before (E.state engine).machine.bounds.hives (B.remaining reader.old)
         (W.contents writer.old) (W.contents writer.new) status)) }
 {
     let mut engine = engine;
@@ -174,15 +173,14 @@ impl PartStart {
 // Folds the history of an engine whose registry has ended. All was made durable before that. If some change isn't
 // durable all the same, it is made so first.
 fn fold<E: StoreEngine, R: Wait>(rt: &R, engine: &mut E) -> Result<u64, Refusal>
-    requires sessions { (E.machine engine.old).sessions ≡ [] }
+    requires sessions { (E.state engine.old).machine.sessions ≡ [] }
     ensures store { E.store engine.new ≡ E.store engine.old }
-    ensures history { HasLedWith
-        (point_of (E.machine engine.old) (E.clock engine.old) (E.failures engine.old)) (E.safe engine.old) (E.faithful engine.old)
-        (E.safe engine.new) (E.faithful engine.new) (point_of (E.machine engine.new) (E.clock engine.new) (E.failures engine.new))
+    ensures history { HasLedWith (E.state engine.old) (E.safe engine.old) (E.faithful engine.old)
+        (E.safe engine.new) (E.faithful engine.new) (E.state engine.new)
         IsUnasked }
-    ensures folded { IfOk result (IsFoldedAt (E.machine engine.old) (E.machine engine.new)) }
+    ensures folded { IfOk result (IsFoldedAt (E.state engine.old).machine (E.state engine.new).machine) }
     ensures refused { IfErr result MayNotFold }
-    ensures stays { OnErr result (HistoryStays (E.machine engine.old) (E.machine engine.new)) }
+    ensures stays { OnErr result (HistoryStays (E.state engine.old).machine (E.state engine.new).machine) }
 {
     openings_stay();
     engine.keeps_a_prefix(); // for the prover
@@ -198,16 +196,15 @@ fn fold<E: StoreEngine, R: Wait>(rt: &R, engine: &mut E) -> Result<u64, Refusal>
 // asks for a fold, and answers its number; `None` if some accepted change isn't durable
 fn ask_fold<E: StoreEngine>(engine: &mut E) -> Result<Option<u64>, Refusal>
     ensures store { E.store engine.new ≡ E.store engine.old }
-    ensures history { HasLedWith
-        (point_of (E.machine engine.old) (E.clock engine.old) (E.failures engine.old)) (E.safe engine.old) (E.faithful engine.old)
-        (E.safe engine.new) (E.faithful engine.new) (point_of (E.machine engine.new) (E.clock engine.new) (E.failures engine.new))
+    ensures history { HasLedWith (E.state engine.old) (E.safe engine.old) (E.faithful engine.old)
+        (E.safe engine.new) (E.faithful engine.new) (E.state engine.new)
         IsUnasked }
     ensures folded { IfOk result (λ made. IfSome made (λ number.
-        Step (E.machine engine.old) event.Fold (reply.Folded number) (E.machine engine.new))) }
+        Step (E.state engine.old).machine event.Fold (reply.Folded number) (E.state engine.new).machine)) }
     ensures waits { IfOk result (λ made. IfNone made
-        (HistoryStays (E.machine engine.old) (E.machine engine.new))) }
+        (HistoryStays (E.state engine.old).machine (E.state engine.new).machine)) }
     ensures refused { IfErr result MayNotFold }
-    ensures stays { OnErr result (HistoryStays (E.machine engine.old) (E.machine engine.new)) }
+    ensures stays { OnErr result (HistoryStays (E.state engine.old).machine (E.state engine.new).machine) }
 {
     match put(engine, Event::Fold) {
         Reply::Folded { number } => Ok(Some(number)),
@@ -219,12 +216,11 @@ fn ask_fold<E: StoreEngine>(engine: &mut E) -> Result<Option<u64>, Refusal>
 // makes one step of the journal
 fn make_durable<E: StoreEngine>(engine: &mut E) -> Result<(), Refusal>
     ensures store { E.store engine.new ≡ E.store engine.old }
-    ensures history { HasLedWith
-        (point_of (E.machine engine.old) (E.clock engine.old) (E.failures engine.old)) (E.safe engine.old) (E.faithful engine.old)
-        (E.safe engine.new) (E.faithful engine.new) (point_of (E.machine engine.new) (E.clock engine.new) (E.failures engine.new))
+    ensures history { HasLedWith (E.state engine.old) (E.safe engine.old) (E.faithful engine.old)
+        (E.safe engine.new) (E.faithful engine.new) (E.state engine.new)
         IsUnasked }
     ensures refused { IfErr result MayNotFold }
-    ensures stays { HistoryStays (E.machine engine.old) (E.machine engine.new) }
+    ensures stays { HistoryStays (E.state engine.old).machine (E.state engine.new).machine }
 {
     match put(engine, Event::JournalStep) {
         Reply::Refused { refusal } => Err(refusal),
@@ -236,10 +232,9 @@ fn make_durable<E: StoreEngine>(engine: &mut E) -> Result<(), Refusal>
 fn put<E: StoreEngine>(engine: &mut E, event: Event) -> Reply
     requires unasked { is_asked event ≡ false }
     ensures store { E.store engine.new ≡ E.store engine.old }
-    ensures step { Step (E.machine engine.old) event result (E.machine engine.new) }
-    ensures history { HasLedWith
-        (point_of (E.machine engine.old) (E.clock engine.old) (E.failures engine.old)) (E.safe engine.old) (E.faithful engine.old)
-        (E.safe engine.new) (E.faithful engine.new) (point_of (E.machine engine.new) (E.clock engine.new) (E.failures engine.new))
+    ensures step { Step (E.state engine.old).machine event result (E.state engine.new).machine }
+    ensures history { HasLedWith (E.state engine.old) (E.safe engine.old) (E.faithful engine.old)
+        (E.safe engine.new) (E.faithful engine.new) (E.state engine.new)
         IsUnasked }
 {
     engine.keeps_a_prefix(); // for the prover

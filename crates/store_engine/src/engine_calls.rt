@@ -9,14 +9,11 @@ use transactions::Next;
 
 impl<D: Disk> StoreEngine for Engine<D> {
     ghost use Rattle.engine_invariant.specs.Prefixes.{IsSafeAt};
+    ghost use Rattle.engine.specs.Shown.{engine_view};
 
-    ghost machine = { λ e. e.machine };
+    ghost state = { λ e. engine_view D.clock D.failures e };
 
     ghost prepared = { λ e. e.prepared };
-
-    ghost clock = { λ e. D.clock e.disk };
-
-    ghost failures = { λ e. D.failures e.disk };
 
     ghost store = { λ e. e.store };
 

@@ -1,17 +1,18 @@
 //! An engine as the registry uses it: any type that keeps this contract.
-ghost use Rattle.std.specs.Prelude.{◌≡◌, ◌+◌, ◌≤◌, ◌<◌, ◌↔◌, ◌++◌, ◌∷◌, [], ℕ, None, Some, Option, true, false, is_some, length, IfErr, IfOk, IfSome};
+ghost use Rattle.std.specs.Prelude.{◌≡◌, ◌+◌, ◌≤◌, ◌<◌, ◌↔◌, ◌++◌, ◌∷◌, [], ℕ, None, Some, Option, true, false, is_some, length, IfErr, IfNone, IfOk, IfSome};
 ghost use Rattle.std.specs.Option.{option_map};
-ghost use Rattle.refusals.specs.declared.refusal.Refusal.TheVariants.{DiskFault, NoMemory};
+ghost use Rattle.refusals.specs.declared.refusal.Refusal.TheVariants.{NoMemory};
 ghost use Rattle.reg_tree.specs.Sequences.{after_elements};
-ghost use Rattle.disk_model.specs.declared.progress.Progress.TheVariants.{Idle};
 ghost use Rattle.commit_journal.specs.Store.{Store};
 ghost use Rattle.store_model.specs.Invariant.{IsWithin};
 ghost use Rattle.store_model.specs.Machine.{Machine, last_number, trees_now};
 ghost use Rattle.store_model.specs.Steps.{Step, may_accept};
-ghost use Rattle.store_model.specs.declared.event.Event.TheVariants.{JournalStep};
-ghost use Rattle.store_model.specs.declared.event.Reply.TheVariants.{Refused, Stepped};
+ghost use Rattle.store_model.specs.declared.event.Reply.TheVariants.{Refused};
 ghost use Rattle.transactions.specs.Prepared.{AcceptsJust, change_and_trees};
+ghost use Rattle.engine_invariant.specs.Engines.{EngineAnswers, EngineView};
+ghost use Rattle.engine_invariant.specs.Idle.{IsTrimmed};
 ghost use Rattle.engine.specs.Shown.{Awaiting};
+ghost use Rattle.engine.specs.Work.{AreFlushed, IsNextAround};
 
 use refusals::Refusal;
 use reg_tree::Trees;
@@ -22,17 +23,12 @@ use transactions::Next;
 ///
 /// The registry is generic in it, so that whether it may go to another thread is asked of the engine alone.
 pub trait StoreEngine {
-    /// Its machine.
-    ghost machine: { Self → Machine };
+    /// What is seen of it: its machine, what is durable and under way of the journal and of each hive, and how many calls
+    /// of the device there were and failed.
+    ghost state: { Self → EngineView };
 
     /// The event that is prepared.
     ghost prepared: { Self → Option Awaiting };
-
-    /// How many calls of the device there were.
-    ghost clock: { Self → ℕ };
-
-    /// How many of them failed.
-    ghost failures: { Self → ℕ };
 
     /// The store whose files are on the device.
     ghost store: { Self → Store };
@@ -46,21 +42,19 @@ pub trait StoreEngine {
     /// One event: a step of the machine, with at most one call of the device. A crash before, within or after it leaves a
     /// prefix. What a crash left at an earlier moment it still leaves, and a device that is faithful then was so before.
     ///
-    /// That the device failed is answered only if it did, in this event. A step of the journal has nothing to do only if
-    /// all that was accepted is durable.
+    /// That the device failed is answered only if it did, in this event. A step is idle exactly if there is nothing to do.
+    /// A step of the journal that isn't refused brings what waits nearer to being durable.
     fn event(&mut self, event: Event) -> Reply
-        ensures step { Step (machine self.old) event result (machine self.new) }
-        ensures before { faithful self.new → safe self.new (clock self.old) (machine self.old) }
-        ensures after { faithful self.new → safe self.new (clock self.new) (machine self.new) }
-        ensures call { (clock self.old ≤ clock self.new) × (clock self.new ≤ clock self.old + 1) }
+        ensures answers { EngineAnswers event result (state self.old) (state self.new) }
+        ensures step { Step (state self.old).machine event result (state self.new).machine }
+        ensures before { faithful self.new → safe self.new (state self.old).clock (state self.old).machine }
+        ensures after { faithful self.new → safe self.new (state self.new).clock (state self.new).machine }
+        ensures call { ((state self.old).clock ≤ (state self.new).clock)
+            × ((state self.new).clock ≤ (state self.old).clock + 1) }
         ensures backward { faithful self.new → faithful self.old }
-        ensures past { faithful self.new → (moment : ℕ) (then : Machine) → moment ≤ clock self.old →
+        ensures past { faithful self.new → (moment : ℕ) (then : Machine) → moment ≤ (state self.old).clock →
             safe self.old moment then → safe self.new moment then }
-        ensures store { store self.new ≡ store self.old }
-        ensures failed { result ≡ Refused DiskFault → failures self.old < failures self.new }
-        ensures works { ¬ (result ≡ Refused DiskFault) → failures self.new ≡ failures self.old }
-        ensures idle { (machine self.old).faulted ≡ false → event ≡ JournalStep → result ≡ Stepped Idle →
-            (machine self.old).durable ≡ last_number (machine self.old) };
+        ensures store { store self.new ≡ store self.old };
 
     /// Prepares an event that may accept a change: makes all that it grows, and tells the change and the trees after it,
     /// if it will accept one. Refused with `NoMemory` alone.
@@ -69,66 +63,76 @@ pub trait StoreEngine {
         ensures prepared { IfOk result (λ next. prepared self.new
             ≡ Some (record { event = event; next = option_map change_and_trees next })) }
         ensures coming { IfOk result (λ next. IfSome next (λ n. n.trees
-            ≡ after_elements (machine self.old).opened
-            ((machine self.old).accepted ++ n.change.value ∷ []))) }
+            ≡ after_elements (state self.old).machine.opened
+            ((state self.old).machine.accepted ++ n.change.value ∷ []))) }
         ensures refused { IfErr result (λ why. why ≡ NoMemory) }
-        ensures same { (machine self.new ≡ machine self.old) × (clock self.new ≡ clock self.old) }
+        ensures same { state self.new ≡ state self.old }
         ensures backward { faithful self.new → faithful self.old }
-        ensures past { faithful self.new → (moment : ℕ) (then : Machine) → moment ≤ clock self.old →
+        ensures past { faithful self.new → (moment : ℕ) (then : Machine) → moment ≤ (state self.old).clock →
             safe self.old moment then → safe self.new moment then }
-        ensures store { store self.new ≡ store self.old }
-        ensures works { failures self.new ≡ failures self.old };
+        ensures store { store self.new ≡ store self.old };
 
     /// Finishes the prepared event: it is that event. Takes no memory, and makes no call of the device.
     fn finish(&mut self) -> Reply
         requires stands { is_some (prepared self.old) ≡ true }
+        ensures answers { (awaiting : Awaiting) → prepared self.old ≡ Some awaiting →
+            may_accept awaiting.event ≡ true →
+            EngineAnswers awaiting.event result (state self.old) (state self.new) }
         ensures step { IfSome (prepared self.old) (λ awaiting.
-            Step (machine self.old) awaiting.event result (machine self.new)) }
+            Step (state self.old).machine awaiting.event result (state self.new).machine) }
         ensures shown { IfSome (prepared self.old) (λ awaiting.
-            AcceptsJust awaiting.next (machine self.old) (machine self.new)) }
+            AcceptsJust awaiting.next (state self.old).machine (state self.new).machine) }
         ensures never_no_memory { ¬ (result ≡ Refused NoMemory) }
-        ensures before { faithful self.new → safe self.new (clock self.old) (machine self.old) }
-        ensures after { faithful self.new → safe self.new (clock self.new) (machine self.new) }
-        ensures call { clock self.new ≡ clock self.old }
+        ensures before { faithful self.new → safe self.new (state self.old).clock (state self.old).machine }
+        ensures after { faithful self.new → safe self.new (state self.new).clock (state self.new).machine }
+        ensures call { (state self.new).clock ≡ (state self.old).clock }
         ensures backward { faithful self.new → faithful self.old }
-        ensures past { faithful self.new → (moment : ℕ) (then : Machine) → moment ≤ clock self.old →
+        ensures past { faithful self.new → (moment : ℕ) (then : Machine) → moment ≤ (state self.old).clock →
             safe self.old moment then → safe self.new moment then }
-        ensures store { store self.new ≡ store self.old }
-        ensures works { failures self.new ≡ failures self.old };
+        ensures store { store self.new ≡ store self.old };
 
     /// A law: whatever a crash leaves now is a prefix.
     fn keeps_a_prefix(&self)
-        ensures { faithful self.now → safe self.now (clock self.now) (machine self.now) };
+        ensures { faithful self.now → safe self.now (state self.now).clock (state self.now).machine };
 
     /// A law: numbers and changes are within their limits.
     fn stays_within(&self)
-        ensures { IsWithin (machine self.now) };
+        ensures { IsWithin (state self.now).machine };
 
     /// How many hives calls may name.
     fn hives(&self) -> usize
-        ensures { result ≡ (machine self.now).bounds.hives };
+        ensures { result ≡ (state self.now).machine.bounds.hives };
 
     /// The trees after all accepted changes.
     fn trees(&self) -> &Trees
-        ensures { result.now ≡ trees_now (machine self.now) };
+        ensures { result.now ≡ trees_now (state self.now).machine };
 
     /// The number up to which changes are durable.
     fn durable(&self) -> u64
-        ensures { result ≡ (machine self.now).durable };
+        ensures { result ≡ (state self.now).machine.durable };
 
     /// Whether some accepted change isn't durable yet.
     fn has_pending(&self) -> bool
-        ensures { (result ≡ true) ↔ ((machine self.now).durable < last_number (machine self.now)) };
+        ensures { (result ≡ true) ↔ ((state self.now).machine.durable < last_number (state self.now).machine) };
 
-    /// The next hive whose flush has something to do, after this one and around all hives.
+    /// The next hive whose flush has something to do, after this one and around all hives; `None` if there is none.
     fn hive_with_work(&self, after: u8) -> Option<u8>
-        ensures there { IfSome result (λ hive. hive < length (machine self.now).opened) };
+        ensures some { IfSome result (λ hive. IsNextAround (state self.now).machine (state self.now).base
+            (state self.now).opened (state self.now).hives after hive) }
+        ensures there { IfSome result (λ hive. hive < length (state self.now).machine.opened) }
+        ensures none { IfNone result (AreFlushed (state self.now).machine (state self.now).base
+            (state self.now).opened (state self.now).hives 0 (length (state self.now).hives)) };
 
     /// Whether a step of a trim has something to do. On a faulted store, whose steps are refused, it is false.
     fn may_trim(&self) -> bool
-        ensures faulted { (machine self.now).faulted ≡ true → result ≡ false };
+        ensures yes { result ≡ true → ¬ (IsTrimmed (state self.now).machine (state self.now).base
+            (state self.now).opened (state self.now).journal (state self.now).hives) }
+        ensures no { result ≡ false → (state self.now).machine.faulted ≡ false →
+            IsTrimmed (state self.now).machine (state self.now).base (state self.now).opened
+            (state self.now).journal (state self.now).hives }
+        ensures faulted { (state self.now).machine.faulted ≡ true → result ≡ false };
 
     /// How many bytes of the journal's room are used.
     fn room(&self) -> u64
-        ensures { result ≡ (machine self.now).room };
+        ensures { result ≡ (state self.now).machine.room };
 }

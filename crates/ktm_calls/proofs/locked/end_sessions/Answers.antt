@@ -1,15 +1,15 @@
 use Rattle.std.proofs.Common.{◌∙◌, ◌≤◌, ◌+◌, ℕ, List, arith, refl, subst, sym}
 use Rattle.std.specs.List.{All}
 use Rattle.store_model.specs.declared.event.Event.TheVariants as event
-use Rattle.histories.specs.Points.{entry_of, point_of}
+use Rattle.histories.specs.Points.{entry_of}
 use Rattle.ktm_calls.proofs.Ends.{one_more_end}
 use Rattle.ktm_calls.proofs.OpenSessions.{ended, fewer, none_left, still_below, still_of}
 use Rattle.ktm_calls.proofs.locked.end_sessions.Goals as goal
 
 pub loop-number-preserved : goal.loop-number-preserved
 loop-number-preserved g c =
-    let old = g.E.StoreEngine.machine c.loop-number.engine in
-    let new = g.E.StoreEngine.machine c.put_event.new.engine in
+    let old = (g.E.StoreEngine.state c.loop-number.engine).machine in
+    let new = (g.E.StoreEngine.state c.put_event.new.engine).machine in
     let ends = event.EndSession c.loop-number.number in
     let reply = c.put_event.result in
     let step = c.put_event.ensures.step in
@@ -20,7 +20,7 @@ loop-number-preserved g c =
       list = c.others_accept_nothing.ensures old new ends reply refl refl step ∙ was.list;
       store = c.put_event.ensures.store ∙ was.store;
       book = c.put_event.ensures.book ∙ was.book;
-      ends = one_more_end c.args.events.now.log c.loop-number.events.log c.put_event.new.events.log (entry_of ends reply (point_of new (g.E.StoreEngine.clock c.put_event.new.engine) (g.E.StoreEngine.failures c.put_event.new.engine))) tt c.put_event.ensures.added was.ends;
+      ends = one_more_end c.args.events.now.log c.loop-number.events.log c.put_event.new.events.log (entry_of ends reply (g.E.StoreEngine.state c.put_event.new.engine)) tt c.put_event.ensures.added was.ends;
       leads = c.put_event.ensures.leads;
       from = subst (λ (l : List ℕ). All (λ s. c.loop-number.number + 1 ≤ s) l) (sym (ended old new c.loop-number.number reply step)) (fewer c.loop-number.number old.sessions was.from);
     }
@@ -30,4 +30,4 @@ returns-clause-ends g c = c.loop-number.invariant.ends
 
 pub returns-clause-sessions : goal.returns-clause-sessions
 returns-clause-sessions g c =
-    none_left c.args.bound c.loop-number.number (g.E.StoreEngine.machine c.loop-number.engine).sessions (grind (arith, c.loop-number-test.false)) c.loop-number.invariant.below c.loop-number.invariant.from
+    none_left c.args.bound c.loop-number.number (g.E.StoreEngine.state c.loop-number.engine).machine.sessions (grind (arith, c.loop-number-test.false)) c.loop-number.invariant.below c.loop-number.invariant.from

@@ -1,10 +1,11 @@
 use denote.Exit.{no}
 use denote.Param.{param}
 use denote.Param.Send.{param_send, arg_send}
-use Rattle.std.proofs.Common.{ℕ, true, [], inl, inr, subst, sym}
+use Rattle.std.proofs.Common.{ℕ, true, [], inl, inr, refl, subst, sym}
 use Rattle.engine_send.proofs.EngineCrossing.{engine_send}
 use Rattle.script_loop.proofs.Texts.{if_ok}
-use Rattle.histories.specs.Points.{point_of}
+use Rattle.engine.specs.Shown.{engine_view}
+use Rattle.engine_invariant.specs.Engines.{EngineView}
 use Rattle.histories.proofs.Lives.{leaves_history, leaves_life}
 use Rattle.registry_runner.specs.Running.{IsOfStore, RunsFrom}
 use Rattle.registry_runner.specs.declared.parts.PartKind.TheVariants.{Opened}
@@ -28,8 +29,9 @@ returns-in-Ok-clause-runs g c =
     let engine = c.in-Ok.engine in
     let opened = c.in-Ok.ensures.ok in
     let number = c.in-Ok.number in
-    let at = point_of engine.machine (D.clock engine.disk) (D.failures engine.disk) in
+    let at : EngineView = engine_view D.clock D.failures engine in
     let last = c.run_parts-engine.result.0 in
+    let end : EngineView = engine_view D.clock D.failures last in
     let led = c.run_parts-engine.ensures.runs in
     let known = g.B.Read.remaining c.args.reader.now in
     let before = g.W.Write.contents c.args.writer.now in
@@ -40,12 +42,12 @@ returns-in-Ok-clause-runs g c =
       first = engine.disk;
       store = engine.store;
       number = number;
-      machine = engine.machine;
+      begun = at;
       opened = opened;
       history = led.0;
-      last = last.machine;
+      last = end;
       owner = subst (λ n. IsOfStore engine.machine.opened n engine.machine.bounds.hives last.machine) same c.run_parts-engine.ensures.owner;
-      left = (leaves_history D.faithful D.state_at D.clock D.failures engine.store last.store engine.disk last.disk c.into_disk.result engine.machine last.machine c.into_disk.ensures c.run_parts-engine.ensures.store (led.0, led.1)
+      left = (leaves_history D.faithful D.state_at D.clock D.failures engine.store last.store engine.disk last.disk c.into_disk.result at end c.into_disk.ensures c.run_parts-engine.ensures.store (record { calls = refl; failures = refl }) (record { calls = refl; failures = refl }) led.0 led.1
           (λ f e. c.reads_a_prefix.ensures.honest f (inl e)) (λ f e. c.reads_a_prefix.ensures.prefix f (inl e)));
       runs = if_ok (λ status. RunsFrom led.0 [] (start c.history_limit.result) true at engine.machine.opened engine.machine.before engine.machine.bounds.hives known before after status) _ c.run_parts-engine.result.1
           (λ status runs. run_from led.0 engine.machine.bounds.changes number engine.machine.bounds.hives c.args.can_read true at engine.machine.opened known before after status
@@ -58,9 +60,11 @@ returns-in-Ok-clause-left g c =
     let D = g.D.Disk in
     let engine = c.in-Ok.engine in
     let last = c.run_parts-engine.result.0 in
+    let at : EngineView = engine_view D.clock D.failures engine in
+    let end : EngineView = engine_view D.clock D.failures last in
     let led = c.run_parts-engine.ensures.runs in
-    leaves_life D.faithful D.state_at D.clock D.failures engine.store c.in-Ok.number c.args.disk engine.disk c.into_disk.result engine.machine last.machine led.0 c.in-Ok.ensures.failures c.in-Ok.ensures.ok
-    (leaves_history D.faithful D.state_at D.clock D.failures engine.store last.store engine.disk last.disk c.into_disk.result engine.machine last.machine c.into_disk.ensures c.run_parts-engine.ensures.store (led.0, led.1)
+    leaves_life D.faithful D.state_at D.clock D.failures engine.store c.in-Ok.number c.args.disk engine.disk c.into_disk.result at end led.0 c.in-Ok.ensures.failures c.in-Ok.ensures.ok
+    (leaves_history D.faithful D.state_at D.clock D.failures engine.store last.store engine.disk last.disk c.into_disk.result at end c.into_disk.ensures c.run_parts-engine.ensures.store (record { calls = refl; failures = refl }) (record { calls = refl; failures = refl }) led.0 led.1
     (λ f e. c.reads_a_prefix.ensures.honest f (inl e)) (λ f e. c.reads_a_prefix.ensures.prefix f (inl e)))
 
 pub returns-in-Err-clause-runs : goal.returns-in-Err-clause-runs

@@ -1,6 +1,6 @@
 use Rattle.std.proofs.Common.{[], arith, refl, subst, sym}
 use mathlib.Core.List.{IsPrefix}
-use Rattle.histories.specs.Points.{Point, point_of}
+use Rattle.engine_invariant.specs.Engines.{EngineView}
 use Rattle.ktm_calls.specs.Moments.{no_sight}
 use Rattle.registry_runner.specs.Parts.{SeesAllAsked}
 use Rattle.registry_runner.specs.Running.{EndsPartAfter}
@@ -20,7 +20,7 @@ returns-in-Err-clause-ends g c =
     let ran = c.write_refusal-ran in
     let after = contents ran.new.writer in
     let engine = c.args.engine in
-    let now = point_of (E.machine engine) (E.clock engine) (E.failures engine) in
+    let now = E.state engine in
     let nothing : SeesAllAsked S.sole S.start no_sight [] = record { begins = record { list = (S.start.machine.accepted, refl); history = ([], refl) }; asked = λ so. ([], (λ k d l. absurd (omega (arith, l))), refl) } in
     let ends : EndsPartAfter [] c.args.start S.sole S.start O.trees O.number O.hives known before (RunEnded ran.result) known after = (
       no_sight,
@@ -43,7 +43,7 @@ returns-clause-ends g c =
       ended.ensures.history,
       (
         run.result.1,
-        record { begins = record { list = subst (λ (p : Point). IsPrefix run.result.1.list p.machine.accepted) (sym ended.ensures.history.now_is) stood.0; history = stood.1 }; asked = ended.ensures.asked },
+        record { begins = record { list = subst (λ (p : EngineView). IsPrefix run.result.1.list p.machine.accepted) (sym ended.ensures.history.now_is) stood.0; history = stood.1 }; asked = ended.ensures.asked },
         λ whole past. run.ensures whole past,
       ),
     )

@@ -3,7 +3,8 @@ use Rattle.std.proofs.lemmas.List.{append-nil}
 use Rattle.reply_lines.specs.Statuses.{with_refusal}
 use Rattle.script_loop.proofs.Running.{refusals_join}
 use Rattle.histories.specs.Asked.{asked_in}
-use Rattle.histories.specs.Points.{HistoryEntry, Point, point_of}
+use Rattle.engine_invariant.specs.Engines.{EngineView}
+use Rattle.histories.specs.Points.{HistoryEntry}
 use Rattle.histories.proofs.Asked.{asked_append}
 use Rattle.histories.proofs.Leading.{leads_from, leads_join}
 use Rattle.registry_runner.specs.Parts.{LiesIn}
@@ -22,7 +23,7 @@ loop-init g c =
       c.requires.engine,
       c.requires.number,
       refl,
-      ([], leads_from (point_of (E.machine engine) (E.clock engine) (E.failures engine)) (E.safe engine) (E.faithful engine) c.keeps_a_prefix.ensures, λ whole within status after runs. runs),
+      ([], leads_from (E.state engine) (E.safe engine) (E.faithful engine) c.keeps_a_prefix.ensures, λ whole within status after runs. runs),
     )
 
 pub returns-in-RunEnded-clause-store : goal.returns-in-RunEnded-clause-store
@@ -36,11 +37,11 @@ returns-in-RunEnded-clause-runs g c =
     let l = c.loop in
     let first = c.args.engine in
     let ended = c.run_part-ended.result.0 in
-    let begun = E.machine first in
-    let here = E.machine l.engine in
-    let begun_at = point_of begun (E.clock first) (E.failures first) in
-    let here_at = point_of here (E.clock l.engine) (E.failures l.engine) in
-    let ended_at = point_of (E.machine ended) (E.clock ended) (E.failures ended) in
+    let begun = (E.state first).machine in
+    let here = (E.state l.engine).machine in
+    let begun_at = E.state first in
+    let here_at = E.state l.engine in
+    let ended_at = E.state ended in
     let after = contents c.run_part-ended.new.writer in
     let led = l.invariant.4 in
     let own = c.run_part-ended.ensures.ends in
@@ -64,14 +65,14 @@ loop-preserved g c =
     let first = c.args.engine in
     let ended = c.run_part-ended.result.0 in
     let last = c.fold.new.engine in
-    let begun = E.machine first in
-    let here = E.machine l.engine in
-    let old = E.machine ended in
-    let new = E.machine last in
-    let begun_at = point_of begun (E.clock first) (E.failures first) in
-    let here_at = point_of here (E.clock l.engine) (E.failures l.engine) in
-    let old_at = point_of old (E.clock ended) (E.failures ended) in
-    let new_at = point_of new (E.clock last) (E.failures last) in
+    let begun = (E.state first).machine in
+    let here = (E.state l.engine).machine in
+    let old = (E.state ended).machine in
+    let new = (E.state last).machine in
+    let begun_at = E.state first in
+    let here_at = E.state l.engine in
+    let old_at = E.state ended in
+    let new_at = E.state last in
     let rest = remaining c.run_part-ended.new.reader in
     let mid = contents c.run_part-ended.new.writer in
     let next = c.in-ToFold.next in
@@ -96,7 +97,7 @@ loop-preserved g c =
             subst (λ s. RunsFrom whole [] c.args.start true begun_at begun.opened begun.before begun.bounds.hives (remaining c.args.reader.now) (contents c.args.writer.now) after s) (refusals_join l.has_refusal next.has_refusal status)
             (led.2 whole (prefix_first led.0 (own.0 ++ folding.0) whole within) (with_refusal next.has_refusal status) after
             (folded_from whole led.0 l.start next c.in-Ok.number true here_at here.opened here.before here.bounds.hives seen (remaining l.reader) (contents l.writer) rest mid after status stands folding.0 folding.2 old new new_at
-            (ap (λ (p : Point). p.machine) own.1.now_is) on.now_is within c.run_part-ended.ensures.owner is ends
+            (ap (λ (p : EngineView). p.machine) own.1.now_is) on.now_is within c.run_part-ended.ensures.owner is ends
             (subst (λ (s : PartStart). RunsFrom whole (led.0 ++ (own.0 ++ folding.0)) s true new_at new.opened new.before new.bounds.hives rest mid after status) start runs))),
       ),
     )
@@ -113,12 +114,12 @@ returns-in-Err-clause-runs g c =
     let first = c.args.engine in
     let ended = c.run_part-ended.result.0 in
     let last = c.fold.new.engine in
-    let begun = E.machine first in
-    let here = E.machine l.engine in
-    let begun_at = point_of begun (E.clock first) (E.failures first) in
-    let here_at = point_of here (E.clock l.engine) (E.failures l.engine) in
-    let old_at = point_of (E.machine ended) (E.clock ended) (E.failures ended) in
-    let new_at = point_of (E.machine last) (E.clock last) (E.failures last) in
+    let begun = (E.state first).machine in
+    let here = (E.state l.engine).machine in
+    let begun_at = E.state first in
+    let here_at = E.state l.engine in
+    let old_at = E.state ended in
+    let new_at = E.state last in
     let rest = remaining c.run_part-ended.new.reader in
     let mid = contents c.run_part-ended.new.writer in
     let after = contents c.write_refusal-ran.new.writer in

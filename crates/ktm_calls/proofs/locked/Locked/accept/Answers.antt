@@ -1,14 +1,14 @@
 use Rattle.std.proofs.Common.{◌∙◌}
-use Rattle.histories.specs.Points.{entry_of, point_of}
+use Rattle.histories.specs.Points.{entry_of}
 use Rattle.ktm_calls.proofs.Counting.{count_kept, counts_together}
 use Rattle.ktm_calls.proofs.OpenSessions.{accepting_opens_none, still_below, still_of}
 use Rattle.ktm_calls.proofs.locked.Locked.accept.Goals as goal
 
 pub invariant_of-self-2 : goal.invariant_of-self-2
 invariant_of-self-2 g c =
-    let old = g.E.StoreEngine.machine c.self.inside.engine in
-    let new = g.E.StoreEngine.machine c.accept_event.new.engine in
-    let entry = entry_of c.args.event c.in_ok-reply.reply (point_of new (g.E.StoreEngine.clock c.accept_event.new.engine) (g.E.StoreEngine.failures c.accept_event.new.engine)) in
+    let old = (g.E.StoreEngine.state c.self.inside.engine).machine in
+    let new = (g.E.StoreEngine.state c.accept_event.new.engine).machine in
+    let entry = entry_of c.args.event c.in_ok-reply.reply (g.E.StoreEngine.state c.accept_event.new.engine) in
     let stay = c.openings_stay.ensures.opening old new c.args.event c.in_ok-reply.reply c.requires.no_fold c.in_ok-reply.ensures.step in
     let bounds = c.openings_stay.ensures.bounds old new c.args.event c.in_ok-reply.reply c.in_ok-reply.ensures.step in
     record {
@@ -24,5 +24,5 @@ invariant_of-self-2 g c =
 
 pub returns-clause-counts : goal.returns-clause-counts
 returns-clause-counts g c =
-    let entry = entry_of c.args.event c.in_ok-reply.reply (point_of (g.E.StoreEngine.machine c.accept_event.new.engine) (g.E.StoreEngine.clock c.accept_event.new.engine) (g.E.StoreEngine.failures c.accept_event.new.engine)) in
+    let entry = entry_of c.args.event c.in_ok-reply.reply (g.E.StoreEngine.state c.accept_event.new.engine) in
     rw (← c.self.view_is) (counts_together g.O.Start.sole c.is_asked-is_asked.result c.self.inside.events.log c.accept_event.new.events.log entry c.self.inside.requests c.count.new.self c.args.permission.now c.count.new.permission c.is_asked-is_asked.ensures c.in_ok-reply.ensures.added c.count.ensures.counted c.count.ensures.unasked)

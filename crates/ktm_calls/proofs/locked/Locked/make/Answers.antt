@@ -1,15 +1,15 @@
 use Rattle.std.proofs.Common.{◌∙◌, sym}
-use Rattle.histories.specs.Points.{entry_of, point_of}
+use Rattle.histories.specs.Points.{entry_of}
 use Rattle.ktm_calls.proofs.Counting.{count_kept, counts_together}
 use Rattle.ktm_calls.proofs.OpenSessions.{below_more, still_below, still_of}
 use Rattle.ktm_calls.proofs.locked.Locked.make.Goals as goal
 
 pub invariant_of-self : goal.invariant_of-self
 invariant_of-self g c =
-    let old = g.E.StoreEngine.machine c.self.inside.engine in
-    let new = g.E.StoreEngine.machine c.put_event-reply.new.engine in
+    let old = (g.E.StoreEngine.state c.self.inside.engine).machine in
+    let new = (g.E.StoreEngine.state c.put_event-reply.new.engine).machine in
     let step = c.put_event-reply.ensures.step in
-    let entry = entry_of c.args.event c.put_event-reply.result (point_of new (g.E.StoreEngine.clock c.put_event-reply.new.engine) (g.E.StoreEngine.failures c.put_event-reply.new.engine)) in
+    let entry = entry_of c.args.event c.put_event-reply.result (g.E.StoreEngine.state c.put_event-reply.new.engine) in
     let stay = c.openings_stay.ensures.opening old new c.args.event c.put_event-reply.result c.requires.no_fold step in
     let bounds = c.openings_stay.ensures.bounds old new c.args.event c.put_event-reply.result step in
     record {
@@ -25,10 +25,10 @@ invariant_of-self g c =
 
 pub invariant_of-self-2 : goal.invariant_of-self-2
 invariant_of-self-2 g c =
-    let old = g.E.StoreEngine.machine c.self.inside.engine in
-    let new = g.E.StoreEngine.machine c.put_event-reply.new.engine in
+    let old = (g.E.StoreEngine.state c.self.inside.engine).machine in
+    let new = (g.E.StoreEngine.state c.put_event-reply.new.engine).machine in
     let step = c.put_event-reply.ensures.step in
-    let entry = entry_of c.args.event c.put_event-reply.result (point_of new (g.E.StoreEngine.clock c.put_event-reply.new.engine) (g.E.StoreEngine.failures c.put_event-reply.new.engine)) in
+    let entry = entry_of c.args.event c.put_event-reply.result (g.E.StoreEngine.state c.put_event-reply.new.engine) in
     let stay = c.openings_stay.ensures.opening old new c.args.event c.put_event-reply.result c.requires.no_fold step in
     let bounds = c.openings_stay.ensures.bounds old new c.args.event c.put_event-reply.result step in
     record {
@@ -44,10 +44,10 @@ invariant_of-self-2 g c =
 
 pub returns-clause-counts : goal.returns-clause-counts
 returns-clause-counts g c =
-    let entry = entry_of c.args.event c.put_event-reply.result (point_of (g.E.StoreEngine.machine c.put_event-reply.new.engine) (g.E.StoreEngine.clock c.put_event-reply.new.engine) (g.E.StoreEngine.failures c.put_event-reply.new.engine)) in
+    let entry = entry_of c.args.event c.put_event-reply.result (g.E.StoreEngine.state c.put_event-reply.new.engine) in
     rw (← c.self.view_is) (counts_together g.O.Start.sole c.is_asked-is_asked.result c.self.inside.events.log c.put_event-reply.new.events.log entry c.self.inside.requests c.count.new.self c.args.permission.now c.count.new.permission c.is_asked-is_asked.ensures c.put_event-reply.ensures.added c.count.ensures.counted c.count.ensures.unasked)
 
 pub returns-in-Refused-NoMemory-clause-counts : goal.returns-in-Refused-NoMemory-clause-counts
 returns-in-Refused-NoMemory-clause-counts g c =
-    let entry = entry_of c.args.event c.put_event-reply.result (point_of (g.E.StoreEngine.machine c.put_event-reply.new.engine) (g.E.StoreEngine.clock c.put_event-reply.new.engine) (g.E.StoreEngine.failures c.put_event-reply.new.engine)) in
+    let entry = entry_of c.args.event c.put_event-reply.result (g.E.StoreEngine.state c.put_event-reply.new.engine) in
     rw (← c.self.view_is) (counts_together g.O.Start.sole c.is_asked-is_asked.result c.self.inside.events.log c.put_event-reply.new.events.log entry c.self.inside.requests c.count.new.self c.args.permission.now c.count.new.permission c.is_asked-is_asked.ensures c.put_event-reply.ensures.added c.count.ensures.counted c.count.ensures.unasked)

@@ -1,7 +1,8 @@
 use Rattle.std.proofs.Common.{◌≡◌, ◌∙◌, ◌≤◌, true, length, List, ap, arith, rules, subst, sym}
 use mathlib.Core.List.{IsPrefix}
 use Rattle.reg_tree.specs.declared.element.Element.{Element}
-use Rattle.histories.specs.Points.{HistoryEntry, Point}
+use Rattle.engine_invariant.specs.Engines.{EngineView}
+use Rattle.histories.specs.Points.{HistoryEntry}
 use Rattle.histories.specs.Asked.{asked_in}
 use Rattle.published_trees.proofs.Prefixes.{prefix_trans}
 use Rattle.ktm_calls.specs.Moments.{SeesMore, Sight}
@@ -11,7 +12,7 @@ use Rattle.ktm_calls.proofs.registry.Registry.end.Goals as goal
 
 pub returns-clause-receipts : goal.returns-clause-receipts
 returns-clause-receipts g c i r at =
-    let now = ap (λ (p : Point). p.machine.durable) c.close-engine.ensures.leads.now_is in omega (arith, c.are_durable.ensures i r at, now, c.durable-durable.ensures)
+    let now = ap (λ (p : EngineView). p.machine.durable) c.close-engine.ensures.leads.now_is in omega (arith, c.are_durable.ensures i r at, now, c.durable-durable.ensures)
 
 pub returns-clause-seen : goal.returns-clause-seen
 returns-clause-seen g c =

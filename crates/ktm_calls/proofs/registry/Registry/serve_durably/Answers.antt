@@ -16,7 +16,7 @@ returns-in_default-reply g c = record {
   denied = inl (
     rw (← c.session.view_is) c.in-Ok.ensures.told,
     refused_unless c.in-Ok.told.reply
-        (c.requires.awaited (g.E.StoreEngine.machine c.deref_mut.result.now.engine) (g.E.StoreEngine.machine c.serve-answer.new.self.engine) c.in-Ok.told.reply c.in-Ok.ensures.step)
+        (c.requires.awaited (g.E.StoreEngine.state c.deref_mut.result.now.engine).machine (g.E.StoreEngine.state c.serve-answer.new.self.engine).machine c.in-Ok.told.reply c.in-Ok.ensures.step)
         (λ (n : ℕ) e. c.in_default-reply.not-Awaits n (c.reply.ensures ∙ e)),
   );
 }

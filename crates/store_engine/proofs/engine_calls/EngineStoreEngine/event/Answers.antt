@@ -1,5 +1,3 @@
-use Rattle.std.proofs.Common.{subst}
-use Rattle.engine_invariant.specs.Idle.{IdlesExactly}
 use Rattle.store_engine.proofs.engine_calls.EngineStoreEngine.event.Goals as goal
 
 pub returns-clause-before : goal.returns-clause-before
@@ -13,8 +11,3 @@ returns-clause-past g c ok moment then le is =
     let was = g.D.Disk.state_at c.args.self.now.disk in
     let now = g.D.Disk.state_at c.event.new.self.disk in
     rw c.event.ensures.store (c.crashes_leave_prefixes.ensures.past c.args.self.now.store was now (g.D.Disk.clock c.args.self.now.disk) c.event.ensures.call.past moment then le is)
-
-pub returns-clause-idle : goal.returns-clause-idle
-returns-clause-idle g c works is idle =
-    let old = c.args.self.now in
-    let exact = subst (λ e. IdlesExactly e c.event.result old.machine old.base old.opened old.journal old.hives) is (c.event.ensures.answers.idle works) in (exact.0 idle).durable
