@@ -51,7 +51,7 @@ impl<'a, E: StoreEngine, O: Start, R: Wait> Drop for RoomGate<'a, E, O, R> {
 
 impl<'a, E: StoreEngine, O: Start, R: Wait> Gate for RoomGate<'a, E, O, R> {
     fn before_turn(&self) {
-        self.registry.wait_until_used(self.rt, self.room);
+        let _ = self.registry.wait_until_used(self.rt, self.room);
     }
 
     fn after_step(&self, _progress: Progress) {}

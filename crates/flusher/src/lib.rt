@@ -1,5 +1,4 @@
-//! The flusher: it takes turns at a registry until it is told to stop. And threads: one for it, and others that call the
-//! registry beside it.
+//! The flusher: it takes turns at a registry until it is told to stop, on a thread of its own beside the caller's work.
 #![tactic(auto)]
 
 mod gate;
@@ -7,5 +6,5 @@ mod threads;
 mod turns;
 
 pub use gate::{Gate, OpenGate, RoomGate};
-pub use threads::{Worker, run_beside, run_beside_from, run_workers, try_run_beside};
+pub use threads::{run_beside, run_beside_from, try_run_beside};
 pub use turns::{run_flusher, try_run_flusher};

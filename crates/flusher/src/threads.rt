@@ -1,8 +1,7 @@
-//! Threads that share a registry: a flusher beside the caller, and workers.
-ghost use denote.Param.Send.{IsSend, IsSync};
-ghost use Rattle.std.specs.Prelude.{IfErr};
+//! A flusher on a thread of its own, beside the caller.
+ghost use Rattle.std.specs.Prelude.{IfErr, IfOk};
 ghost use Rattle.ktm_calls.specs.Denials.{IsTurnDenied};
-ghost use Rattle.ktm_calls.specs.Waiting.{IsFailedStep};
+ghost use Rattle.ktm_calls.specs.Waiting.{IsDone, IsFailedStep};
 
 use crate::gate::{Gate, RoomGate};
 use crate::turns::{run_flusher, try_run_flusher};
@@ -26,7 +25,8 @@ pub fn run_beside<
 >(rt: &R, registry: &Registry<E, O>, gate: &G, work: F) -> (T, Result<Stopped, Told>)
     requires work { F.pre work }
     ensures done { F.post work result.0 }
-    ensures flushed { IfErr result.1 IsFailedStep }
+    ensures stopped { IfOk result.1 (IsDone O.history O.start) }
+    ensures failed { IfErr result.1 IsFailedStep }
 {
     let (flushed, done) = thread::join(
         rt,
@@ -50,7 +50,8 @@ pub fn run_beside_from<
 >(rt: &R, registry: &Registry<E, O>, room: u64, work: F) -> (T, Result<Stopped, Told>)
     requires work { F.pre work }
     ensures done { F.post work result.0 }
-    ensures flushed { IfErr result.1 IsFailedStep }
+    ensures stopped { IfOk result.1 (IsDone O.history O.start) }
+    ensures failed { IfErr result.1 IsFailedStep }
 {
     let (flushed, done) = thread::join(
         rt,
@@ -76,7 +77,8 @@ pub fn try_run_beside<
 >(rt: &R, registry: &Registry<E, O>, gate: &G, work: &mut F) -> (T, Result<Stopped, Denied>)
     requires work { F.pre work.old }
     ensures done { F.step work.old result.0 work.new }
-    ensures flushed { IfErr result.1 IsTurnDenied }
+    ensures stopped { IfOk result.1 (IsDone O.history O.start) }
+    ensures denied { IfErr result.1 IsTurnDenied }
 {
     let (flushed, done) = thread::join_mut(
         rt,
@@ -91,37 +93,4 @@ pub fn try_run_beside<
         },
     );
     (done, flushed)
-}
-
-/// What each of several threads does with a registry.
-pub trait Worker<E: StoreEngine, O: Start, R: Wait> {
-    /// The work of the thread of this index.
-    fn work(&self, rt: &R, registry: &Registry<E, O>, index: usize);
-}
-
-/// Runs a worker on so many threads, with the indexes from 0 on, and ends when all have.
-///
-/// What no thread can be made for runs on the caller's, and the threads after it begin when it has ended.
-pub fn run_workers<
-    E: StoreEngine + Send,
-    O: Start + Send + Sync,
-    W: Worker<E, O, R> + Sync,
-    R: Threads + Wait + Sync,
->(rt: &R, registry: &Registry<E, O>, worker: &W, count: usize) {
-    thread::scope(
-        thread::scope_env(),
-        rt,
-        |scope|
-            requires { IsSend E.row × IsSync W.row × IsSync R.row }
-        {
-            for index in 0..count {
-                if scope
-                    .spawn(move || worker.work(rt, registry, index))
-                    .is_err()
-                {
-                    worker.work(rt, registry, index);
-                }
-            }
-        },
-    );
 }

@@ -1,7 +1,7 @@
 //! The turns of a flusher.
-ghost use Rattle.std.specs.Prelude.{IfErr};
+ghost use Rattle.std.specs.Prelude.{IfErr, IfOk};
 ghost use Rattle.ktm_calls.specs.Denials.{IsTurnDenied};
-ghost use Rattle.ktm_calls.specs.Waiting.{IsFailedStep};
+ghost use Rattle.ktm_calls.specs.Waiting.{IsDone, IsFailedStep};
 
 use crate::gate::Gate;
 use histories::Start;
@@ -11,13 +11,14 @@ use store_engine::StoreEngine;
 use store_model::Reply;
 
 /// Takes turns until it was told to stop and has nothing left to do, or a step is refused since the device failed. A
-/// step for which there is no memory is made again.
+/// step for which there is no memory is made again. What comes back carries the history in which nothing was left.
 pub fn run_flusher<E: StoreEngine, O: Start, G: Gate, R: Wait>(
     rt: &R,
     registry: &Registry<E, O>,
     gate: &G,
 ) -> Result<Stopped, Told>
-    ensures { IfErr result IsFailedStep }
+    ensures stopped { IfOk result (IsDone O.history O.start) }
+    ensures failed { IfErr result IsFailedStep }
 {
     for _ in rt.forever() {
         match try_run_flusher(rt, registry, gate) {
@@ -35,7 +36,8 @@ pub fn try_run_flusher<E: StoreEngine, O: Start, G: Gate, R: Wait>(
     registry: &Registry<E, O>,
     gate: &G,
 ) -> Result<Stopped, Denied>
-    ensures { IfErr result IsTurnDenied }
+    ensures stopped { IfOk result (IsDone O.history O.start) }
+    ensures denied { IfErr result IsTurnDenied }
 {
     for _ in rt.forever() {
         gate.before_turn();

@@ -1,11 +1,14 @@
 //! A store as a program of threads uses it: opened, shared, and closed when the program has ended.
 //!
 //! A [`Client`] is given the registry, for whatever engine and list of changes stand behind it. [`serve`] opens the
-//! store, runs the client with a flusher beside it, and hands the disk back.
+//! store, runs the client with a flusher beside it, and hands the disk back. What each thread reports is so in the history
+//! that is left.
 #![tactic(auto)]
 
+mod account;
 mod client;
 mod service;
 
+pub use account::Account;
 pub use client::Client;
 pub use service::{Served, serve};

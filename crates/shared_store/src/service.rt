@@ -1,56 +1,65 @@
 //! The service of a store to the threads of a client.
-ghost use Rattle.std.specs.Prelude.{◌≡◌, ◌⊎◌, ◌<◌, ℕ, [], false, IfOk, IfErr};
+ghost use Rattle.std.specs.Prelude.{◌≡◌, ◌⊎◌, ◌<◌, ℕ, [], None, false, length, IfOk, IfErr, IsOk};
+ghost use Rattle.std.specs.List.{All};
+ghost use mathlib.Core.List.{IsPrefix};
+ghost use denote.Param.Send.{IsSend, IsSync};
 ghost use Rattle.refusals.specs.declared.refusal.Refusal.TheVariants.{NoMemory, NoSeat};
 ghost use Rattle.recovery.specs.Recovered.{seen_in};
 ghost use Rattle.store_model.specs.Machine.{Machine};
 ghost use Rattle.store_driver.specs.Openings.{LeavesLife};
-ghost use Rattle.histories.specs.Histories.{HasLed};
-ghost use Rattle.histories.specs.Points.{point_of};
+ghost use Rattle.histories.specs.Histories.{HasLedWith};
 ghost use Rattle.ktm_calls.specs.Moments.{IsOf};
-ghost use Rattle.shared_store.specs.Serving.{KeepsStore, MayNotServe};
+ghost use Rattle.ktm_calls.specs.Waiting.{IsDone, IsFailedStep};
+ghost use Rattle.shared_store.specs.Serving.{HasReported, KeepsStore, MayNotServe, TellsOf};
 
+use crate::account::{Account, new_accounts, seen_by_all};
 use crate::client::Client;
 use disk_model::Disk;
-use flusher::{Worker, run_beside_from, run_workers};
-use histories::{EventCount, Permission, RequestCount, Start};
-use ktm_calls::{Asker, Ended, Registry, Stopped, Told};
+use flusher::run_beside_from;
+use histories::{EventCount, Permission, RequestCount, SeenEvents, Start};
+use ktm_calls::{Asker, Ended, Registry, Sight, Stopped, Told};
 use published_trees::{ChangeCount, SeenChanges};
 use refusals::Refusal;
 use std::alloc::Global;
-use std::marker::{Brand, PhantomData};
+use std::marker::Brand;
 use std::sync::Wait;
 use std::sync::ledger::Blank;
+use std::thread;
 use std::thread::Threads;
 use store_driver::{BUSY_ROOM, open_engine};
 use store_engine::StoreEngine;
 
 /// What came of a client's use of a store.
-#[derive(Clone, Copy, Debug, PartialEq, Eq)]
-pub struct Served {
+#[derive(Drop)]
+pub struct Served<T: Drop> {
     /// The number of the last change as the store was opened.
     pub opened: u64,
     /// The number up to which changes are durable.
     pub durable: u64,
     /// Why the flusher ended before all was in the hives, if it did: the device failed.
     pub undone: Option<Refusal>,
+    /// What each thread reported.
+    pub accounts: Vec<Account<T>>,
 }
 
 /// Opens the store that is on a disk, and runs a client of its registry on so many threads, with a flusher on one more.
 /// When all have ended, all that was accepted is made durable and moved into the hives. The disk is handed back. One
 /// history leads from the opening to the end: at each of its moments, whatever a crash leaves recovers a beginning of what
-/// was accepted by then.
+/// was accepted by then. Each thread's report is so in a beginning of it.
+///
+/// What no thread can be made for runs on the caller's.
 ///
 /// Refused if the store isn't opened, and with `NoMemory` or `NoSeat` if there can be no registry; the client doesn't
 /// run then.
-pub fn serve<D: Disk + Send, C: Client<R> + Sync, R: Threads + Wait + Sync>(
+pub fn serve<D: Disk + Send, C: Client<R, T> + Sync, T: Send + Drop, R: Threads + Wait + Sync>(
     rt: &R,
     alloc: Global,
     disk: D,
     client: &C,
     threads: usize,
-) -> (D, Result<Served, Refusal>)
-    ensures kept { IfOk result.1 (λ served. KeepsStore D.faithful D.state_at D.clock D.failures
-        (seen_in (D.state_at disk (D.clock disk))) result.0 served.opened served.durable) }
+) -> (D, Result<Served<T>, Refusal>)
+    ensures kept { IfOk result.1 (KeepsStore D.faithful D.state_at D.clock D.failures C.tells
+        (seen_in (D.state_at disk (D.clock disk))) result.0 threads) }
     ensures left { LeavesLife (D.failures disk < D.failures result.0) (D.faithful result.0)
         (D.state_at disk (D.clock disk)) (D.state_at result.0 (D.clock result.0)) }
     ensures refused { IfErr result.1 (MayNotServe (D.failures disk < D.failures result.0) (D.faithful result.0)
@@ -61,7 +70,7 @@ pub fn serve<D: Disk + Send, C: Client<R> + Sync, R: Threads + Wait + Sync>(
         Err((why, disk)) => return (disk, Err(why)),
     };
     let (count, seen) = ChangeCount::open();
-    let (engine, served) = serve_over::<Brand, _, _, _>(
+    let (engine, served) = serve_over::<Brand, _, _, _, _>(
         rt,
         alloc,
         engine,
@@ -92,7 +101,8 @@ struct Sharing<'a, C> {
 fn serve_over<
     O: Start + Send + Sync,
     E: StoreEngine + Send,
-    C: Client<R> + Sync,
+    C: Client<R, T> + Sync,
+    T: Send + Drop,
     R: Threads + Wait + Sync,
 >(
     rt: &R,
@@ -103,35 +113,45 @@ fn serve_over<
     count: ChangeCount,
     seen: SeenChanges,
     sharing: Sharing<'_, C>,
-) -> (E, Result<Served, Refusal>)
+) -> (E, Result<Served<T>, Refusal>)
     requires shared { O.sole ≡ false }
     requires blank { (blank.name ≡ O.name) × (blank.parts ≡ O.parts) }
     requires book { (count ≡ O.book) × (seen ≡ record { book = O.book; list = [] }) }
     requires events { events ≡ record { book = O.history; log = [] } }
     requires store { E.store engine ≡ O.store }
-    requires start { point_of (E.machine engine) (E.clock engine) (E.failures engine) ≡ O.start }
+    requires start { E.state engine ≡ O.start }
     requires faithful { E.faithful engine → O.faithful }
     requires safe { (moment : ℕ) (machine : Machine) → O.safe moment machine → E.safe engine moment machine }
-    requires engine { IsOf O.trees O.number O.hives (E.machine engine)
-        × ((E.machine engine).accepted ≡ []) × ((E.machine engine).sessions ≡ []) }
+    requires engine { IsOf O.trees O.number O.hives (E.state engine).machine
+        × ((E.state engine).machine.accepted ≡ []) × ((E.state engine).machine.sessions ≡ []) }
     ensures store { E.store result.0 ≡ O.store }
-    ensures history { HasLed O.start O.safe O.faithful (E.safe result.0) (E.faithful result.0)
-        (point_of (E.machine result.0) (E.clock result.0) (E.failures result.0)) }
-    ensures owner { IsOf O.trees O.number O.hives (E.machine result.0) }
-    ensures numbers { IfOk result.1 (λ served. (served.opened ≡ sharing.entry.opened)
-        × (served.durable ≡ (E.machine result.0).durable)) }
+    ensures owner { IsOf O.trees O.number O.hives (E.state result.0).machine }
+    ensures opened { IfOk result.1 (λ served. served.opened ≡ sharing.entry.opened) }
+    ensures kept { HasLedWith O.start O.safe O.faithful (E.safe result.0) (E.faithful result.0) (E.state result.0)
+        (λ history. IfOk result.1 (TellsOf C.tells O.start history (E.state result.0) sharing.entry.threads)) }
     ensures refused { IfErr result.1 (λ why. (why ≡ NoMemory) ⊎ (why ≡ NoSeat)) }
 {
     engine.keeps_a_prefix(); // for the prover
+    let Sharing {
+        client,
+        threads,
+        opened,
+    } = sharing;
+    let before = events.all().again();
+    let changes = seen.again();
+    let accounts = match new_accounts::<T>(alloc, &before, threads) {
+        Ok(accounts) => accounts,
+        Err(_) => return (engine, Err(Refusal::NoMemory)),
+    };
     let (requests, _share) = blank.open::<O>();
     let requests = RequestCount::new(requests);
-    let asker = Asker::first(&events, &seen, Permission::shared());
     let registry = match Registry::<E, O>::new(alloc, rt, engine, events, requests, count, seen) {
         Ok(registry) => registry,
         Err((why, engine)) => return (engine, Err(why)),
     };
-    let opened = sharing.opened;
-    let flushed = share(rt, &registry, sharing);
+    let (accounts, flushed) = share(rt, &registry, client, accounts);
+    let all = seen_at_end(&accounts, &flushed, &before);
+    let asker = Asker::new(Sight::new(changes, all), Permission::shared());
     let Ended {
         engine,
         events: _,
@@ -141,51 +161,103 @@ fn serve_over<
         opened,
         durable,
         undone: undone(&flushed),
+        accounts,
     };
     (engine, Ok(served))
 }
 
-// a client as a worker on the threads of a registry in which each may ask
-#[derive(Drop)]
-struct ClientThreads<'a, C, O: Start> {
-    client: &'a C,
-    of: PhantomData<O>,
-    ghost shared: { O.sole ≡ false },
-}
-
-impl<'a, C: Client<R>, E: StoreEngine, O: Start, R: Wait> Worker<E, O, R>
-    for ClientThreads<'a, C, O> {
-    fn work(&self, rt: &R, registry: &Registry<E, O>, index: usize) {
-        self.client.run(rt, registry, index);
-    }
-}
-
-// runs a client on its threads, with a flusher beside
+// runs a client on the threads of these accounts, with a flusher beside
 fn share<
     O: Start + Send + Sync,
     E: StoreEngine + Send,
-    C: Client<R> + Sync,
+    C: Client<R, T> + Sync,
+    T: Send + Drop,
     R: Threads + Wait + Sync,
->(rt: &R, registry: &Registry<E, O>, sharing: Sharing<'_, C>) -> Result<Stopped, Told>
+>(
+    rt: &R,
+    registry: &Registry<E, O>,
+    client: &C,
+    accounts: Vec<Account<T>>,
+) -> (Vec<Account<T>>, Result<Stopped, Told>)
     requires shared { O.sole ≡ false }
+    requires book { All (λ account. account.seen.book ≡ O.history) accounts.items }
+    ensures count { length result.0.items ≡ length accounts.items }
+    ensures book { All (λ account. account.seen.book ≡ O.history) result.0.items }
+    ensures reports { All (HasReported C.tells O.start) result.0.items }
+    ensures stopped { IfOk result.1 (IsDone O.history O.start) }
+    ensures failed { IfErr result.1 IsFailedStep }
 {
-    let Sharing {
-        client,
-        threads,
-        opened: _,
-    } = sharing;
-    let worker: ClientThreads<'_, C, O> = ClientThreads {
-        client,
-        of: PhantomData,
-    };
-    let (_done, flushed) = run_beside_from(rt, registry, BUSY_ROOM, || {
-        run_workers(rt, registry, &worker, threads)
-    });
-    flushed
+    run_beside_from(
+        rt,
+        registry,
+        BUSY_ROOM,
+        move || -> Vec<Account<T>>
+            requires { IsSend E.row × IsSync C.row × IsSync R.row × IsSend T.row × (O.sole ≡ false)
+                × All (λ account. account.seen.book ≡ O.history) accounts.items }
+            ensures { (length result.items ≡ length accounts.items)
+                × All (λ account. account.seen.book ≡ O.history) result.items
+                × All (HasReported C.tells O.start) result.items }
+        {
+            let mut accounts = accounts;
+            let threads = accounts.len().max(1);
+            thread::for_each_mut(
+                rt,
+                &mut accounts,
+                threads,
+                &|thread: usize, account: &mut Account<T>|
+                    requires { (O.sole ≡ false) × (account.now.seen.book ≡ O.history) }
+                    ensures { (account.exit.now.seen.book ≡ O.history) × HasReported C.tells O.start account.exit.now }
+                { run_one(rt, registry, client, thread, account) },
+            );
+            accounts
+        },
+    )
+}
+
+// the work of one thread, which leaves its report in its account
+fn run_one<O: Start, E: StoreEngine, C: Client<R, T>, T: Drop, R: Wait>(
+    rt: &R,
+    registry: &Registry<E, O>,
+    client: &C,
+    thread: usize,
+    account: &mut Account<T>,
+)
+    requires shared { O.sole ≡ false }
+    requires book { account.old.seen.book ≡ O.history }
+    ensures book { account.new.seen.book ≡ O.history }
+    ensures reports { HasReported C.tells O.start account.new }
+{
+    let report = client.run(rt, registry, &mut account.seen, thread);
+    account.report = Some(report);
+}
+
+// all that the threads and the flusher had seen
+fn seen_at_end<T: Drop>(
+    accounts: &Vec<Account<T>>,
+    flushed: &Result<Stopped, Told>,
+    before: &SeenEvents,
+) -> SeenEvents
+    requires book { All (λ account. account.seen.book ≡ before.now.book) accounts.now.items }
+    requires stopped { IfOk flushed.now (λ stopped. stopped.seen.book ≡ before.now.book) }
+    ensures book { result.book ≡ before.now.book }
+    ensures all { All (λ account. IsPrefix account.seen.log result.log) accounts.now.items }
+    ensures stopped { IfOk flushed.now (λ stopped. IsPrefix stopped.seen.log result.log) }
+{
+    match flushed {
+        Ok(stopped) => {
+            let mut first = before.again();
+            first.learn(stopped.events());
+            seen_by_all(accounts, &first)
+        }
+        Err(_) => seen_by_all(accounts, before),
+    }
 }
 
 // why the flusher ended before it was told to, if it did
-fn undone(flushed: &Result<Stopped, Told>) -> Option<Refusal> {
+fn undone(flushed: &Result<Stopped, Told>) -> Option<Refusal>
+    requires { IfErr flushed.now IsFailedStep }
+    ensures { result ≡ None → IsOk flushed.now }
+{
     match flushed {
         Ok(_) => None,
         Err(told) => told.refusal(),

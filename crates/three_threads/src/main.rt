@@ -4,12 +4,12 @@
 ghost use Rattle.std.specs.Prelude.{◌≡◌, false};
 
 use file_disk::{FileDisk, Unknown};
-use histories::Start;
-use ktm_calls::{Key, Registry};
+use histories::{SeenEvents, Start};
+use ktm_calls::{Key, Receipt, Registry};
 use refusals::Refusal;
 use reg_names::{Name, Path};
 use reg_tree::{Data, Trees};
-use shared_store::{Client, serve};
+use shared_store::{Client, Served, serve};
 use std::alloc::Global;
 use std::fs;
 use std::io::{self, ErrorKind};
@@ -23,15 +23,35 @@ const REG_DWORD: u32 = 4;
 /// Each of the three threads makes a key, and sets its value a hundred times.
 const CHANGES: u64 = 3 * 101;
 
-/// Each thread counts to a hundred in a value of its own, in one transaction after another.
+/// Each thread counts to a hundred in a value of its own, in one transaction after another. It reports the number of its
+/// last change.
 #[derive(Drop)]
 struct Counters(Global);
 
-impl<R: Wait + Print> Client<R> for Counters {
-    fn run<E: StoreEngine, O: Start>(&self, rt: &R, registry: &Registry<E, O>, thread: usize) {
+impl<R: Wait + Print> Client<R, u64> for Counters {
+    ghost use Rattle.std.specs.Prelude.{◌≤◌};
+    ghost use Rattle.histories.specs.Histories.{end_of};
+
+    // the number that a thread reports is durable
+    ghost tells = { λ begun seen number. number ≤ (end_of begun seen).machine.durable };
+
+    fn run<E: StoreEngine, O: Start>(
+        &self,
+        rt: &R,
+        registry: &Registry<E, O>,
+        seen: &mut SeenEvents,
+        thread: usize,
+    ) -> u64 {
         let letter = [b'A', b'B', b'C'][thread % 3];
-        if let Err(why) = count(rt, self.0, registry, u16::from(letter)) {
-            let _ = println!(rt; "{why}");
+        match count(rt, self.0, registry, u16::from(letter)) {
+            Ok(receipt) => {
+                *seen = receipt.sight().events().again();
+                receipt.number()
+            }
+            Err(why) => {
+                let _ = println!(rt; "{why}");
+                0
+            }
         }
     }
 }
@@ -41,7 +61,7 @@ fn count<E: StoreEngine, O: Start, R: Wait>(
     alloc: Global,
     registry: &Registry<E, O>,
     letter: u16,
-) -> Result<(), Refusal>
+) -> Result<Receipt<O>, Refusal>
     requires shared { O.sole ≡ false }
 {
     let (mut session, _) = registry.session(rt)?;
@@ -57,8 +77,9 @@ fn count<E: StoreEngine, O: Start, R: Wait>(
         registry.commit_transaction(rt, &mut session, tx, moment)?;
         registry.close_transaction(rt, &mut session, tx)?;
     }
+    let (receipt, _) = registry.flush_key(rt, &mut session, &key)?;
     registry.end_session(rt, session)?;
-    Ok(())
+    Ok(receipt)
 }
 
 fn main(rt: HostRuntime) -> io::Result<()> {
@@ -71,13 +92,27 @@ fn main(rt: HostRuntime) -> io::Result<()> {
     if let Err(why) = recovery::create(alloc, &mut disk, Uuid::nil(), &trees) {
         return refused(&rt, why);
     }
-    match serve(&rt, alloc, disk, &Counters(alloc), 3).1 {
-        Ok(served) => match served.undone {
-            None if served.durable == CHANGES => println!(rt; "{CHANGES} changes are durable"),
-            None => Err(ErrorKind::Other.into()),
-            Some(why) => refused(&rt, why),
-        },
+    let (_disk, served) = serve(&rt, alloc, disk, &Counters(alloc), 3);
+    match served {
+        Ok(served) => {
+            let Served {
+                opened: _,
+                durable,
+                undone,
+                accounts: _,
+            } = served;
+            tell(&rt, durable, undone)
+        }
         Err(why) => refused(&rt, why),
+    }
+}
+
+// says how many changes are durable, or why the flusher left something undone
+fn tell<R: Print>(rt: &R, durable: u64, undone: Option<Refusal>) -> io::Result<()> {
+    match undone {
+        None if durable == CHANGES => println!(rt; "{CHANGES} changes are durable"),
+        None => Err(ErrorKind::Other.into()),
+        Some(why) => refused(rt, why),
     }
 }
 

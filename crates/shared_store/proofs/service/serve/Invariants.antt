@@ -1,6 +1,6 @@
 use Rattle.std.proofs.Common.{false}
+use Rattle.engine.specs.Shown.{engine_view}
 use Rattle.engine_invariant.specs.Prefixes.{IsSafeAt}
-use Rattle.histories.specs.Points.{point_of}
 use Rattle.shared_store.proofs.service.serve.Given as goal
 
 -- the registry over the store that was just opened
@@ -11,7 +11,7 @@ abbrev pub ghosts-serve_over-O-Start : goal.ghosts-serve_over-O-Start
 ghosts-serve_over-O-Start g a =
     let D = g.D.Disk in
     let disk = a.engine.disk in
-    record { history = a.events.book; start = point_of a.engine.machine (D.clock disk) (D.failures disk); store = a.engine.store; sole = false; faithful = D.faithful disk; safe = λ moment machine. IsSafeAt a.engine.store (D.state_at disk) moment machine }
+    record { history = a.events.book; start = engine_view D.clock D.failures a.engine; store = a.engine.store; sole = false; faithful = D.faithful disk; safe = λ moment machine. IsSafeAt a.engine.store (D.state_at disk) moment machine }
 
 abbrev pub ghosts-serve_over-O-Ledger : goal.ghosts-serve_over-O-Ledger
 ghosts-serve_over-O-Ledger g a = record { name = a.blank.name; parts = a.blank.parts }
