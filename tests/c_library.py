@@ -5,8 +5,8 @@
 
 Each part tells what passed. The last line is 'N passed, N failed', and the status is 0 if none failed.
 
-- calls: each call of the header, what it answers and what it leaves; the example of the crate's page; the header as C++, if there
-  is a compiler, and beside that of the client.
+- calls: each call of the header, what it answers and what it leaves; the example of the crate's page, whose hive libregf reads too if
+  regfinfo is there; the header as C++, if there is a compiler, and beside that of the client.
 - memory: calls with each of their allocations refused in turn.
 - hives: hives that the program wrote, and those of other programs: the library tells the tree that `regtx dump` prints. What it
   writes of them is a hive of the same tree, also for libhivex if hivexml is there.
@@ -34,6 +34,8 @@ ID = "00112233-4455-6677-8899-aabbccddeeff"
 SPOILED, SEED, SECONDS = 10_000, 20_250_101, 600
 FLAGS = ["-std=c11", "-pthread", "-Wall", "-Wextra", "-Wpedantic", "-Werror", "-g", "-O1", "-fno-omit-frame-pointer",
          "-fsanitize=address,undefined", "-fno-sanitize-recover=all", "-Wl,--wrap=malloc,--wrap=realloc"]
+# what libregf lists of the hive that the page's example writes
+LISTED = ["(key:) ROOT", "(key:) Software", "(key:) Vendor", "(value: 0) Version"]
 EXAMPLE = re.compile(r"^```c\n(.*?)^```$", re.MULTILINE | re.DOTALL)
 
 
@@ -72,6 +74,10 @@ def calls(program, made, folder):
     yield wrong_run("checks", told(made, "checks"))
     dumped = b"hive 0\nkey 0: 7\nkey 0:Software 7\nkey 0:Software\\Vendor 7\nval Version 1 31002e0030000000\n"
     yield expect("the page", example(program, folder), (dumped, 0, b""))
+    if are_there("calls", "regfinfo"):
+        ended = subprocess.run(["regfinfo", program.at("example.hive")], capture_output=True)
+        listed = [line.strip() for line in ended.stdout.decode(errors="replace").splitlines() if re.match(r" *\((?:key:|value: \d+)\) ", line)]
+        yield expect("the page for libregf", (listed, ended.returncode), (LISTED, 0))
     if are_there("calls", "c++"):
         words = ["c++", "-std=c++11", "-Wall", "-Wextra", "-Werror", "-fsyntax-only", "-x", "c++", os.path.join(folder, "regtx.h")]
         yield expect("the header in C++", subprocess.run(words, capture_output=True).stderr, b"")

@@ -105,8 +105,8 @@ typedef struct {
  * than 512 names). */
 uint32_t regtx_hive_open(const uint8_t *file, size_t len, regtx_hive *hive);
 
-/* Opens a new hive: a root without name, time, subkeys and values, that is not to be deleted. What was open by the handle
- * before is closed. */
+/* Opens a new hive: a root with the name ROOT, without time, subkeys and values, that is not to be deleted. What was open
+ * by the handle before is closed. */
 uint32_t regtx_hive_new(regtx_hive *hive);
 
 /* Closes the hive that is open by the handle, and frees its memory. A closed handle may be closed again. */

@@ -4,3 +4,4 @@ pub mod Openings
 pub mod WholeFiles
 pub mod Numbered
 pub mod Crossing
+pub mod NewHives

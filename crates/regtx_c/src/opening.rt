@@ -2,21 +2,33 @@
 ghost use Rattle.std.specs.Prelude.{◌≡◌, IfOk, IfErr};
 ghost use Rattle.hive_file_reader.specs.Hives.{FileHoldsShallowTree};
 ghost use Rattle.hive_file_reader.specs.Readings.{ShallowFileRefusedAs};
-ghost use Rattle.reg_tree.specs.Fresh.{fresh_tree};
 ghost use Rattle.regtx_c.specs.Handles.{tree_in};
-ghost use Rattle.regtx_c.specs.Openings.{IsOpened, IsMade};
+ghost use Rattle.regtx_c.specs.Openings.{new_root, new_tree, IsMade, IsOpened};
 
 use crate::codes::{NO_MEMORY, OK, code_of};
 use crate::handle::{Handle, put};
 use hive_file_reader::load_file_any_weight;
 use refusals::Refusal;
+use reg_names::Name;
 use reg_tree::Tree;
+use reg_tree_parts::{Data, Descriptor, Key, Node, Values};
 use std::alloc::{AllocError, Global};
 
 /// The number as which damage names the hive.
 const HIVE: u8 = 0;
 
 const _: () = prove!(HIVE == 0);
+
+/// The name of a new hive's root: `ROOT`. Some programs read no hive whose root has none.
+const ROOT_NAME: [u16; 4] = [0x52, 0x4f, 0x4f, 0x54];
+
+/// The flags of a new hive's root: that of a root, and that it is not to be deleted.
+const ROOT_FLAGS: u16 = 0x000c;
+
+/// The shortest security descriptor: of revision 1, self-relative, without owner, group and lists.
+const ROOT_DESCRIPTOR: [u8; 20] = [
+    0x01, 0x00, 0x00, 0x80, 0, 0, 0, 0, 0, 0, 0, 0, 0, 0, 0, 0, 0, 0, 0, 0,
+];
 
 // a copy of bytes
 fn copied(alloc: Global, bytes: &[u8]) -> Result<Vec<u8>, AllocError>
@@ -60,14 +72,33 @@ pub extern "C" fn regtx_hive_open(alloc: Global, file: &[u8], hive: &mut Handle)
     }
 }
 
-// the tree of a new hive, in a block of its own
-fn fresh(alloc: Global) -> Result<Box<Tree, Global>, AllocError>
-    ensures { IfOk result (λ tree. tree.value ≡ fresh_tree) }
+// the root of a new hive
+fn root_key(alloc: Global) -> Result<Key, AllocError>
+    ensures { IfOk result (λ key. key ≡ new_root) }
 {
-    Ok(Box::new(alloc, Tree::fresh(alloc)?)?)
+    let name = Name::stored(alloc, &ROOT_NAME)?;
+    let class = Data::new(alloc, &[])?;
+    let descriptor = Descriptor::new(alloc, &ROOT_DESCRIPTOR)?;
+    Key::new(alloc, name, class, ROOT_FLAGS, descriptor, 0, Values::new())
 }
 
-/// Opens a new hive, which has a root and nothing else. What was open by the handle before is closed.
+// the tree of a new hive
+fn new_tree_of(alloc: Global) -> Result<Tree, AllocError>
+    ensures { IfOk result (λ tree. tree ≡ new_tree) }
+{
+    let leaf = Node::leaf(root_key(alloc)?);
+    Tree::from_root(alloc, leaf)
+}
+
+// the tree of a new hive, in a block of its own
+fn fresh(alloc: Global) -> Result<Box<Tree, Global>, AllocError>
+    ensures { IfOk result (λ tree. tree.value ≡ new_tree) }
+{
+    Ok(Box::new(alloc, new_tree_of(alloc)?)?)
+}
+
+/// Opens a new hive, which has a root and nothing else. The root's name is `ROOT`. What was open by the handle before is
+/// closed.
 ///
 /// Refused with `NO_MEMORY` alone. Then the handle stays as it was.
 #[unsafe(no_mangle)]
