@@ -5,6 +5,8 @@
  *     c_library dump FILE                       prints a hive as `regtx dump` does
  *     c_library rewrite FILE NEW                opens a hive, and writes it to another file
  *     c_library heavy FILE NEW                  opens a hive over the weight; writes it without its value 0:Big v00
+ *     c_library trees FILE NEW                  deletes 0:%00e4 with all below it, and writes the hive; 0:Kept stays, which has a
+ *                                               key that is not to be deleted below it
  *     c_library mutate FILE SEED COUNT FOLDER   opens spoiled copies; some and their texts go to the folder
  *
  * The status is 0 if nothing is wrong.
@@ -313,6 +315,7 @@ static void check_closed(void)
     EXPECT(regtx_hive_value(&hive, PATH(""), NAME(""), &type, byte, 1, &len) == REGTX_NOT_OPEN && len == 5);
     EXPECT(regtx_hive_create_key(&hive, PATH("A"), 1, &len) == REGTX_NOT_OPEN && len == 5);
     EXPECT(regtx_hive_delete_key(&hive, PATH("A"), 1) == REGTX_NOT_OPEN);
+    EXPECT(regtx_hive_delete_tree(&hive, PATH("A"), 1) == REGTX_NOT_OPEN);
     EXPECT(regtx_hive_set_value(&hive, PATH("A"), NAME("v"), 1, byte, 0, 1) == REGTX_NOT_OPEN);
     EXPECT(regtx_hive_delete_value(&hive, PATH("A"), NAME("v"), 1) == REGTX_NOT_OPEN);
     EXPECT(regtx_hive_write(&hive, byte, 0, &len) == REGTX_NOT_OPEN && len == 5);
@@ -344,6 +347,39 @@ static void check_keys(void)
     expect_written("keys", &hive);
     EXPECT(regtx_hive_delete_key(&hive, PATH("SOFTWARE\\VENDOR"), 10) == REGTX_OK);
     EXPECT(regtx_hive_info(&hive, PATH("Software"), &info) == REGTX_OK && info.subkeys == 0 && info.time == 10);
+    regtx_hive_close(&hive);
+}
+
+static void check_trees(void)
+{
+    static const char *const keys[] = {"A\\B\\C\\D", "A\\B\\E", "A\\F", "AA\\B", "G\\A\\B"};
+    regtx_hive hive = {0};
+    size_t made;
+    EXPECT(regtx_hive_new(&hive) == REGTX_OK);
+    for (size_t i = 0; i < sizeof keys / sizeof *keys; i++)
+        EXPECT(regtx_hive_create_key(&hive, PATH(keys[i]), 1, &made) == REGTX_OK);
+    EXPECT(regtx_hive_set_value(&hive, PATH("A\\B"), NAME("v"), 3, (const uint8_t *)"1", 1, 2) == REGTX_OK);
+    struct text before = text_of(&hive);
+    REFUSED(REGTX_FIXED, regtx_hive_delete_tree(&hive, PATH(""), 9));
+    REFUSED(REGTX_NOT_FOUND, regtx_hive_delete_tree(&hive, PATH("B"), 9));
+    REFUSED(REGTX_NOT_FOUND, regtx_hive_delete_tree(&hive, PATH("A\\B\\F"), 9));
+    REFUSED(REGTX_NOT_FOUND, regtx_hive_delete_tree(&hive, PATH("B\\F"), 9));
+    REFUSED(REGTX_NOT_FOUND, regtx_hive_delete_tree(&hive, PATH("\x7f"), 9));
+    REFUSED(REGTX_BAD_NAME, regtx_hive_delete_tree(&hive, PATH("A\\"), 9));
+    drop(&before);
+    EXPECT(regtx_hive_delete_tree(&hive, PATH("a\\b"), 3) == REGTX_OK);
+    struct text after = text_of(&hive);
+    EXPECT(strcmp(after.at, "hive 0\nkey 0: 1\nkey 0:A 3\nkey 0:A\\F 1\nkey 0:AA 1\nkey 0:AA\\B 1\n"
+                            "key 0:G 1\nkey 0:G\\A 1\nkey 0:G\\A\\B 1\n") == 0);
+    drop(&after);
+    expect_written("a hive without a tree", &hive);
+    EXPECT(regtx_hive_delete_tree(&hive, PATH("A\\F"), 4) == REGTX_OK);
+    EXPECT(regtx_hive_delete_tree(&hive, PATH("A"), 5) == REGTX_OK);
+    EXPECT(regtx_hive_delete_tree(&hive, PATH("AA"), 6) == REGTX_OK);
+    EXPECT(regtx_hive_delete_tree(&hive, PATH("G"), 7) == REGTX_OK);
+    after = text_of(&hive);
+    EXPECT(strcmp(after.at, "hive 0\nkey 0: 7\n") == 0);
+    drop(&after);
     regtx_hive_close(&hive);
 }
 
@@ -545,6 +581,8 @@ static uint32_t call_of(int kind, regtx_hive *hive)
         return regtx_hive_delete_value(hive, PATH("A long name of a key"), NAME("A long name of a value"), 5);
     case 6:
         return regtx_hive_delete_key(hive, PATH("A long name of a key\\Another\\B"), 6);
+    case 7:
+        return regtx_hive_delete_tree(hive, PATH("A long name of a key"), 7);
     default:
         return regtx_hive_new(hive);
     }
@@ -557,7 +595,7 @@ static void check_failing(const char *name)
     long refused = 0;
     given = file_bytes(name, &given_len);
     EXPECT(regtx_hive_new(&hive) == REGTX_OK);
-    for (int kind = 0; kind < 8; kind++)
+    for (int kind = 0; kind < 9; kind++)
         for (long at = 0;; at++) {
             struct text before = text_of(&hive);
             left_until_refusal = at;
@@ -724,6 +762,30 @@ static void check_heavy(const char *name, const char *copy)
     regtx_hive_close(&hive);
 }
 
+/* ---- trees of keys of a file */
+
+/* a tree whose names no other call that edits may name goes, and one with a key that is not to be deleted stays */
+static void prune(const char *name, const char *copy)
+{
+    static const uint16_t gone[] = {0xe4};
+    regtx_hive hive = {0};
+    size_t len;
+    uint8_t *bytes = file_bytes(name, &len);
+    EXPECT(regtx_hive_open(bytes, len, &hive) == REGTX_OK);
+    free(bytes);
+    struct text before = text_of(&hive);
+    REFUSED(REGTX_FIXED, regtx_hive_delete_tree(&hive, PATH("Kept"), 9));
+    REFUSED(REGTX_FIXED, regtx_hive_delete_tree(&hive, PATH("kept\\Below\\fixed"), 9));
+    REFUSED(REGTX_BAD_NAME, regtx_hive_delete_key(&hive, gone, 1, 9));
+    drop(&before);
+    EXPECT(regtx_hive_delete_tree(&hive, PATH("Kept\\Other"), 8) == REGTX_OK);
+    EXPECT(regtx_hive_delete_tree(&hive, gone, 1, 9) == REGTX_OK);
+    bytes = written(&hive, &len);
+    put_file("", copy, bytes, len);
+    free(bytes);
+    regtx_hive_close(&hive);
+}
+
 /* ---- one hive */
 
 static int with_file(const char *name, const char *copy)
@@ -754,6 +816,8 @@ int main(int count, char **words)
         return with_file(words[2], words[3]);
     if (count == 4 && strcmp(words[1], "heavy") == 0)
         check_heavy(words[2], words[3]);
+    else if (count == 4 && strcmp(words[1], "trees") == 0)
+        prune(words[2], words[3]);
     else if (count == 3 && strcmp(words[1], "failing") == 0)
         check_failing(words[2]);
     else if (count == 6 && strcmp(words[1], "mutate") == 0) {
@@ -762,6 +826,7 @@ int main(int count, char **words)
     } else if (count == 2 && strcmp(words[1], "checks") == 0) {
         check_closed();
         check_keys();
+        check_trees();
         check_depth();
         check_values();
         check_sizes();

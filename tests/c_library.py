@@ -11,6 +11,7 @@ Each part tells what passed. The last line is 'N passed, N failed', and the stat
 - hives: hives that the program wrote, and those of other programs: the library tells the tree that `regtx dump` prints. What it
   writes of them is a hive of the same tree, also for libhivex if hivexml is there.
 - heavy: a hive over the weight of a store's is read, and can be written once a value is deleted.
+- trees: keys of a file go with all below them, also those past ASCII, unless one of them is marked as not deletable.
 - spoiled: 10,000 copies of a hive with some bytes changed. Each is refused, and the hive that was open stays; or it opens, is read,
   edited, written, and opened again. Of a sample `regtx dump` prints the same tree, or the same refusal.
 
@@ -154,6 +155,16 @@ def heavy(program, made):
     yield expect("a lighter hive", program.run("dump", new), (b"hive 0\nkey 0: 7\nkey 0:Big 9\n" + b"".join(lines[1:]), 0))
 
 
+def trees(program, made):
+    """What is wrong with what the library does with trees of keys of a file."""
+    gone = Key("\u00e4", 4, values=[Value("\u03a9", 4, b"1234")], keys=[Key("\u20ac", 5, keys=[Key("\U0001d11e", 6)])])
+    kept = Key("Kept", 7, keys=[Key("Below", 5, keys=[Key("Fixed", 6, flags=8)]), Key("Other", 8)])
+    path, new = program.at(program.put("trees.hive", hive_file(Key("", 4, keys=[gone, kept, Key("Last", 9)]))[0])), program.at("pruned.hive")
+    yield wrong_run("trees", told(made, "trees", path, new))
+    dumped = b"hive 0\nkey 0: 9\nkey 0:Kept 8\nkey 0:Kept\\Below 5\nkey 0:Kept\\Below\\Fixed 6\nkey 0:Last 9\n"
+    yield expect("a pruned hive", program.run("dump", new), (dumped, 0))
+
+
 def spoiled(program, made, hive):
     """All spoiled copies, and each of the sample."""
     os.mkdir(program.at("sample"))
@@ -177,6 +188,7 @@ def main():
             tell("memory", [wrong_run("failing", told(made, "failing", hive))]),
             tell("hives", [wrong_hive(program, made, readers, path) for path in files]),
             tell("heavy", list(heavy(program, made))),
+            tell("trees", list(trees(program, made))),
             tell("spoiled", list(spoiled(program, made, hive))),
         ])
 

@@ -6,8 +6,9 @@
  * Text. Paths and names are UTF-16 units with a length, in the machine's byte order, and no zero ends them. A path is
  * at most 512 key names joined by one backslash each, none of them empty; the empty path is the root. Letters `a` to `z`
  * count as `A` to `Z`, so names that differ in these alone are one name. The empty value name is the default value's. A
- * call that reads may name any units. A call that edits may name units from 0x20 to 0x7e: key names of at most 255 units,
- * and value names of at most 16,383. Keys and values of a file that have other names are read, and stay as they are.
+ * call that reads may name any units, and so may regtx_hive_delete_tree. Another call that edits may name units from 0x20
+ * to 0x7e: key names of at most 255 units, and value names of at most 16,383. Keys and values of a file that have other
+ * names are read, and stay as they are.
  *
  * Buffers. A call that hands out text or data takes a buffer, its room and `*len`. It sets `*len` to the length of what
  * there is. With REGTX_NO_ROOM the room is too small, and the buffer is as it was; call again with `*len` of room. With
@@ -146,6 +147,11 @@ uint32_t regtx_hive_create_key(regtx_hive *hive, const uint16_t *path, size_t pa
 /* Deletes the key at a path, with its values. Its parent has the time.
  * Refused: REGTX_NOT_OPEN, REGTX_BAD_NAME, REGTX_TOO_DEEP, REGTX_NOT_FOUND, REGTX_FIXED, REGTX_HAS_SUBKEYS. */
 uint32_t regtx_hive_delete_key(regtx_hive *hive, const uint16_t *path, size_t path_len, uint64_t time);
+
+/* Deletes the key at a path with all keys below it. Its parent has the time.
+ * Refused: REGTX_NOT_OPEN, REGTX_BAD_NAME, REGTX_TOO_DEEP, REGTX_NOT_FOUND, REGTX_FIXED, also if a key below is marked as
+ * not deletable. */
+uint32_t regtx_hive_delete_tree(regtx_hive *hive, const uint16_t *path, size_t path_len, uint64_t time);
 
 /* Writes the value of a name, of the key at a path, which has the time then. Any number is a type. A value that was there
  * keeps the spelling of its name. The data are copied.

@@ -5,3 +5,4 @@ pub mod WholeFiles
 pub mod Numbered
 pub mod Crossing
 pub mod NewHives
+pub mod Deletions

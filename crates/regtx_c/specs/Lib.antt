@@ -7,3 +7,6 @@ pub mod Questions
 pub mod Edits
 pub mod Files
 pub mod Texts
+pub mod FixedKeys
+pub mod FixedKeyLaws
+pub mod Deletions

@@ -9,8 +9,10 @@
 #![tactic(auto)]
 
 mod codes;
+mod deletion;
 mod edits;
 mod files;
+mod fixed_keys;
 mod handle;
 pub mod laws;
 mod loose;
