@@ -499,6 +499,36 @@ static void check_files(void)
     regtx_hive_close(&other);
 }
 
+/* a name that is told, in a buffer of just its length and in shorter ones; and which numbers are damage */
+static void expect_name(uint32_t code, const char *name, bool is_damage)
+{
+    uint8_t some[33] = {0}, none[33] = {0};
+    size_t len = 99, told = 99;
+    expect(name, regtx_code_name(code, some, strlen(name), &len) == REGTX_OK && len == strlen(name) && strcmp((char *)some, name) == 0);
+    if (len != 0)
+        expect(name, regtx_code_name(code, none, len - 1, &told) == REGTX_NO_ROOM && told == len && none[0] == 0);
+    expect(name, regtx_is_damage(code) == is_damage);
+}
+
+static void check_names(void)
+{
+    expect_name(REGTX_OK, "REGTX_OK", false);
+    expect_name(REGTX_NO_MEMORY, "REGTX_NO_MEMORY", false);
+    expect_name(REGTX_NOT_FOUND, "REGTX_NOT_FOUND", false);
+    expect_name(REGTX_HIVE_DAMAGED, "REGTX_HIVE_DAMAGED", false);
+    expect_name(REGTX_FIXED, "REGTX_FIXED", false);
+    expect_name(REGTX_NOT_OPEN, "REGTX_NOT_OPEN", false);
+    expect_name(REGTX_NO_ROOM, "REGTX_NO_ROOM", false);
+    expect_name(REGTX_TRUNCATED, "REGTX_TRUNCATED", true);
+    expect_name(REGTX_BAD_STORED_NAME, "REGTX_BAD_STORED_NAME", true);
+    expect_name(REGTX_NOT_CLEAN, "REGTX_NOT_CLEAN", true);
+    expect_name(REGTX_HIVE_TOO_LARGE, "REGTX_HIVE_TOO_LARGE", true);
+    expect_name(19, "", false);
+    expect_name(1500, "", false);
+    expect_name(1514, "", false);
+    expect_name((uint32_t)-1, "", false);
+}
+
 static void check_texts(void)
 {
     static const struct {
@@ -832,6 +862,7 @@ int main(int count, char **words)
         check_sizes();
         check_files();
         check_texts();
+        check_names();
         check_threads();
     } else
         return 2;

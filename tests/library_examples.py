@@ -5,7 +5,7 @@
 
 Each part tells what passed. The last line is 'N passed, N failed', and the status is 0 if none failed.
 
-- library: what libregtx.so exports, and what it needs.
+- library: what libregtx.so exports, and what it needs; that it gives each number the name that regtx.h gives it.
 - builds: the three, without warnings; the one in C also under AddressSanitizer and over libregtx.so.
 - hives: each prints what `regtx dump` prints of a hive, spelled as the head of hive_edit.c says. What each writes is the same tree
   with the one value, and the key's time: new values, values in another spelling, OUT over IN.
@@ -86,14 +86,28 @@ def lines_of(*command):
     return subprocess.run(command, stdout=subprocess.PIPE, text=True, check=True).stdout.splitlines()
 
 
+def names(so, header):
+    """What is wrong with the names of numbers, and with which of them are damage."""
+    library, named = ctypes.CDLL(so), {int(number): name for name, number in re.findall(r"^    (REGTX_\w+) = (\d+)", header, re.MULTILINE)}
+    library.regtx_is_damage.restype = ctypes.c_bool
+    yield expect("numbers with names", (len(named), min(named), max(named)), (34, 0, 1513))
+    for number in [*range(2_000), 2**16, 2**31, 2**32 - 1]:
+        name, length = (ctypes.c_uint8 * 32)(), ctypes.c_size_t()
+        code = library.regtx_code_name(number, name, ctypes.c_size_t(32), ctypes.byref(length))
+        found = (code, bytes(name[:length.value]).decode(), library.regtx_is_damage(number))
+        yield expect(f"number {number}", found, (0, named.get(number, ""), 1501 <= number <= 1513))
+
+
 def library(folder):
     """What is wrong with the symbols of the shared object, and with what it needs."""
     so = os.path.join(folder, "libregtx.so")
     with open(os.path.join(folder, "regtx.h"), encoding="utf-8") as file:
-        declared = re.findall(r"^(?:uint32_t|void) (regtx_\w+)\(", file.read(), re.MULTILINE)
+        header = file.read()
+    declared = re.findall(r"^(?:uint32_t|void|bool) (regtx_\w+)\(", header, re.MULTILINE)
     yield expect("its link", os.readlink(so), "libregtx.so.0")
     symbols = [line.split()[-2:] for line in lines_of("nm", "-D", so)]
     yield expect("exports", sorted(name for kind, name in symbols if kind not in "Uw"), sorted(declared))
+    yield from names(so, header)
     yield expect("of others", [name for kind, name in symbols if kind == "U" and "@GLIBC_" not in name], [])
     told = [line.split() for line in lines_of("objdump", "-p", so)]
     yield expect("its name", [line[1] for line in told if line[:1] == ["SONAME"]], ["libregtx.so.0"])

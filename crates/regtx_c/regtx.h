@@ -72,7 +72,7 @@ enum {
 enum {
     REGTX_NOT_OPEN = 100,  /* no hive is open by this handle */
     REGTX_NO_ROOM = 101,   /* the buffer is too small */
-    /* The bytes are no whole hive. If they have several faults, any one is told. */
+    /* Damage: the bytes are no whole hive. If they have several faults, any one is told. */
     REGTX_TRUNCATED = 1501,  /* they are fewer than they say */
     REGTX_BAD_BASE = 1502,   /* no hive at all, or a wrong size of bins data */
     REGTX_BAD_BIN = 1503,    /* a bin is wrong, or the bins don't fill the bins data */
@@ -82,7 +82,10 @@ enum {
     REGTX_BAD_LIST = 1507,   /* a list of subkeys is wrong */
     REGTX_BAD_STORED_NAME = 1508, /* a name is wrong, or is there twice below one key */
     REGTX_SHARED = 1509,     /* a cell is reached twice */
-    REGTX_NOT_CLEAN = 1511   /* the hive was not closed cleanly */
+    REGTX_BAD_LOG = 1510,    /* no call here answers this one, 1512 and 1513 */
+    REGTX_NOT_CLEAN = 1511,  /* the hive was not closed cleanly */
+    REGTX_BAD_STORE = 1512,
+    REGTX_HIVE_TOO_LARGE = 1513
 };
 
 /* An open hive, or none. Set it to zero before its first use: `regtx_hive hive = {0};`. */
@@ -172,6 +175,14 @@ uint32_t regtx_hive_write(regtx_hive *hive, uint8_t *file, size_t room, size_t *
 
 /* Tells the text of a number, in ASCII, without a zero at its end: "E2 NotFound". It has at most 64 bytes. */
 uint32_t regtx_text(uint32_t code, uint8_t *text, size_t room, size_t *len);
+
+/* Tells the name that this header gives a number, in ASCII, without a zero at its end: "REGTX_NOT_FOUND". It has at most
+ * 32 bytes, and none if the number has no name here. Takes no memory.
+ * Refused: REGTX_NO_ROOM. */
+uint32_t regtx_code_name(uint32_t code, uint8_t *name, size_t room, size_t *len);
+
+/* Tells whether a number is one of damage, from 1501 to 1513. Takes no memory. */
+bool regtx_is_damage(uint32_t code);
 
 #ifdef __cplusplus
 }

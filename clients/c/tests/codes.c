@@ -40,7 +40,10 @@ static const char *header_of(int code)
     case REGTX_BAD_LIST:
     case REGTX_BAD_STORED_NAME:
     case REGTX_SHARED:
+    case REGTX_BAD_LOG:
     case REGTX_NOT_CLEAN:
+    case REGTX_BAD_STORE:
+    case REGTX_HIVE_TOO_LARGE:
         return "library";
     case REGTX_ENDED:
     case REGTX_COMMIT_UNKNOWN:

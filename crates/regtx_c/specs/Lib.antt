@@ -7,6 +7,7 @@ pub mod Questions
 pub mod Edits
 pub mod Files
 pub mod Texts
+pub mod CodeNames
 pub mod FixedKeys
 pub mod FixedKeyLaws
 pub mod Deletions

@@ -8,6 +8,7 @@
 //! what it has. A refusal leaves it, and is told exactly if it is true. Bytes that are written hold it.
 #![tactic(auto)]
 
+mod code_names;
 mod codes;
 mod deletion;
 mod edits;

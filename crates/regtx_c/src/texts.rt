@@ -88,6 +88,13 @@ fn first_of(refusals: &[Refusal], code: u32) -> Option<Refusal>
     refusals.iter().copied().find(|why| code_of(*why) == code)
 }
 
+/// The refusal that has a number, as one of hive 0.
+pub(crate) fn refusal_of(code: u32) -> Option<Refusal>
+    ensures { result ≡ find (λ why. refusal_code why == code) REFUSALS }
+{
+    first_of(&REFUSALS, code)
+}
+
 // the text of a refusal that has a number
 fn refusal_text_of(alloc: Global, code: u32, why: Refusal) -> Result<String, AllocError>
     requires { find (λ any. refusal_code any == code) REFUSALS ≡ Some why }
@@ -120,7 +127,7 @@ fn own_text_of(alloc: Global, code: u32) -> Result<String, AllocError>
 fn text_of(alloc: Global, code: u32) -> Result<String, AllocError>
     ensures { IfOk result (λ text. IsTextOf code (string_bytes text)) }
 {
-    match first_of(&REFUSALS, code) {
+    match refusal_of(code) {
         Some(why) => refusal_text_of(alloc, code, why),
         None => own_text_of(alloc, code),
     }
