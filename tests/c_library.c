@@ -512,6 +512,7 @@ static void expect_name(uint32_t code, const char *name, bool is_damage)
 
 static void check_names(void)
 {
+    bool is_proved = false, is_told = true;
     expect_name(REGTX_OK, "REGTX_OK", false);
     expect_name(REGTX_NO_MEMORY, "REGTX_NO_MEMORY", false);
     expect_name(REGTX_NOT_FOUND, "REGTX_NOT_FOUND", false);
@@ -527,6 +528,7 @@ static void check_names(void)
     expect_name(1500, "", false);
     expect_name(1514, "", false);
     expect_name((uint32_t)-1, "", false);
+    EXPECT(regtx_version(&is_proved) == REGTX_VERSION && regtx_version(&is_told) == REGTX_VERSION && is_proved == is_told);
 }
 
 static void check_texts(void)

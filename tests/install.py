@@ -13,6 +13,7 @@
 What can't be tried here is told, and counts neither as passed nor as failed. The last line is 'N passed, N failed', and the status is 0
 if none failed.
 """
+import ctypes
 import itertools
 import os
 import re
@@ -95,11 +96,23 @@ def versions(make, home):
     for name in ("Cargo.toml", "Cargo.lock"):
         found = re.findall(r'^name = "regtx-client"\nversion = "(.*)"$', content(os.path.join(client, "rust", name)).decode(), re.M)
         yield expect(name, found, [wanted])
+    numbers = [int(number) for number in wanted.split(".")]
+    number = sum(number * weight for number, weight in zip(numbers, (10_000, 100, 1)))
+    header = content(os.path.join(prefix, "include/regtx.h")).decode()
+    yield expect("regtx.h", re.findall(r"^#define REGTX_VERSION (\d+)$", header, re.M), [str(number)])
+    yield expect("regtx_version", library_told(os.path.join(prefix, "lib"))[0], number)
     # what pages and tests show of `regtx about` and of the package
     found = printed("git", "grep", "-hoE", r"regtx[ _][0-9]+(\.[0-9]+)+", cwd=TOP).split()
     yield expect("pages and tests", {name.removeprefix("regtx").removeprefix("_") for name in found} - {""}, {wanted})
     title = content(os.path.join(prefix, "share/man/man1/regtx.1")).decode().splitlines()[1]
     yield expect("the manual", re.findall(r'"regtx (.*?)"', title), [wanted])
+
+
+def library_told(folder):
+    """What `regtx_version` of the library in a folder tells: the version, and whether it was proved."""
+    is_proved = ctypes.c_bool()
+    number = ctypes.CDLL(os.path.join(folder, "libregtx.so.0")).regtx_version(ctypes.byref(is_proved))
+    return number, is_proved.value
 
 
 def wrong_contents(root, make):

@@ -43,6 +43,9 @@
 extern "C" {
 #endif
 
+/* The version of this header: 10,000 times its first number, 100 times its second, and its third. 900 is 0.9.0. */
+#define REGTX_VERSION 900
+
 #ifndef REGTX_REFUSALS
 #define REGTX_REFUSALS
 /* Refusals by their numbers, E1 and so on. regtx_client.h has the same ones. No call here answers 7 to 16. */
@@ -102,6 +105,10 @@ typedef struct {
     uint64_t values;
     uint64_t time;
 } regtx_info;
+
+/* Tells the version of the library, as REGTX_VERSION is that of the header, and whether the library was proved. Takes no
+ * memory. */
+uint32_t regtx_version(bool *is_proved);
 
 /* Opens the hive that the `len` bytes of a hive file hold. They are copied and may go. They are read as they are, without
  * a log. What was open by the handle before is closed; if the call is refused, it stays open.

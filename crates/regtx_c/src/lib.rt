@@ -22,3 +22,4 @@ mod opening;
 mod reads;
 mod room;
 mod texts;
+mod version;
