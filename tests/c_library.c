@@ -531,6 +531,33 @@ static void check_names(void)
     EXPECT(regtx_version(&is_proved) == REGTX_VERSION && regtx_version(&is_told) == REGTX_VERSION && is_proved == is_told);
 }
 
+/* null pointers with a length or a room of 0 */
+static void check_null(void)
+{
+    regtx_hive hive = {0};
+    regtx_info info;
+    uint32_t type = 9;
+    size_t len = 9;
+    EXPECT(regtx_hive_open(NULL, 0, &hive) == REGTX_TRUNCATED);
+    EXPECT(regtx_hive_new(&hive) == REGTX_OK);
+    EXPECT(regtx_hive_info(&hive, NULL, 0, &info) == REGTX_OK && info.subkeys == 0);
+    EXPECT(regtx_hive_create_key(&hive, NULL, 0, 1, &len) == REGTX_OK && len == 0);
+    EXPECT(regtx_hive_create_key(&hive, PATH("K"), 1, &len) == REGTX_OK && len == 1);
+    EXPECT(regtx_hive_set_value(&hive, NULL, 0, NULL, 0, 7, NULL, 0, 2) == REGTX_OK);
+    EXPECT(regtx_hive_value(&hive, NULL, 0, NULL, 0, &type, NULL, 0, &len) == REGTX_OK && type == 7 && len == 0);
+    EXPECT(regtx_hive_value_name_at(&hive, NULL, 0, 0, NULL, 0, &len) == REGTX_OK && len == 0);
+    EXPECT(regtx_hive_value_at(&hive, NULL, 0, 0, &type, NULL, 0, &len) == REGTX_OK && len == 0);
+    EXPECT(regtx_hive_key_at(&hive, NULL, 0, 0, NULL, 0, &len) == REGTX_NO_ROOM && len == 1);
+    EXPECT(regtx_hive_delete_value(&hive, NULL, 0, NULL, 0, 3) == REGTX_OK);
+    EXPECT(regtx_hive_delete_key(&hive, NULL, 0, 4) == REGTX_FIXED);
+    EXPECT(regtx_hive_delete_tree(&hive, NULL, 0, 4) == REGTX_FIXED);
+    EXPECT(regtx_hive_write(&hive, NULL, 0, &len) == REGTX_NO_ROOM && len == 4096 + 4096);
+    EXPECT(regtx_text(REGTX_NOT_FOUND, NULL, 0, &len) == REGTX_NO_ROOM && len == 11);
+    EXPECT(regtx_code_name(REGTX_NOT_FOUND, NULL, 0, &len) == REGTX_NO_ROOM && len == 15);
+    EXPECT(regtx_code_name(19, NULL, 0, &len) == REGTX_OK && len == 0);
+    regtx_hive_close(&hive);
+}
+
 static void check_texts(void)
 {
     static const struct {
@@ -586,6 +613,63 @@ static void check_threads(void)
         expect_written("a hive of a thread", &hives[i]);
         regtx_hive_close(&hives[i]);
     }
+}
+
+/* ---- stack */
+
+enum { STACK = 768 << 10, LEVELS = 512, BESIDE = 17 };
+
+/* a hive as deep as one may be, each of whose keys has more subkeys than lie in one node of a map */
+static void fill_deep(regtx_hive *hive)
+{
+    static uint16_t path[2 * LEVELS + 2];
+    size_t made, failed = 0;
+    for (size_t at = 0; at < LEVELS; at++) {
+        for (uint16_t i = 0; i < BESIDE; i++) {
+            path[2 * at] = (uint16_t)('A' + i);
+            failed += regtx_hive_create_key(hive, path, 2 * at + 1, 1, &made) != REGTX_OK;
+        }
+        path[2 * at + 1] = '\\';
+    }
+    EXPECT(failed == 0);
+}
+
+/* each call that goes down a tree */
+static void *on_small_stack(void *given)
+{
+    static uint16_t path[2 * LEVELS];
+    regtx_hive *hive = given, again = {0};
+    size_t len, failed = 0;
+    for (size_t i = 0; i < 2 * LEVELS; i++)
+        path[i] = i % 2 ? '\\' : 'A' + BESIDE - 1;
+    uint8_t *bytes = written(hive, &len);
+    failed += regtx_hive_set_value(hive, path, 2 * LEVELS - 1, path, 1, 3, bytes, 100000, 2) != REGTX_OK;
+    failed += regtx_hive_delete_value(hive, path, 2 * LEVELS - 1, path, 1, 3) != REGTX_OK;
+    failed += regtx_hive_delete_key(hive, path, 2 * LEVELS - 1, 4) != REGTX_OK;
+    failed += regtx_hive_delete_tree(hive, path, 2 * LEVELS - 3, 5) != REGTX_OK;
+    failed += regtx_hive_delete_tree(hive, path, 1, 6) != REGTX_OK;
+    failed += regtx_hive_open(bytes, len, &again) != REGTX_OK;
+    failed += regtx_hive_open(bytes, len, hive) != REGTX_OK;
+    regtx_hive_close(&again);
+    regtx_hive_close(hive);
+    free(bytes);
+    return failed ? NULL : given;
+}
+
+/* the deepest hive on a thread with the stack that the header names */
+static void check_stack(void)
+{
+    regtx_hive hive = {0};
+    pthread_attr_t attributes;
+    pthread_t thread;
+    void *ended = NULL;
+    EXPECT(regtx_hive_new(&hive) == REGTX_OK);
+    fill_deep(&hive);
+    EXPECT(pthread_attr_init(&attributes) == 0 && pthread_attr_setstacksize(&attributes, STACK) == 0);
+    EXPECT(pthread_create(&thread, &attributes, on_small_stack, &hive) == 0);
+    EXPECT(pthread_join(thread, &ended) == 0 && ended == &hive);
+    pthread_attr_destroy(&attributes);
+    regtx_hive_close(&hive);
 }
 
 /* ---- allocations refused in turn */
@@ -865,7 +949,9 @@ int main(int count, char **words)
         check_files();
         check_texts();
         check_names();
+        check_null();
         check_threads();
+        check_stack();
     } else
         return 2;
     return wrong != 0;

@@ -14,20 +14,25 @@
  * there is. With REGTX_NO_ROOM the room is too small, and the buffer is as it was; call again with `*len` of room. With
  * any other number but REGTX_OK neither buffer nor `*len` is written. What lies in a buffer behind `*len` stays.
  *
+ * Null. A pointer to units or bytes may be null if their number is 0, and a buffer if its room is 0. That is so of the
+ * calls as this header declares them. The library's own symbols, which other languages load, want a pointer there too.
+ *
  * Weight. A key weighs 192 and the bytes of its name, its class and its security descriptor, a value 128 and the bytes of
  * its name and its data; a name has two bytes a unit. A hive of any weight is opened and read. One that weighs more than
  * 16,777,216 isn't written, and no call adds to it: that is REGTX_TOO_LARGE. Keys and values can be deleted until it
  * weighs less.
  *
- * Numbers. Each call answers REGTX_OK or why it is refused. A refused call changes nothing: the hive stays as it was.
- * REGTX_NO_MEMORY may come of each call.
+ * Numbers. Each call answers REGTX_OK or why it is refused. A refused call changes nothing: the hive stays as it was. The
+ * refusals of a call are listed in their order: if several are true, the first of them is told. REGTX_NO_MEMORY may come
+ * in place of any answer of a call that takes memory.
  *
- * What the caller owes. No pointer is null, also not one to 0 units or bytes. What one call is given doesn't overlap. A
- * handle may be moved, but of two copies only one may be used from then on. Its fields are never touched. `malloc`,
- * `realloc` and `free` are of one allocator. No call is made in a signal handler.
+ * What the caller owes. No other pointer is null. What one call is given doesn't overlap. A handle may be moved, but of
+ * two copies only one may be used from then on. Its fields are never touched. `malloc`, `realloc` and `free` are of one
+ * allocator. No call is made in a signal handler. 768 KiB of stack are enough for each call, as deep as a hive may be.
  *
  * Threads. A handle is given to one call at a time. It may be given to another thread, if a lock, or the start or the end
- * of a thread, lies between the two calls. Several threads may use hives of their own at once.
+ * of a thread, lies between the two calls. Several threads may use hives of their own at once. Calls that only tell
+ * something write to the handle too, and so take none that is `const`: a lock has to keep them apart as well.
  *
  * The library owns each open hive, until its handle is closed or another hive is opened by it. It keeps no pointer of
  * the caller beyond a call, and hands out none of its own.
@@ -112,8 +117,8 @@ uint32_t regtx_version(bool *is_proved);
 
 /* Opens the hive that the `len` bytes of a hive file hold. They are copied and may go. They are read as they are, without
  * a log. What was open by the handle before is closed; if the call is refused, it stays open.
- * Refused: any number from 1501 on, REGTX_UNSUPPORTED, REGTX_TOO_LARGE (of bins data over 64 MiB, and of a path of more
- * than 512 names). */
+ * Refused, whichever is found first: any number from 1501 on, REGTX_UNSUPPORTED, REGTX_TOO_LARGE (of bins data over 64
+ * MiB, and of a path of more than 512 names). */
 uint32_t regtx_hive_open(const uint8_t *file, size_t len, regtx_hive *hive);
 
 /* Opens a new hive: a root with the name ROOT, without time, subkeys and values, that is not to be deleted. What was open
@@ -165,13 +170,14 @@ uint32_t regtx_hive_delete_tree(regtx_hive *hive, const uint16_t *path, size_t p
 
 /* Writes the value of a name, of the key at a path, which has the time then. Any number is a type. A value that was there
  * keeps the spelling of its name. The data are copied.
- * Refused: REGTX_NOT_OPEN, REGTX_BAD_NAME, REGTX_TOO_DEEP, REGTX_NOT_FOUND, REGTX_TOO_LARGE. */
+ * Refused: REGTX_NOT_OPEN, REGTX_BAD_NAME of the path, REGTX_TOO_DEEP, REGTX_BAD_NAME of the name, REGTX_NOT_FOUND,
+ * REGTX_TOO_LARGE. */
 uint32_t regtx_hive_set_value(regtx_hive *hive, const uint16_t *path, size_t path_len,
                               const uint16_t *name, size_t name_len,
                               uint32_t type, const uint8_t *data, size_t len, uint64_t time);
 
 /* Deletes the value of a name, of the key at a path, which has the time then.
- * Refused: REGTX_NOT_OPEN, REGTX_BAD_NAME, REGTX_TOO_DEEP, REGTX_NOT_FOUND. */
+ * Refused: REGTX_NOT_OPEN, REGTX_BAD_NAME of the path, REGTX_TOO_DEEP, REGTX_BAD_NAME of the name, REGTX_NOT_FOUND. */
 uint32_t regtx_hive_delete_value(regtx_hive *hive, const uint16_t *path, size_t path_len,
                                  const uint16_t *name, size_t name_len, uint64_t time);
 
@@ -180,7 +186,8 @@ uint32_t regtx_hive_delete_value(regtx_hive *hive, const uint16_t *path, size_t 
  * Refused: REGTX_NOT_OPEN, REGTX_TOO_LARGE, REGTX_NO_ROOM. */
 uint32_t regtx_hive_write(regtx_hive *hive, uint8_t *file, size_t room, size_t *len);
 
-/* Tells the text of a number, in ASCII, without a zero at its end: "E2 NotFound". It has at most 64 bytes. */
+/* Tells the text of a number, in ASCII, without a zero at its end: "E2 NotFound". It has at most 64 bytes.
+ * Refused: REGTX_NO_ROOM. */
 uint32_t regtx_text(uint32_t code, uint8_t *text, size_t room, size_t *len);
 
 /* Tells the name that this header gives a number, in ASCII, without a zero at its end: "REGTX_NOT_FOUND". It has at most
@@ -190,6 +197,136 @@ uint32_t regtx_code_name(uint32_t code, uint8_t *name, size_t room, size_t *len)
 
 /* Tells whether a number is one of damage, from 1501 to 1513. Takes no memory. */
 bool regtx_is_damage(uint32_t code);
+
+/* What follows lets a pointer be null, as said above: a call gets one to nothing in its place. */
+
+static inline const uint16_t *regtx_hive_units(const uint16_t *units, size_t len)
+{
+    static const uint16_t none = 0;
+    return len ? units : &none;
+}
+
+static inline const uint8_t *regtx_hive_bytes(const uint8_t *bytes, size_t len)
+{
+    static const uint8_t none = 0;
+    return len ? bytes : &none;
+}
+
+static inline uint16_t *regtx_hive_unit_room(uint16_t *buffer, size_t room)
+{
+    static uint16_t none;
+    return room ? buffer : &none;
+}
+
+static inline uint8_t *regtx_hive_byte_room(uint8_t *buffer, size_t room)
+{
+    static uint8_t none;
+    return room ? buffer : &none;
+}
+
+static inline uint32_t regtx_hive_open_or_null(const uint8_t *file, size_t len, regtx_hive *hive)
+{
+    return regtx_hive_open(regtx_hive_bytes(file, len), len, hive);
+}
+
+static inline uint32_t regtx_hive_info_or_null(regtx_hive *hive, const uint16_t *path, size_t path_len,
+                                               regtx_info *info)
+{
+    return regtx_hive_info(hive, regtx_hive_units(path, path_len), path_len, info);
+}
+
+static inline uint32_t regtx_hive_key_at_or_null(regtx_hive *hive, const uint16_t *path, size_t path_len, size_t index,
+                                                 uint16_t *name, size_t room, size_t *len)
+{
+    return regtx_hive_key_at(hive, regtx_hive_units(path, path_len), path_len, index, regtx_hive_unit_room(name, room),
+                             room, len);
+}
+
+static inline uint32_t regtx_hive_value_name_at_or_null(regtx_hive *hive, const uint16_t *path, size_t path_len,
+                                                        size_t index, uint16_t *name, size_t room, size_t *len)
+{
+    return regtx_hive_value_name_at(hive, regtx_hive_units(path, path_len), path_len, index,
+                                    regtx_hive_unit_room(name, room), room, len);
+}
+
+static inline uint32_t regtx_hive_value_at_or_null(regtx_hive *hive, const uint16_t *path, size_t path_len,
+                                                   size_t index, uint32_t *type, uint8_t *data, size_t room,
+                                                   size_t *len)
+{
+    return regtx_hive_value_at(hive, regtx_hive_units(path, path_len), path_len, index, type,
+                               regtx_hive_byte_room(data, room), room, len);
+}
+
+static inline uint32_t regtx_hive_value_or_null(regtx_hive *hive, const uint16_t *path, size_t path_len,
+                                                const uint16_t *name, size_t name_len, uint32_t *type, uint8_t *data,
+                                                size_t room, size_t *len)
+{
+    return regtx_hive_value(hive, regtx_hive_units(path, path_len), path_len, regtx_hive_units(name, name_len),
+                            name_len, type, regtx_hive_byte_room(data, room), room, len);
+}
+
+static inline uint32_t regtx_hive_create_key_or_null(regtx_hive *hive, const uint16_t *path, size_t path_len,
+                                                     uint64_t time, size_t *made)
+{
+    return regtx_hive_create_key(hive, regtx_hive_units(path, path_len), path_len, time, made);
+}
+
+static inline uint32_t regtx_hive_delete_key_or_null(regtx_hive *hive, const uint16_t *path, size_t path_len,
+                                                     uint64_t time)
+{
+    return regtx_hive_delete_key(hive, regtx_hive_units(path, path_len), path_len, time);
+}
+
+static inline uint32_t regtx_hive_delete_tree_or_null(regtx_hive *hive, const uint16_t *path, size_t path_len,
+                                                      uint64_t time)
+{
+    return regtx_hive_delete_tree(hive, regtx_hive_units(path, path_len), path_len, time);
+}
+
+static inline uint32_t regtx_hive_set_value_or_null(regtx_hive *hive, const uint16_t *path, size_t path_len,
+                                                    const uint16_t *name, size_t name_len, uint32_t type,
+                                                    const uint8_t *data, size_t len, uint64_t time)
+{
+    return regtx_hive_set_value(hive, regtx_hive_units(path, path_len), path_len, regtx_hive_units(name, name_len),
+                                name_len, type, regtx_hive_bytes(data, len), len, time);
+}
+
+static inline uint32_t regtx_hive_delete_value_or_null(regtx_hive *hive, const uint16_t *path, size_t path_len,
+                                                       const uint16_t *name, size_t name_len, uint64_t time)
+{
+    return regtx_hive_delete_value(hive, regtx_hive_units(path, path_len), path_len, regtx_hive_units(name, name_len),
+                                   name_len, time);
+}
+
+static inline uint32_t regtx_hive_write_or_null(regtx_hive *hive, uint8_t *file, size_t room, size_t *len)
+{
+    return regtx_hive_write(hive, regtx_hive_byte_room(file, room), room, len);
+}
+
+static inline uint32_t regtx_text_or_null(uint32_t code, uint8_t *text, size_t room, size_t *len)
+{
+    return regtx_text(code, regtx_hive_byte_room(text, room), room, len);
+}
+
+static inline uint32_t regtx_code_name_or_null(uint32_t code, uint8_t *name, size_t room, size_t *len)
+{
+    return regtx_code_name(code, regtx_hive_byte_room(name, room), room, len);
+}
+
+#define regtx_hive_open regtx_hive_open_or_null
+#define regtx_hive_info regtx_hive_info_or_null
+#define regtx_hive_key_at regtx_hive_key_at_or_null
+#define regtx_hive_value_name_at regtx_hive_value_name_at_or_null
+#define regtx_hive_value_at regtx_hive_value_at_or_null
+#define regtx_hive_value regtx_hive_value_or_null
+#define regtx_hive_create_key regtx_hive_create_key_or_null
+#define regtx_hive_delete_key regtx_hive_delete_key_or_null
+#define regtx_hive_delete_tree regtx_hive_delete_tree_or_null
+#define regtx_hive_set_value regtx_hive_set_value_or_null
+#define regtx_hive_delete_value regtx_hive_delete_value_or_null
+#define regtx_hive_write regtx_hive_write_or_null
+#define regtx_text regtx_text_or_null
+#define regtx_code_name regtx_code_name_or_null
 
 #ifdef __cplusplus
 }
