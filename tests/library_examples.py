@@ -106,7 +106,8 @@ def library(folder):
     declared = re.findall(r"^(?:uint32_t|void|bool) (regtx_\w+)\(", header, re.MULTILINE)
     yield expect("its link", os.readlink(so), "libregtx.so.0")
     symbols = [line.split()[-2:] for line in lines_of("nm", "-D", so)]
-    yield expect("exports", sorted(name for kind, name in symbols if kind not in "Uw"), sorted(declared))
+    exported = sorted(name for kind, name in symbols if kind not in "Uw")
+    yield expect("exports", exported, sorted(["REGTX_0.9", *(f"{name}@@REGTX_0.9" for name in declared)]))
     yield from names(so, header)
     yield expect("of others", [name for kind, name in symbols if kind == "U" and "@GLIBC_" not in name], [])
     told = [line.split() for line in lines_of("objdump", "-p", so)]

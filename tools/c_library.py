@@ -9,7 +9,8 @@ The code is the static library crates/regtx_c. It is proved and compiled over th
 in crates/NAME/out/rlib. If one isn't there or is older than its crate's files, `rt lib` proves and builds them all first. The
 toolchain's calls of malloc, realloc and free are put beside it, so that a program links with libregtx.a alone. `cc` links the same
 into a shared object, for languages that load one: it exports the calls of regtx.h, and needs the C library alone. The number in its
-name rises if a program that was linked with it no longer fits it.
+name rises if a program that was linked with it no longer fits it. Its calls have a version, by which a program that needs a
+later one is refused as it is loaded.
 """
 import os
 import shutil
@@ -25,6 +26,8 @@ CRATE = "regtx_c"
 ARCHIVE = f"{TOP}/crates/{CRATE}/out/lib{CRATE}.a"
 SHARED = "libregtx.so.0"
 HEADER = f"{TOP}/crates/{CRATE}/regtx.h"
+# the version since which the calls are there; what a later one adds gets a node of its own, after this one
+VERSIONS = "REGTX_0.9 { global: regtx_*; local: *; };\n"
 
 
 def written(folder):
@@ -49,7 +52,7 @@ def link(folder):
     """Makes the shared object of the archive. A symbol that the C library doesn't have ends this."""
     subprocess.run(["cc", "-shared", "-o", f"{folder}/{SHARED}", f"-Wl,-soname,{SHARED}", "-Wl,-z,defs",
                     "-Wl,--version-script=/dev/stdin", "-Wl,--whole-archive", f"{folder}/libregtx.a", "-Wl,--no-whole-archive"],
-                   input="{ global: regtx_*; local: *; };\n", text=True, check=True)
+                   input=VERSIONS, text=True, check=True)
     short = f"{folder}/libregtx.so"
     if os.path.lexists(short):
         os.remove(short)
