@@ -43,7 +43,8 @@ all: program library $(MANUAL)
 program:
 	@test -n "$$PROGRAM" || tools/build_quick.py --which regtx >/dev/null
 
-# the folder that tools/c_library.py writes is made anew if it is older than its sources; another one has to have all files
+# the folder that tools/c_library.py writes is made anew if it is older than its sources, without proofs unless `rt ci` has proved the
+# crates below; another one has to have all files
 library:
 	@test "$$LIBRARY" != out/c || tools/c_library.py --if-stale out/c
 	for file in $(LIBRARY_FILES); do
@@ -81,6 +82,8 @@ install: program library $(MANUAL)
 	done
 	printf '%s\n' "$$about" | grep -q '^proved by ' ||
 	    echo "regtx: the program that is installed isn't proved: regtx about says what it is" >&2
+	tools/c_library.py --is-proved "$$LIBRARY" ||
+	    echo "regtx: the library for C that is installed isn't proved, as its regtx_version says" >&2
 
 check:
 	@tests/all.py $${PROGRAMS:+--programs "$$PROGRAMS"} --library "$$LIBRARY" $$TESTS

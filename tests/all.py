@@ -5,7 +5,8 @@
 
 `make check` calls it. FOLDER has programs that are built already, such as those that were proved: FOLDER/regtx and the programs of
 tests/programs.txt. Those that it hasn't are built without proofs, side by side, and each test begins once its programs are there.
-The library for C is the one in the second FOLDER, out/c if none is named; tools/c_library.py proves and makes it.
+The library for C is the one in the second FOLDER. If none is named it is the one in out/c, which tools/c_library.py makes if it is
+missing or stale.
 
 A line tells how each test ended, and what a failed one printed. What isn't installed is skipped, told by name and counted; nothing
 is installed. The last line is 'N passed, N failed, N skipped', and the status is 0 if none failed.
@@ -26,7 +27,7 @@ TOP = os.path.dirname(os.path.dirname(os.path.abspath(__file__)))
 sys.path.insert(0, f"{TOP}/tools")
 from graph import below, crates, newest  # noqa: E402
 
-QUICK, LIBRARY = f"{TOP}/out/quick", "libregtx.a"
+QUICK, LIBRARY, OUR_LIBRARY = f"{TOP}/out/quick", "libregtx.a", "out/c"
 # no test may take longer, in seconds
 LONGEST = 1_800
 # what `make check` puts into the environment; tests call make themselves
@@ -46,7 +47,7 @@ class Test:
 
     @property
     def programs(self):
-        return [name for name in ("regtx", "calls", "trials", "regtx_bench") if f"${name}" in self.command]
+        return [name for name in ("regtx", "calls", "trials", "regtx_bench", "library") if f"${name}" in self.command]
 
 
 TESTS = [
@@ -133,7 +134,7 @@ def library_fault(folder):
     """Why the library for C in a folder can't be tried, or None."""
     path = os.path.join(TOP, folder, LIBRARY)
     if not os.path.exists(path):
-        return "the library for C isn't there: tools/c_library.py proves and makes it"
+        return "the library for C isn't there: tools/c_library.py makes it"
     graph = crates()
     parts = ["src", "specs", "proofs"]
     sources = max(newest(name, parts) for name in ["regtx_c", *below("regtx_c", graph)])
@@ -149,26 +150,29 @@ def reason_to_skip(test, given):
 
 
 class Programs:
-    """The programs that tests run: those in a folder, and others that are built."""
+    """The programs that tests run: those in a folder, and others that are built; and the library for C, by its folder."""
 
-    def __init__(self, folder):
-        self.folder = folder and os.path.abspath(folder)
+    def __init__(self, folder, library):
+        self.folder, self.library = folder and os.path.abspath(folder), library
         self.built = set()
 
     def given(self, name):
-        """The path of a program that is there already, or None."""
+        """The path of a program that is there already, or None. A library in a folder that is named isn't built."""
+        if name == "library":
+            return None if self.library == OUR_LIBRARY else self.library
         path = self.folder and os.path.join(self.folder, name)
         return path if path and os.access(path, os.X_OK) else None
 
     def path(self, name):
-        return self.given(name) or f"{QUICK}/{name}"
+        return self.given(name) or (self.library if name == "library" else f"{QUICK}/{name}")
 
     def are_there(self, names):
         return all(self.given(name) or name in self.built for name in names)
 
     def build(self, name):
-        """Builds a program without proofs, if it is missing or stale: why it could not, or None."""
-        printed, status = carry_out(["tools/build_quick.py", name], {})
+        """Builds a program without proofs, or the library, if it is missing or stale: why it could not, or None."""
+        words = ["tools/c_library.py", "--if-stale", self.library] if name == "library" else ["tools/build_quick.py", name]
+        printed, status = carry_out(words, {})
         if status != 0:
             return printed[-3000:]
         self.built.add(name)
@@ -180,7 +184,7 @@ class Run:
 
     def __init__(self, tests, given):
         self.left = sorted(tests, key=lambda test: -test.seconds)
-        self.given, self.programs, self.results, self.wrong = given, Programs(given.programs), [], []
+        self.given, self.programs, self.results, self.wrong = given, Programs(given.programs, given.library), [], []
 
     def tell(self, test, result, seconds):
         self.results.append(result)
@@ -193,7 +197,7 @@ class Run:
         began, why = time.monotonic(), reason_to_skip(test, self.given)
         if why:
             return test, Result(0, 0, [f"{test.name}, since {why}"]), 0.0
-        environment = {name: self.programs.path(name) for name in test.programs} | {"library": self.given.library}
+        environment = {name: self.programs.path(name) for name in test.programs}
         # without IFS and patterns, a path with blanks stays one word
         result = result_of(*carry_out(["bash", "-f", "-c", f"IFS=; {test.command}"], environment))
         return test, result, time.monotonic() - began
@@ -204,7 +208,7 @@ class Run:
 
     def tell_built(self, name, why, seconds):
         """Tells that a program was built, or that the tests that need it fail."""
-        print(why or f"built {name} without proofs ({seconds:.0f} s)", flush=True)
+        print(why or f"built {name} ({seconds:.0f} s)", flush=True)
         lost = [test for test in self.left if why and name in test.programs]
         self.left = [test for test in self.left if test not in lost]
         for test in lost:
@@ -244,7 +248,7 @@ class Run:
 def main():
     words = argparse.ArgumentParser(description=__doc__, formatter_class=argparse.RawDescriptionHelpFormatter)
     words.add_argument("--programs", metavar="FOLDER")
-    words.add_argument("--library", metavar="FOLDER", default="out/c")
+    words.add_argument("--library", metavar="FOLDER", default=OUR_LIBRARY)
     words.add_argument("--list", action="store_true")
     words.add_argument("tests", metavar="TEST", nargs="*")
     given = words.parse_args()

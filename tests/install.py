@@ -34,6 +34,7 @@ from scratch import are_there, expect, finish, program_at, tell  # noqa: E402
 
 ID = "00112233-4455-6677-8899-aabbccddeeff"
 UNPROVED = "regtx: the program that is installed isn't proved: regtx about says what it is\n"
+UNPROVED_LIBRARY = "regtx: the library for C that is installed isn't proved, as its regtx_version says\n"
 # what a store prints of examples/vendor.txt
 VENDOR = "opened 0\nok\ncreated 2\nok\ncreated 2\ncommitted 1\n"
 # folders that other programs use too
@@ -115,6 +116,11 @@ def library_told(folder):
     return number, is_proved.value
 
 
+def unproved(make, program=UNPROVED):
+    """What standard error is told of this program and of the library."""
+    return program if library_told(make.library)[1] else program + UNPROVED_LIBRARY
+
+
 def wrong_contents(root, make):
     """Files that aren't what they are copies of."""
     sources = ((name, source_of(name, make)) for name in expected_files())
@@ -136,7 +142,7 @@ def staged(make, home):
         # make itself takes one dollar of two
         given = {"DESTDIR": base.replace("$", "$$"), "PREFIX": prefix}
         root = base + prefix
-        yield expect(f"{destination}: make install", make("install", **given), ("", UNPROVED, 0))
+        yield expect(f"{destination}: make install", make("install", **given), ("", unproved(make), 0))
         yield expect(f"{destination}: the files", differences(modes(root), expected_files()), ([], [], []))
         yield expect(f"{destination}: the folders", set(folders(base).values()), {0o755})
         yield expect(f"{destination}: other contents", wrong_contents(root, make), [])
@@ -195,8 +201,9 @@ def defaults(make, home):
         with open(os.path.join(copy, "tools", name), "w", encoding="ascii") as file:
             file.write(f"#!/bin/sh\n{text}\n")
     told = ran("make", "--silent", "-C", copy, "install", f"DESTDIR={base}", "PREFIX=/usr")
+    # it tells that every library is proved
     yield expect("make install", told, ("", UNPROVED, 0))
-    yield expect("how the library is asked for", content(os.path.join(copy, "made")), b"--if-stale out/c\n")
+    yield expect("how the library is asked for", content(os.path.join(copy, "made")), b"--if-stale out/c\n--is-proved out/c\n")
     yield expect("the files", differences(modes(os.path.join(base, "usr")), expected_files()), ([], [], []))
     yield expect("the program", content(os.path.join(base, "usr/libexec/regtx")) == content(make.program), True)
 
@@ -235,7 +242,7 @@ def files(make, home):
     proved = shutil.copy(make.program, os.path.join(home, "proved"))
     subprocess.run([os.path.join(TOP, "tools", "mark.py"), proved, "proved"], check=True)
     given = {"DESTDIR": os.path.join(home, "marked"), "PREFIX": "/usr"}
-    yield expect("a proved program", make("install", PROGRAM=proved, **given), ("", "", 0))
+    yield expect("a proved program", make("install", PROGRAM=proved, **given), ("", unproved(make, ""), 0))
     before = built(os.path.join(TOP, "out"))
     yield expect("make", make("all"), ("regtx is built; make install PREFIX=FOLDER installs it\n", "", 0))
     make.install(**given)
