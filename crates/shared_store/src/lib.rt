@@ -8,7 +8,9 @@
 mod account;
 mod client;
 mod service;
+mod workers;
 
 pub use account::Account;
 pub use client::Client;
 pub use service::{Served, serve};
+pub use workers::{Worker, run_workers};

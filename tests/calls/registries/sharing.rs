@@ -3,10 +3,11 @@ use crate::registries::calls::{Answer, Calls, key};
 use crate::registries::device::{Device, NO_FAILURE};
 use crate::registries::playing::{Left, Scene, play as play_scene};
 use crate::registries::steps::Wrong;
-use flusher::{OpenGate, Worker, run_beside, run_workers};
+use flusher::{OpenGate, run_beside};
 use histories::Start;
 use ktm_calls::{Key, Receipt, Registry, Session};
 use refusals::Refusal;
+use shared_store::{Worker, run_workers};
 use std::alloc::Global;
 use std::process::Abort;
 use std::sync::atomic::{AtomicU64, Ordering};
@@ -390,7 +391,7 @@ fn run<E: StoreEngine + Send, O: Start + Send + Sync, R: Threads + Wait + Sync>(
     }
     sharing
         .room
-        .store(calls.registry.room(calls.rt), Ordering::SeqCst);
+        .store(calls.registry.room(calls.rt).bytes, Ordering::SeqCst);
 }
 
 // all threads

@@ -414,7 +414,7 @@ fn flusher_call<E: StoreEngine, O: Start, R: Wait>(
         ["turn"] => calls.turn(),
         ["hive"] => flush_hive(calls),
         ["checkpoint"] => calls.checkpoint(),
-        ["room"] => Ok(Answer::Room(calls.registry.room(calls.rt))),
+        ["room"] => Ok(Answer::Room(calls.registry.room(calls.rt).bytes)),
         ["await", room] => Ok(await_room(calls, number(room))),
         _ => Ok(Answer::Other),
     }
@@ -445,11 +445,11 @@ fn flush_hive<E: StoreEngine, O: Start, R: Wait>(
 // lets others run until only so much room is used, or gives up; and then until a flusher probably sleeps
 fn await_room<E: StoreEngine, O: Start, R: Wait>(calls: &Calls<'_, E, O, R>, room: u64) -> Answer {
     for _ in 0..MOST_TURNS {
-        if calls.registry.room(calls.rt) <= room {
+        if calls.registry.room(calls.rt).bytes <= room {
             break;
         }
         thread::yield_now();
     }
     let_fall_asleep();
-    Answer::Room(calls.registry.room(calls.rt))
+    Answer::Room(calls.registry.room(calls.rt).bytes)
 }

@@ -114,7 +114,7 @@ impl<O: Start> Caller<O> {
         Ok(RegistryPicture {
             reads: reads_of(&mut self.reader, &self.keys)?,
             outcomes,
-            room: calls.registry.room(calls.rt),
+            room: calls.registry.room(calls.rt).bytes,
             disk: calls.watch.calls(),
         })
     }

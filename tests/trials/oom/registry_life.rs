@@ -294,14 +294,14 @@ fn session_of<O: Start, E: StoreEngine, R: Wait>(
     calls: &Calls<'_, E, O, R>,
     was_refused: &mut bool,
 ) -> Result<Session<O>, Fault> {
-    let before = (calls.registry.room(calls.rt), calls.watch.calls());
+    let before = (calls.registry.room(calls.rt).bytes, calls.watch.calls());
     let denied = match calls.registry.session(calls.rt) {
         Ok((session, _told)) => return Ok(session),
         Err(denied) => denied,
     };
     expect_no_memory(refusal_of(&denied))?;
     *was_refused = true;
-    if (calls.registry.room(calls.rt), calls.watch.calls()) != before {
+    if (calls.registry.room(calls.rt).bytes, calls.watch.calls()) != before {
         return Err(Fault::Otherwise("a refused session has changed something"));
     }
     match calls.registry.session(calls.rt) {
@@ -336,7 +336,7 @@ impl<O: Start> Caller<O> {
                 self.claims = claims;
                 return Ok(());
             }
-            Step::Room(room) if calls.registry.room(calls.rt) == room => return Ok(()),
+            Step::Room(room) if calls.registry.room(calls.rt).bytes == room => return Ok(()),
             Step::Room(_) => return Err(Fault::Otherwise("another used room")),
             Step::Call(what, wanted) => (self.asked(calls, what)?, wanted),
             Step::Free(what, wanted) => (self.asked_without_memory(calls, what)?, wanted),
