@@ -9,6 +9,7 @@ and counted to the crate that the process works on: its check, its tests, or its
 between two readings loses less than half a second. The table is also kept in out/minutes.md: what the gate keeps from
 before has the minutes that it has there. The status is the gate's own; one that is interrupted is told as far as it came.
 """
+import glob
 import os
 import subprocess
 import sys
@@ -90,8 +91,14 @@ def chain_of(crates, minutes):
     return max(ends)
 
 
+def has_edits(crate):
+    """Whether the gate tries edits of a crate."""
+    return bool(glob.glob(f"{TOP}/crates/{crate}/must-fail/*.edit"))
+
+
 def rows_before(crates):
-    """The minutes in the table of before, of each crate and kind; none if there is no table yet."""
+    """The minutes in the table of before, of each crate and kind, but of edits that are there no more; none if there is no
+    table yet."""
     known = {}
     if not os.path.exists(PAGE):
         return known
@@ -99,7 +106,8 @@ def rows_before(crates):
         for line in file:
             name, *cells = [cell.strip(" `") for cell in line.strip("| \n").split("|")]
             if name in crates:
-                known.update({(name, kind): float(cell or 0) for kind, cell in zip(KINDS, cells)})
+                there = KINDS if has_edits(name) else KINDS[:2]
+                known.update({(name, kind): float(cell or 0) for kind, cell in zip(there, cells)})
     return known
 
 
