@@ -2,8 +2,10 @@ pub mod Call
 pub mod Crash
 pub mod FileState
 pub mod MemDisk
+pub mod MemDisks
 pub mod MemFile
 pub mod MemSound
+pub mod Periods
 pub mod Plan
 pub mod Room
 pub mod Sector

@@ -14,6 +14,8 @@
 //! mean for parts that make at most one call, and for a life that ends in a fault without a crash.
 #![tactic(auto)]
 
+mod call_counts;
+mod course;
 mod disk;
 mod history;
 pub mod laws;
@@ -24,8 +26,9 @@ mod plan;
 mod progress;
 mod tear;
 
+pub use call_counts::CallCounts;
 pub use disk::{Disk, Failed};
 pub use mem_disk::{FILES, MemDisk};
-pub use plan::Plan;
+pub use plan::{FailurePoints, Plan};
 pub use progress::Progress;
 pub use tear::Tear;

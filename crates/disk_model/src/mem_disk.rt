@@ -1,15 +1,19 @@
 //! Files in memory, as a disk. It fails as a plan says, and if it finds no memory.
-ghost use Rattle.std.specs.Prelude.{◌≡◌, ℕ, ◌≤◌, [], length, IfOk, OnOk, OnErr, IsErr};
+ghost use Rattle.std.specs.Prelude.{◌≡◌, ℕ, ◌≤◌, true, false, [], length, IfOk, OnOk, OnErr, IsErr};
 ghost use Rattle.disk_model.specs.FileState.{Writes, MayWrite, Cuts, MayCut, Syncs, at_rest, Leaves};
 ghost use Rattle.disk_model.specs.Sector.{IsHonest};
 ghost use Rattle.disk_model.specs.Tear.{IsCrashOf, WritesWholeSectors};
-ghost use Rattle.disk_model.specs.Call.{KeepsOthers, ReadGives};
+ghost use Rattle.disk_model.specs.Call.{Passes, KeepsOthers, CountsFailure, ReadGives};
 ghost use Rattle.disk_model.specs.MemFile.{state_of, FileHasRoom};
+ghost use Rattle.disk_model.specs.MemDisk.{CountsCalls, IsCount};
+ghost use Rattle.disk_model.specs.Plan.{GoesByPlan, no_calls, counted, made_call};
 ghost use Rattle.std.specs.List.{AllWithin};
 
+use crate::call_counts::{CallCounts, MadeCall};
+use crate::course::Course;
 use crate::history::DiskHistory;
 use crate::mem_file::MemFile;
-use crate::plan::{Fate, Plan};
+use crate::plan::{FailurePoints, Fate, Plan};
 use crate::{Disk, Failed, Tear};
 use std::alloc::{AllocError, Global};
 use std::snapshot::Snapshot;
@@ -25,21 +29,26 @@ pub struct MemDisk {
     files: Vec<MemFile>,
     past: DiskHistory,
     plan: Arc<Plan>,
+    course: Course,
+    ghost counted: { CountsCalls past course.counts },
 }
 
 impl MemDisk {
     ghost use Rattle.disk_model.specs.Room.{IsRoomy};
+    ghost use Rattle.disk_model.specs.MemDisks.{counts_of};
 
     /// A disk whose files were never written. `plan` may be changed while the disk is used.
     pub fn new(alloc: Global, plan: Arc<Plan>) -> MemDisk
         ensures files { (k f : ℕ) → ⟦<MemDisk as Disk>⟧.state_at result k f ≡ at_rest [] }
         ensures clock { ⟦<MemDisk as Disk>⟧.clock result ≡ 0 }
         ensures failures { ⟦<MemDisk as Disk>⟧.failures result ≡ 0 }
+        ensures counts { counts_of result ≡ no_calls }
     {
         MemDisk {
             files: Vec::new(alloc),
             past: DiskHistory::Begun,
             plan,
+            course: Course::new(),
         }
     }
 
@@ -54,6 +63,7 @@ impl MemDisk {
         ensures clock { ⟦<MemDisk as Disk>⟧.clock self.new ≡ ⟦<MemDisk as Disk>⟧.clock self.old }
         ensures failures { ⟦<MemDisk as Disk>⟧.failures self.new
             ≡ ⟦<MemDisk as Disk>⟧.failures self.old }
+        ensures counts { counts_of self.new ≡ counts_of self.old }
     {
         make_up_to(&mut self.files, files as usize)?;
         reserve(&mut self.files, files as usize, bytes, calls)
@@ -75,12 +85,31 @@ impl MemDisk {
             (⟦<MemDisk as Disk>⟧.state_at disk 0 f).seen) }
         ensures clock { IfOk result (λ disk. ⟦<MemDisk as Disk>⟧.clock disk ≡ 0) }
         ensures failures { IfOk result (λ disk. ⟦<MemDisk as Disk>⟧.failures disk ≡ 0) }
+        ensures counts { IfOk result (λ disk. counts_of disk ≡ no_calls) }
     {
         Ok(MemDisk {
             files: files_after(&self.files, tear)?,
             past: DiskHistory::Begun,
             plan,
+            course: Course::new(),
         })
+    }
+
+    /// How many calls were made.
+    pub fn counts(&self) -> CallCounts
+        ensures counts { result ≡ counts_of self.now }
+        ensures calls { IsCount (⟦<MemDisk as Disk>⟧.clock self.now) result.calls }
+        ensures failures { IsCount (⟦<MemDisk as Disk>⟧.failures self.now) result.failures }
+    {
+        self.course.counts
+    }
+
+    /// Whether all calls since then are known to have gone by these points: there were none, or they are those of the
+    /// present period of the plan.
+    pub fn has_gone(&self, by: FailurePoints, since: CallCounts) -> bool
+        ensures { result ≡ true → GoesByPlan by since (counts_of self.now) }
+    {
+        self.course.has_gone(by, since)
     }
 }
 
@@ -202,7 +231,9 @@ fn sync(files: &mut Vec<MemFile>, file: u32) -> Result<(), Failed>
 impl Disk for MemDisk {
     ghost use Rattle.disk_model.specs.MemDisk.{states, failed_calls, earlier};
     ghost use Rattle.disk_model.specs.MemSound.{sound-states};
+    ghost use Rattle.disk_model.specs.MemDisks.{states_of, clock_of, failures_of, file_now, counts_of};
 
+    // The trait's clauses, with what this disk is in place of the members; and each call is counted.
     ghost state_at = { λ d. states d.past d.files.items };
 
     ghost clock = { λ d. length (earlier d.past) };
@@ -214,59 +245,121 @@ impl Disk for MemDisk {
     ghost sound = { λ d k f _ _. sound-states d.past d.files.items k f };
 
     #[tactic(auto, using(crate::proofs::Moments::one_moment))]
-    fn len(&mut self, file: u32) -> Result<u64, Failed> {
+    fn len(&mut self, file: u32) -> Result<u64, Failed>
+        ensures len { IfOk result (λ n. n ≡ length (file_now self.old file).seen) }
+        ensures same { (f : ℕ) → file_now self.new f ≡ file_now self.old f }
+        ensures time { Passes (states_of self.old) (states_of self.new) (clock_of self.old)
+            (clock_of self.new) }
+        ensures failures { CountsFailure result (failures_of self.old) (failures_of self.new) }
+        ensures counted { counts_of self.new ≡ counted (counts_of self.old) (made_call false result) }
+    {
         let before = Snapshot::of(&self.files);
-        let result = match self.plan.next(false) {
+        let result = match self.course.next(&self.plan, false) {
             Fate::Succeeds => Ok(bytes_of(&self.files, file).len() as u64),
             Fate::Stops | Fate::Fails => Err(Failed),
         };
         self.past.then(before, result.is_err());
+        self.course.end(MadeCall {
+            is_change: false,
+            has_failed: result.is_err(),
+        });
         result
     }
 
     #[tactic(auto, using(crate::proofs::Moments::one_moment))]
-    fn read(&mut self, file: u32, offset: u64, buffer: &mut [u8]) -> Result<usize, Failed> {
+    fn read(&mut self, file: u32, offset: u64, buffer: &mut [u8]) -> Result<usize, Failed>
+        ensures count { IfOk result (λ n. n ≤ length buffer.old) }
+        ensures read { IfOk result
+            (ReadGives offset (file_now self.old file).seen buffer.old buffer.new) }
+        ensures same { (f : ℕ) → file_now self.new f ≡ file_now self.old f }
+        ensures time { Passes (states_of self.old) (states_of self.new) (clock_of self.old)
+            (clock_of self.new) }
+        ensures failures { CountsFailure result (failures_of self.old) (failures_of self.new) }
+        ensures counted { counts_of self.new ≡ counted (counts_of self.old) (made_call false result) }
+    {
         let before = Snapshot::of(&self.files);
-        let result = match self.plan.next(false) {
+        let result = match self.course.next(&self.plan, false) {
             Fate::Succeeds => Ok(read(bytes_of(&self.files, file), offset, buffer)),
             Fate::Stops | Fate::Fails => Err(Failed),
         };
         self.past.then(before, result.is_err());
+        self.course.end(MadeCall {
+            is_change: false,
+            has_failed: result.is_err(),
+        });
         result
     }
 
     #[tactic(auto, using(crate::proofs::Moments::one_moment))]
-    fn write_at(&mut self, file: u32, offset: u64, bytes: &[u8]) -> Result<(), Failed> {
+    fn write_at(&mut self, file: u32, offset: u64, bytes: &[u8]) -> Result<(), Failed>
+        ensures written { OnOk result (Writes offset bytes.now
+            (file_now self.old file) (file_now self.new file)) }
+        ensures failed { OnErr result (MayWrite offset bytes.now
+            (file_now self.old file) (file_now self.new file)) }
+        ensures others { KeepsOthers file (file_now self.old) (file_now self.new) }
+        ensures time { Passes (states_of self.old) (states_of self.new) (clock_of self.old)
+            (clock_of self.new) }
+        ensures failures { CountsFailure result (failures_of self.old) (failures_of self.new) }
+        ensures counted { counts_of self.new ≡ counted (counts_of self.old) (made_call true result) }
+    {
         let before = Snapshot::of(&self.files);
-        let result = match self.plan.next(true) {
+        let result = match self.course.next(&self.plan, true) {
             Fate::Succeeds => write(&mut self.files, file, offset, bytes),
             Fate::Stops => write_and_fail(&mut self.files, file, offset, bytes),
             Fate::Fails => Err(Failed),
         };
         self.past.then(before, result.is_err());
+        self.course.end(MadeCall {
+            is_change: true,
+            has_failed: result.is_err(),
+        });
         result
     }
 
     #[tactic(auto, using(crate::proofs::Moments::one_moment))]
-    fn cut(&mut self, file: u32, len: u64) -> Result<(), Failed> {
+    fn cut(&mut self, file: u32, len: u64) -> Result<(), Failed>
+        ensures cut { OnOk result (Cuts len (file_now self.old file) (file_now self.new file)) }
+        ensures failed { OnErr result (MayCut len (file_now self.old file) (file_now self.new file)) }
+        ensures others { KeepsOthers file (file_now self.old) (file_now self.new) }
+        ensures time { Passes (states_of self.old) (states_of self.new) (clock_of self.old)
+            (clock_of self.new) }
+        ensures failures { CountsFailure result (failures_of self.old) (failures_of self.new) }
+        ensures counted { counts_of self.new ≡ counted (counts_of self.old) (made_call true result) }
+    {
         let before = Snapshot::of(&self.files);
-        let result = match self.plan.next(true) {
+        let result = match self.course.next(&self.plan, true) {
             Fate::Succeeds => cut(&mut self.files, file, len),
             Fate::Stops => cut_and_fail(&mut self.files, file, len),
             Fate::Fails => Err(Failed),
         };
         self.past.then(before, result.is_err());
+        self.course.end(MadeCall {
+            is_change: true,
+            has_failed: result.is_err(),
+        });
         result
     }
 
     #[tactic(auto, using(crate::proofs::Moments::one_moment))]
-    fn sync(&mut self, file: u32) -> Result<(), Failed> {
+    fn sync(&mut self, file: u32) -> Result<(), Failed>
+        ensures synced { OnOk result (Syncs (file_now self.old file) (file_now self.new file)) }
+        ensures failed { OnErr result (file_now self.new file ≡ file_now self.old file) }
+        ensures others { KeepsOthers file (file_now self.old) (file_now self.new) }
+        ensures time { Passes (states_of self.old) (states_of self.new) (clock_of self.old)
+            (clock_of self.new) }
+        ensures failures { CountsFailure result (failures_of self.old) (failures_of self.new) }
+        ensures counted { counts_of self.new ≡ counted (counts_of self.old) (made_call true result) }
+    {
         let before = Snapshot::of(&self.files);
-        let result = match self.plan.next(true) {
+        let result = match self.course.next(&self.plan, true) {
             Fate::Succeeds => sync(&mut self.files, file),
             Fate::Stops | Fate::Fails => Err(Failed),
         };
         self.past.then(before, result.is_err());
+        self.course.end(MadeCall {
+            is_change: true,
+            has_failed: result.is_err(),
+        });
         result
     }
 }

@@ -1,7 +1,8 @@
-//! When a disk in memory is to fail, set from outside while it is used.
-ghost use Rattle.std.specs.Prelude.{◌≡◌, ◌+◌, ◌<◌, ◌≤◌, ◌^◌};
-ghost use Rattle.disk_model.specs.Plan.{fate_of};
+//! When a disk in memory is to fail, ordered from outside while it is used.
+ghost use Rattle.std.specs.Prelude.{◌≡◌, ◌+◌, ◌-◌, ◌≤◌, ◌^◌, min, true};
+ghost use Rattle.disk_model.specs.Plan.{fate_of, no_points};
 
+use crate::call_counts::CallCounts;
 use std::sync::atomic::{AtomicU64, Ordering};
 
 /// What becomes of one call.
@@ -14,20 +15,9 @@ pub(crate) enum Fate {
     Fails,
 }
 
-/// One call, by its number among all calls.
-#[derive(Clone, Copy)]
-pub(crate) struct PlannedCall {
-    /// Which of all calls it is; the first is 1.
-    pub call: u64,
-    /// How many writes, cuts and syncs were before it.
-    pub changes_before: u64,
-    /// It is a write, a cut or a sync.
-    pub is_change: bool,
-}
-
-/// Which calls are to be hit. 0 is none.
-#[derive(Clone, Copy)]
-pub(crate) struct FailurePoints {
+/// Which calls of a disk are to be hit, by their numbers. The first is 1, and 0 is none.
+#[derive(Clone, Copy, PartialEq)]
+pub struct FailurePoints {
     /// Which of the writes, cuts and syncs stops the disk.
     pub stop_on: u64,
     /// Which of all calls fails alone.
@@ -35,20 +25,58 @@ pub(crate) struct FailurePoints {
 }
 
 impl FailurePoints {
-    pub fn fate(self, turn: PlannedCall) -> Fate
-        requires { turn.changes_before + 1 < 2 ^ 64 }
-        ensures { result ≡ fate_of self turn }
+    /// No call is to be hit.
+    pub fn none() -> FailurePoints
+        ensures { result ≡ no_points }
     {
-        if turn.call == self.fail_on {
+        FailurePoints {
+            stop_on: 0,
+            fail_on: 0,
+        }
+    }
+
+    /// The disk is to stop at the `k`-th write, cut or sync after those that are counted.
+    pub fn stop_at(self, counted: CallCounts, k: u64) -> FailurePoints
+        ensures { result ≡ record self { stop_on = min (counted.changes + k) (2 ^ 64 - 1) } }
+    {
+        FailurePoints {
+            stop_on: counted.changes.saturating_add(k),
+            fail_on: self.fail_on,
+        }
+    }
+
+    /// The `k`-th call after those that are counted is to fail alone.
+    pub fn fail_at(self, counted: CallCounts, k: u64) -> FailurePoints
+        ensures { result ≡ record self { fail_on = min (counted.calls + k) (2 ^ 64 - 1) } }
+    {
+        FailurePoints {
+            stop_on: self.stop_on,
+            fail_on: counted.calls.saturating_add(k),
+        }
+    }
+
+    /// Whether the same calls are to be hit.
+    pub(crate) fn is(self, other: FailurePoints) -> bool
+        ensures { result ≡ true → self ≡ other }
+    {
+        self == other
+    }
+
+    /// What becomes of the next call after those that are counted.
+    pub(crate) fn fate(self, counted: CallCounts, is_change: bool) -> Fate
+        ensures { result ≡ fate_of self counted is_change }
+    {
+        let change = counted.changes.saturating_add(1);
+        if counted.calls.saturating_add(1) == self.fail_on {
             return Fate::Fails;
         }
-        if self.stop_on == 0 || turn.changes_before + 1 < self.stop_on {
+        if self.stop_on == 0 || change < self.stop_on {
             return Fate::Succeeds;
         }
-        if turn.changes_before + 1 > self.stop_on {
+        if change > self.stop_on {
             return Fate::Fails;
         }
-        if turn.is_change {
+        if is_change {
             Fate::Stops
         } else {
             Fate::Succeeds
@@ -56,24 +84,24 @@ impl FailurePoints {
     }
 }
 
-/// When the calls of a [`MemDisk`](crate::MemDisk) fail. It is shared with the disk, and may be changed while that is
-/// used.
+/// Orders to a [`MemDisk`](crate::MemDisk) to fail. It is shared with the disk, which takes the orders at its next
+/// call. One disk at a time uses a plan.
 #[derive(Drop)]
 pub struct Plan {
-    calls: AtomicU64,
-    changes: AtomicU64,
-    stop_on: AtomicU64,
-    fail_on: AtomicU64,
+    // how many orders and periods there were
+    given: AtomicU64,
+    // the order that no call has taken yet; 0 is none
+    stop: AtomicU64,
+    fail: AtomicU64,
 }
 
 impl Plan {
     /// No call fails.
     pub const fn new() -> Plan {
         Plan {
-            calls: AtomicU64::new(0),
-            changes: AtomicU64::new(0),
-            stop_on: AtomicU64::new(0),
-            fail_on: AtomicU64::new(0),
+            given: AtomicU64::new(0),
+            stop: AtomicU64::new(0),
+            fail: AtomicU64::new(0),
         }
     }
 
@@ -82,42 +110,39 @@ impl Plan {
     pub fn stop_at(&self, k: u64)
         requires { 1 ≤ k }
     {
-        let mark = mark_at(self.changes.load(Ordering::SeqCst), k);
-        self.stop_on.store(mark, Ordering::SeqCst);
+        self.stop.store(k, Ordering::SeqCst);
+        self.begin_period();
     }
 
     /// The `k`-th call of any kind from now on fails, alone, and does nothing. It replaces an earlier one.
     pub fn fail_at(&self, k: u64)
         requires { 1 ≤ k }
     {
-        let mark = mark_at(self.calls.load(Ordering::SeqCst), k);
-        self.fail_on.store(mark, Ordering::SeqCst);
+        self.fail.store(k, Ordering::SeqCst);
+        self.begin_period();
     }
 
-    /// What becomes of the next call, which counts from now on as made.
-    pub(crate) fn next(&self, is_change: bool) -> Fate {
-        let changes = if is_change {
-            self.changes.fetch_add(1, Ordering::SeqCst)
-        } else {
-            self.changes.load(Ordering::SeqCst)
-        };
-        let turn = PlannedCall {
-            call: self.calls.fetch_add(1, Ordering::SeqCst).saturating_add(1),
-            changes_before: changes.min(u64::MAX - 1),
-            is_change,
-        };
-        let marks = FailurePoints {
-            stop_on: self.stop_on.load(Ordering::SeqCst),
-            fail_on: self.fail_on.load(Ordering::SeqCst),
-        };
-        marks.fate(turn)
+    /// With the next call a period begins, of which [`MemDisk::has_gone`](crate::MemDisk::has_gone) can tell.
+    pub fn begin_period(&self) {
+        self.given.fetch_add(1, Ordering::SeqCst);
     }
-}
 
-/// The number of the `k`-th call after `so_far` calls.
-fn mark_at(so_far: u64, k: u64) -> u64
-    requires { 1 ≤ k }
-    ensures { so_far + k < 2 ^ 64 → result ≡ so_far + k }
-{
-    so_far.saturating_add(k)
+    /// How many orders and periods there were.
+    pub(crate) fn given(&self) -> u64 {
+        self.given.load(Ordering::SeqCst)
+    }
+
+    /// The points with the orders that no call had taken yet, after the calls that are counted.
+    pub(crate) fn take(&self, points: FailurePoints, counted: CallCounts) -> FailurePoints {
+        let mut points = points;
+        let stop = self.stop.swap(0, Ordering::SeqCst);
+        if stop > 0 {
+            points = points.stop_at(counted, stop);
+        }
+        let fail = self.fail.swap(0, Ordering::SeqCst);
+        if fail > 0 {
+            points = points.fail_at(counted, fail);
+        }
+        points
+    }
 }
