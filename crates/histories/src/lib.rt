@@ -11,5 +11,5 @@ mod start;
 
 pub use book::{EventCount, SeenEvents};
 pub use noted::{AnyEvent, Noted};
-pub use permission::{Permission, RequestCount, is_asked};
+pub use permission::{Permission, PermissionPool, RequestCount, is_asked};
 pub use start::Start;

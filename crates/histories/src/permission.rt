@@ -1,10 +1,11 @@
 //! Who may ask for events.
 //!
-//! Of a history that has a sole asker, one permission alone lets ask: a share of a ledger with all of its parts. The
-//! ledger's book counts what was asked for. So who has the permission knows, by the book, that nobody else asked. Of
-//! another history each may ask, and nothing is counted.
-ghost use Rattle.std.specs.Prelude.{◌≡◌, ◌+◌, ◌<◌, true, false};
+//! A permission is a share of a ledger, whose book counts what was asked for. Of a history that has a sole asker it has all
+//! of the ledger's parts. Of another one it has one part, and the ledger as many as there are permissions. So who has all of
+//! the parts knows, by the book, how many events were asked for.
+ghost use Rattle.std.specs.Prelude.{◌≡◌, ◌+◌, ◌<◌, ◌≤◌, true, false};
 ghost use Rattle.histories.specs.Asked.{is_asked as is_asked_by};
+ghost use Rattle.histories.specs.Permissions.{parts_each};
 
 use crate::start::Start;
 use std::marker::Model;
@@ -13,7 +14,6 @@ use store_model::Event;
 
 /// The right to ask for events, or none. It has no bytes but a flag.
 pub struct Permission<O: Start> {
-    // the share of the sole asker
     share: Option<Share<O>>,
 }
 
@@ -25,21 +25,22 @@ impl<O: Start> Drop for Permission<O> {
 }
 
 impl<O: Start> Model for Permission<O> {
-    ghost use Rattle.std.specs.Prelude.{◌≡◌, ◌<◌, IfSome};
-    ghost use Rattle.histories.specs.Permissions.{Right, asked_by, is_held, right_code};
+    ghost use Rattle.std.specs.Prelude.{◌≡◌, ◌<◌, IfSome, is_some};
+    ghost use Rattle.histories.specs.Permissions.{Right, asked_by, parts_each, right_code};
 
     ghost Value = { Right };
 
     ghost coded = { right_code };
 
-    ghost view = { λ p. record { held = is_held O.sole p.share; asked = asked_by (λ s. s.amount) p.share } };
+    ghost view = { λ p. record { held = is_some p.share; asked = asked_by (λ s. s.amount) p.share } };
 
-    ghost invariant = { λ p. IfSome p.share (λ s. (s.parts ≡ O.parts) × (0 < s.parts)) };
+    ghost invariant = { λ p. IfSome p.share (λ s. (s.parts ≡ parts_each O.sole O.parts) × (0 < s.parts)) };
 }
 
 impl<O: Start> Permission<O> {
     /// That of the sole asker, which has not asked for anything.
     pub fn sole(share: Share<O>) -> Permission<O>
+        requires sole { O.sole ≡ true }
         requires whole { share.parts ≡ O.parts }
         requires parts { 0 < share.parts }
         requires unused { share.amount ≡ 0 }
@@ -48,23 +49,93 @@ impl<O: Start> Permission<O> {
         Permission { share: Some(share) }
     }
 
-    /// That of a history of which each may ask for events.
-    pub fn shared() -> Permission<O>
-        requires { O.sole ≡ false }
-        ensures { result ≡ record { held = true; asked = 0 } }
+    /// None, for what nobody asks for.
+    pub fn none() -> Permission<O>
+        ensures { result ≡ record { held = false; asked = 0 } }
     {
         Permission { share: None }
     }
 
-    /// None, for what nobody asks for.
-    pub fn none() -> Permission<O>
-        ensures { result.asked ≡ 0 }
+    // its part of the ledger
+    fn into_share(self) -> Share<O>
+        requires held { self.held ≡ true }
+        ensures parts { result.parts ≡ parts_each O.sole O.parts }
+        ensures amount { result.amount ≡ self.asked }
     {
-        Permission { share: None }
+        let Permission { share } = self;
+        match share {
+            Some(share) => share,
+            None => unreachable!(),
+        }
     }
 }
 
-/// How many events of a history were asked for, if it has a sole asker. It has no bytes.
+/// The permissions of a history of which several may ask for events, as far as nobody has them. It has no bytes.
+pub struct PermissionPool<O: Start> {
+    share: Share<O>,
+}
+
+impl<O: Start> Drop for PermissionPool<O> {
+    fn drop(self) {
+        let PermissionPool { share: _ } = self;
+    }
+}
+
+impl<O: Start> Model for PermissionPool<O> {
+    ghost use Rattle.histories.specs.Permissions.{Pool, pool_code};
+
+    ghost Value = { Pool };
+
+    ghost coded = { pool_code };
+
+    ghost view = { λ p. record { left = p.share.parts; asked = p.share.amount } };
+}
+
+impl<O: Start> PermissionPool<O> {
+    /// All of them, with which nothing was asked for.
+    pub fn new(share: Share<O>) -> PermissionPool<O>
+        requires whole { share.parts ≡ O.parts }
+        requires unused { share.amount ≡ 0 }
+        ensures { result ≡ record { left = O.parts; asked = 0 } }
+    {
+        PermissionPool { share }
+    }
+
+    /// One permission, which came back.
+    pub fn of(permission: Permission<O>) -> PermissionPool<O>
+        requires held { permission.held ≡ true }
+        ensures { result ≡ record { left = parts_each O.sole O.parts; asked = permission.asked } }
+    {
+        PermissionPool {
+            share: permission.into_share(),
+        }
+    }
+
+    /// One of them, before any came back.
+    pub fn take(&mut self) -> Permission<O>
+        requires several { O.sole ≡ false }
+        requires left { 0 < self.old.left }
+        requires unused { self.old.asked ≡ 0 }
+        ensures left { self.new.left + 1 ≡ self.old.left }
+        ensures unused { self.new.asked ≡ 0 }
+        ensures taken { result ≡ record { held = true; asked = 0 } }
+    {
+        let share = self.share.split_off(1, 0);
+        Permission { share: Some(share) }
+    }
+
+    /// One of them comes back.
+    pub fn give_back(&mut self, permission: Permission<O>)
+        requires several { O.sole ≡ false }
+        requires held { permission.held ≡ true }
+        ensures left { self.new.left ≡ self.old.left + 1 }
+        ensures asked { self.new.asked ≡ self.old.asked + permission.asked }
+    {
+        self.share.merge(permission.into_share());
+    }
+}
+
+/// How many events of a history were asked for. It has no bytes.
 pub struct RequestCount<O: Start> {
     book: Book<O>,
 }
@@ -98,7 +169,7 @@ impl<O: Start> RequestCount<O> {
     pub fn count(&mut self, permission: &mut Permission<O>, is_asked: bool)
         requires may { is_asked ≡ true → permission.old.held ≡ true }
         ensures held { permission.new.held ≡ permission.old.held }
-        ensures counted { O.sole ≡ true → is_asked ≡ true →
+        ensures counted { is_asked ≡ true →
             (self.new ≡ self.old + 1) × (permission.new.asked ≡ permission.old.asked + 1) }
         ensures unasked { is_asked ≡ false → (self.new ≡ self.old) × (permission.new ≡ permission.old) }
     {
@@ -109,14 +180,23 @@ impl<O: Start> RequestCount<O> {
         }
     }
 
-    /// That the sole asker asked for all that was asked for.
+    /// That the owner of a permission asked for no more than was asked for, and the sole asker for all of it.
     pub fn audit(&mut self, permission: &mut Permission<O>)
         ensures same { (self.new ≡ self.old) × (permission.new ≡ permission.old) }
+        ensures bound { permission.old.asked ≤ self.old }
         ensures whole { O.sole ≡ true → permission.old.held ≡ true → permission.old.asked ≡ self.old }
     {
         if let Some(share) = &mut permission.share {
             self.book.audit(share);
         }
+    }
+
+    /// That nothing was asked for but with permissions that came back, if each has come back.
+    pub fn audit_pool(&mut self, pool: &mut PermissionPool<O>)
+        ensures same { (self.new ≡ self.old) × (pool.new ≡ pool.old) }
+        ensures whole { pool.old.left ≡ O.parts → pool.old.asked ≡ self.old }
+    {
+        self.book.audit(&mut pool.share);
     }
 }
 
