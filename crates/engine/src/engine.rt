@@ -4,7 +4,7 @@ ghost use Rattle.refusals.specs.declared.refusal.Refusal.TheVariants.{NoMemory};
 ghost use Rattle.refusals.specs.declared.limits.TheConstants.{MOST_HISTORY};
 ghost use Rattle.disk_model.specs.Call.{OneCall};
 ghost use Rattle.disk_model.specs.Crash.{LeavesHonest};
-ghost use Rattle.store_model.specs.Invariant.{IsWithin};
+ghost use Rattle.store_model.specs.Invariant.{InvariantHolds as MachineHolds, IsWithin};
 ghost use Rattle.store_model.specs.Machine as model;
 ghost use Rattle.store_model.specs.Machine.{bounds_for, last_number, opened_machine, trees_now, with_history};
 ghost use Rattle.commit_journal.specs.Store.{room_of};
@@ -353,6 +353,15 @@ impl<D: Disk> Engine<D> {
     /// sessions and transactions stay within their limits.
     pub fn stays_within(&self)
         ensures { IsWithin self.now.machine }
+    {
+        // what the type keeps is known once a field is read
+        let _ = self.parts.store.durable(); // for the prover
+    }
+
+    /// A law: the machine keeps what each step keeps. If the store keeps outcomes, its tree of outcomes has had the commits
+    /// that are kept, at each number since the opening.
+    pub fn keeps_invariant(&self)
+        ensures { MachineHolds self.now.machine }
     {
         // what the type keeps is known once a field is read
         let _ = self.parts.store.durable(); // for the prover

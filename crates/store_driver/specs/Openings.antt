@@ -6,6 +6,7 @@ use Rattle.reg_tree.specs.Maps.{TreeMap}
 use Rattle.crash_model.specs.Promises.{Content}
 use Rattle.change_codec.specs.ModelChanges.{TimedOp}
 use Rattle.commit_journal.specs.Store.{Store, all_hives, room_of}
+use Rattle.store_model.specs.Invariant.{InvariantHolds}
 use Rattle.store_model.specs.Machine.{Machine, bounds_for, opened_machine}
 use Rattle.commit_journal.specs.Journals.{choice_of}
 use Rattle.recovery.specs.Recovered.{IsNoStore, IsRecovered, seen_in}
@@ -34,12 +35,14 @@ IsRoomOf files store room = (journal : Content TimedOp) → JournalDecodesTo sto
 abbrev pub room_in : {D : Type 0} → Shown D → ℕ
 room_in opened = 65 + room_of (choice_of opened.found.journal).now.elements
 
--- A store was opened on these files, with these sessions open. If the device has answered as it should, the machine
--- begins at the number and the trees that they recover, and with the room that their journal takes.
+-- A store was opened on these files, with these sessions open. The machine keeps what each of its steps keeps. If the
+-- device has answered as it should, it begins at the number and the trees that they recover, and with the room that their
+-- journal takes.
 pub record IsOpenedOn (faithful : Type 0) (files : ℕ → List ℕ) (store : Store) (number : ℕ) (sessions : List ℕ) (machine : Machine) : Type 0 where
   pub trees : List TreeMap
   pub room : ℕ
   pub begins : BeginsAt store.hives number trees room sessions machine
+  pub kept : InvariantHolds machine
   pub recovered : faithful → IsRecovered files store number trees
   pub room_is : faithful → IsRoomOf files store room
 

@@ -34,6 +34,7 @@ pub fn open_store<D: Disk>(alloc: Global, disk: D) -> Result<(Engine<D>, u64), (
 {
     let (engine, number) = open_engine(alloc, disk)?;
     let begun = in_session_0(engine)?;
+    begun.keeps_invariant(); // for the prover
     Ok((begun, number))
 }
 
@@ -50,6 +51,7 @@ pub fn open_engine<D: Disk>(alloc: Global, disk: D) -> Result<(Engine<D>, u64), 
     let opened = repaired(found(alloc, disk)?)?;
     let number = opened.number();
     let engine = begun(alloc, opened)?;
+    engine.keeps_invariant(); // for the prover
     Ok((engine, number))
 }
 

@@ -23,6 +23,7 @@ returns-clause-ok g c =
           subst (λ (s : Store). BeginsAt s.hives c.number-number.result whole.found.trees (room_in first) [] engine.machine) same.2
           (subst (λ n. BeginsAt (store_of whole).hives n whole.found.trees (room_in first) [] engine.machine) (sym c.number-number.ensures)
           (subst (λ r. BeginsAt (store_of whole).hives whole.found.number whole.found.trees r [] engine.machine) same.3 c.in_ok-engine.ensures.begins));
+      kept = c.keeps_invariant.ensures;
       recovered = λ f.
           subst (λ n. IsRecovered files (store_of first) n whole.found.trees) (sym same.0 ∙ sym c.number-number.ensures)
           (subst (λ trees. IsRecovered files (store_of first) first.found.number trees) (sym same.1) (c.in_ok-found.ensures.recovered (was f)));

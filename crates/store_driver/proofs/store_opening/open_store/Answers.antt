@@ -22,6 +22,7 @@ returns-clause-ok g c =
       trees = opened.trees;
       room = opened.room;
       begins = said.0 ∙ ap (λ (m : Machine). with_session m 0) opened.begins;
+      kept = c.keeps_invariant.ensures;
       recovered = λ f. opened.recovered (said.1.faithful f);
       room_is = λ f. opened.room_is (said.1.faithful f);
     })
