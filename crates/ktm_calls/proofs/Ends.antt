@@ -1,9 +1,10 @@
 -- Events that end sessions, one after another.
-use Rattle.std.proofs.Common.{◌≡◌, ◌∙◌, Bool, true, List, [], ◌∷◌, ◌++◌, refl, append_assoc, ap}
+use Rattle.std.proofs.Common.{◌≡◌, ◌≤◌, ◌∙◌, ℕ, true, List, [], ◌∷◌, ◌++◌, length, refl, append_assoc, ap, arith}
 use Rattle.std.proofs.lemmas.List.Elements.{All-head, All-push, All-tail}
 use Rattle.histories.specs.Asked.{EndSessions, EndsSession, asked_in, is_asked}
 use Rattle.histories.specs.Points.{HistoryEntry}
-use Rattle.histories.proofs.Asked.{asked_append}
+use Rattle.histories.proofs.Asked.{asked_append, asked_same}
+use Rattle.ktm_calls.specs.Ends.{IsAllAsked}
 use Rattle.store_model.specs.declared.event.Event.{Event}
 use Rattle.store_model.specs.declared.event.Event.TheVariants as event
 
@@ -22,8 +23,9 @@ ends_are_asked (x ∷ xs) are =
     let P : HistoryEntry → Type 0 = λ entry. EndsSession entry.event in
     rw (end_is_asked x.event (All-head P x xs are)) (ap (λ (w : List HistoryEntry). x ∷ w) (ends_are_asked xs (All-tail P x xs are)))
 
--- what was asked for, once the sessions that were still open were ended
-pub asked_at_end : (sole : Bool) (mine h log : List HistoryEntry) → (sole ≡ true → asked_in h ≡ asked_in mine) → ((ends : List HistoryEntry) × EndSessions ends × (log ≡ h ++ ends))
-    → sole ≡ true → (ends : List HistoryEntry) × EndSessions ends × (asked_in log ≡ asked_in mine ++ ends)
-asked_at_end sole mine h log alone e so =
-    (e.0, e.1, ap asked_in e.2 ∙ (asked_append h e.0 ∙ (ap (λ (w : List HistoryEntry). asked_in h ++ w) (ends_are_asked e.0 e.1) ∙ ap (λ (w : List HistoryEntry). w ++ e.0) (alone so))))
+-- if one has seen as many events that were asked for as were asked for, it has seen each but the ends at the close
+pub asked_at_end : (mine log : List HistoryEntry) (asked : ℕ) → IsAllAsked mine asked log → asked ≤ length (asked_in mine)
+    → (ends : List HistoryEntry) × EndSessions ends × (asked_in log ≡ asked_in mine ++ ends)
+asked_at_end mine log asked k few =
+    let same : asked_in k.past ≡ asked_in mine = asked_same mine k.past k.begins (omega (arith, k.count, few)) in
+    (k.ends, k.closing, ap asked_in k.whole ∙ (asked_append k.past k.ends ∙ (ap (λ (w : List HistoryEntry). asked_in k.past ++ w) (ends_are_asked k.ends k.closing) ∙ ap (λ (w : List HistoryEntry). w ++ k.ends) same)))

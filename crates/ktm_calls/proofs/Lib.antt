@@ -8,3 +8,4 @@ pub mod Coming
 pub mod Alone
 pub mod Outcomes
 pub mod OpenSessions
+pub mod RoomMade

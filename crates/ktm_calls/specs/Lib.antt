@@ -8,3 +8,5 @@ pub mod Outcomes
 pub mod Waiting
 pub mod Denials
 pub mod Calls
+pub mod Ends
+pub mod Room

@@ -1,5 +1,5 @@
 -- The moment under the lock at which an event was answered.
-use Rattle.std.specs.Prelude.{◌≡◌, ◌≤◌, ◌⊎◌, ℕ, Bool, true, List, [], ◌∷◌, ◌++◌, Option, Some, None, refl, ⊤}
+use Rattle.std.specs.Prelude.{◌≡◌, ◌≤◌, ◌⊎◌, ◌+◌, ℕ, Bool, true, cond, List, [], ◌∷◌, ◌++◌, Option, Some, None, refl, ⊤}
 use Rattle.std.specs.Coded.{Coded, code_by, coded×, coded_ℕ, coded_list}
 use mathlib.Core.List.{IsPrefix}
 use Rattle.refusals.specs.declared.refusal.Refusal.TheVariants.{NoMemory}
@@ -12,32 +12,35 @@ use Rattle.store_model.specs.declared.event.Reply.{Reply}
 use Rattle.store_model.specs.declared.event.Reply.TheVariants as reply
 use Rattle.transactions.specs.declared.prepared.Next.{Next}
 use Rattle.published_trees.specs.Lists.{list_code}
-use Rattle.histories.specs.Asked.{asked_in}
+use Rattle.histories.specs.Asked.{asked_in, is_asked}
 use Rattle.histories.specs.Histories.{end_of}
 use Rattle.engine_invariant.specs.Engines.{EngineView}
 use Rattle.histories.specs.Points.{HistoryEntry, SeenHistory, entry_code, entry_of, seen_code}
 use Rattle.ktm_calls.specs.Kinds.{Told, kind_of}
 
--- what was seen of a registry: a beginning of the changes that it accepted, and of its history
+-- what one has seen of a registry: a beginning of the changes that it accepted, and of its history; and for how many events
+-- it had asked by then
 pub record Sight : Type 0 where
   pub list : List Element
   pub history : List HistoryEntry
+  pub asked : ℕ
 
 abbrev pub sight_code : Coded Sight
-sight_code = code_by (List Element × List HistoryEntry) (coded× list_code (coded_list entry_code)) (λ s. (s.list, s.history)) (λ p. record { list = p.0; history = p.1 }) (λ _. refl)
+sight_code = code_by (List Element × (List HistoryEntry × ℕ)) (coded× list_code (coded× (coded_list entry_code) coded_ℕ)) (λ s. (s.list, (s.history, s.asked))) (λ p. record { list = p.0; history = p.1.0; asked = p.1.1 }) (λ _. refl)
 
--- nothing was seen
+-- nothing was seen, and nothing was asked for
 abbrev pub no_sight : Sight
-no_sight = record { list = []; history = [] }
+no_sight = record { list = []; history = []; asked = 0 }
 
 -- what was seen before is a beginning of what is seen then
 pub record SeesMore (was is : Sight) : Type 0 where
   pub list : IsPrefix was.list is.list
   pub history : IsPrefix was.history is.history
 
--- The same, and nothing was asked for meanwhile, if there is a sole asker.
+-- The same, and this one asked for nothing meanwhile. If it is the sole asker, nothing was asked for.
 pub record SeesSteps (sole : Bool) (was is : Sight) : Type 0 where
   pub more : SeesMore was is
+  pub same : is.asked ≡ was.asked
   pub alone : sole ≡ true → asked_in is.history ≡ asked_in was.history
 
 -- a number and what was seen: a session; or a receipt with what it carries
@@ -83,12 +86,14 @@ pub record StandsLast (start : EngineView) (was : List HistoryEntry) (event : Ev
   pub old_is : (end_of start past).machine ≡ old
   pub new_is : after.machine ≡ new
 
--- What is told of the event: its kind, and the reply that it was answered. It stands in the history that begins here. If
--- there is a sole asker, nothing else was asked for since what was seen before.
+-- What is told of the event: its kind, and the reply that it was answered. It stands in the history that begins here. This
+-- one asked for it, if it is an event that somebody asks for, and for nothing else. If there is a sole asker, nothing else
+-- was asked for since what was seen before.
 pub record Tells (sole : Bool) (start : EngineView) (trees : List TreeMap) (number hives : ℕ) (was is : Sight) (event : Event) (told : Told) : Type 0 where
   pub kind : told.kind ≡ kind_of event
   pub answered : IsAnswered trees number hives was.list is.list event told.reply
   pub stands : StandsLast start was.history event told.reply answered.old answered.new is.history
+  pub counted : is.asked ≡ was.asked + cond (is_asked event) 1 0
   pub alone : sole ≡ true → asked_in stands.past ≡ asked_in was.history
 
 -- The event was answered with a number, and then waited for, by steps and questions alone: the receipt has that number,
@@ -120,7 +125,8 @@ with_next list (Some next) = list ++ next.change.value ∷ []
 abbrev pub AddsAtMost : List HistoryEntry → Event → EngineView → List HistoryEntry → Type 0
 AddsAtMost was event now is = (is ≡ was) ⊎ (is ≡ was ++ entry_of event (reply.Refused NoMemory) now ∷ [])
 
--- If there is a sole asker, nothing was asked for. Or this event was, for which there was no memory.
-abbrev pub AsksAtMost : Bool → Sight → Sight → Event → Type 0
-AsksAtMost sole was is event =
-    sole ≡ true → (asked_in is.history ≡ asked_in was.history) ⊎ ((after : EngineView) × (asked_in is.history ≡ asked_in was.history ++ entry_of event (reply.Refused NoMemory) after ∷ []))
+-- This one asked for nothing; or for this event, for which there was no memory. If it is the sole asker, nothing else was
+-- asked for.
+pub record AsksAtMost (sole : Bool) (was is : Sight) (event : Event) : Type 0 where
+  pub counted : (is.asked ≡ was.asked) ⊎ (is.asked ≡ was.asked + 1)
+  pub alone : sole ≡ true → (asked_in is.history ≡ asked_in was.history) ⊎ ((after : EngineView) × (asked_in is.history ≡ asked_in was.history ++ entry_of event (reply.Refused NoMemory) after ∷ []))

@@ -8,8 +8,8 @@ use histories::{EventCount, Permission, Start};
 use published_trees::SeenChanges;
 use std::marker::Model;
 
-/// One who asks for events of a registry: what it has seen, with the permission to ask. If it is the sole asker, it has
-/// seen each event that was asked for.
+/// One who asks for events of a registry: what it has seen, with the permission to ask. It has seen each event that it asked
+/// for; the sole asker, each that was asked for.
 pub struct Asker<O: Start> {
     pub(crate) seen: Sight<O>,
     pub(crate) permission: Permission<O>,
@@ -38,7 +38,8 @@ impl<O: Start> Model for Asker<O> {
 
     ghost invariant = { λ a. record {
       held : a.permission.held ≡ true;
-      asked : O.sole ≡ true → a.permission.asked ≤ length (asked_in a.seen.history);
+      counted : a.seen.asked ≡ a.permission.asked;
+      asked : a.seen.asked ≤ length (asked_in a.seen.history);
     } };
 }
 
@@ -57,21 +58,48 @@ impl<O: Start> Asker<O> {
         )
     }
 
-    /// One that has seen this, and may ask. A sole asker has asked for no more than what was asked for in that.
+    /// One that has seen this, and may ask, but has not asked for anything.
     pub fn new(seen: Sight<O>, permission: Permission<O>) -> Asker<O>
         requires held { permission.held ≡ true }
-        requires asked { O.sole ≡ true → permission.asked ≤ length (asked_in seen.history) }
+        requires unused { permission.asked ≡ 0 }
+        requires nothing { seen.asked ≡ 0 }
         ensures { result ≡ seen }
     {
         Asker { seen, permission }
+    }
+
+    /// What it has seen, and the permission.
+    pub fn into_parts(self) -> (Sight<O>, Permission<O>)
+        ensures seen { result.0 ≡ self }
+        ensures held { result.1.held ≡ true }
+        ensures asked { result.1.asked ≡ self.asked }
+    {
+        let Asker { seen, permission } = self;
+        (seen, permission)
+    }
+
+    // a law: it has seen each event that it asked for
+    pub(crate) fn saw_what_it_asked(&self)
+        ensures { self.now.asked ≤ length (asked_in self.now.history) }
+    {
+        // what the type keeps is known once a field is read
+        let _ = &self.seen; // for the prover
     }
 
     // takes in what was seen elsewhere
     pub(crate) fn learn(&mut self, other: &Sight<O>)
         ensures this { SeesMore self.old self.new }
         ensures that { SeesMore other.now self.new }
+        ensures asked { self.new.asked ≡ self.old.asked }
     {
         self.seen.learn(other);
+    }
+
+    // a copy of what it has seen
+    pub(crate) fn sight_again(&self) -> Sight<O>
+        ensures { result ≡ self.now }
+    {
+        self.seen.again_by(&self.permission)
     }
 
     /// What it has seen.

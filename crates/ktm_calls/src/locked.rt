@@ -14,13 +14,16 @@ ghost use Rattle.ktm_calls.specs.Denials.{OpensOrNot, refusal_in};
 ghost use Rattle.ktm_calls.specs.Kinds.{kind_of};
 ghost use Rattle.ktm_calls.specs.Moments.{AddsAtMost, IsOf, AsksAtMost, SeesMore, SeesSteps, Tells};
 ghost use Rattle.ktm_calls.specs.OpenSessions.{AreBelow, OpensBelow};
+ghost use Rattle.ktm_calls.specs.Room.{HasMadeRoom, MakesRoom};
 
 use crate::asker::Asker;
 use crate::event_kind::{EventKind, may_accept};
 use crate::holding::{accept_event, put_event};
 use crate::session::SessionHandle;
 use crate::sight::Sight;
-use histories::{EventCount, Permission, RequestCount, SeenEvents, Start, is_asked};
+use histories::{
+    EventCount, Permission, PermissionPool, RequestCount, SeenEvents, Start, is_asked,
+};
 use published_trees::{ChangeCount, MOST_READERS, Publication, SeenChanges, TreesReader};
 use refusals::Refusal;
 use std::alloc::Global;
@@ -120,6 +123,7 @@ impl<E: StoreEngine, O: Start> Model for Locked<E, O> {
     ghost use Rattle.ktm_calls.specs.Held.{Held, held_code};
     ghost use Rattle.ktm_calls.specs.Moments.{IsOf};
     ghost use Rattle.ktm_calls.specs.OpenSessions.{AreBelow};
+    ghost use Rattle.ktm_calls.specs.Room.{MakesRoom};
 
     ghost Value = { Held E };
 
@@ -136,13 +140,15 @@ impl<E: StoreEngine, O: Start> Model for Locked<E, O> {
       list : l.publication ≡ (E.state l.engine).machine.accepted;
       sessions : AreBelow l.session_bound (E.state l.engine).machine;
       bound : l.session_bound ≤ 2 ^ 32;
-      asked : O.sole ≡ true → l.requests ≡ length (asked_in l.events.log);
+      asked : l.requests ≡ length (asked_in l.events.log);
+      room : MakesRoom O.start l.events.log;
     } };
 }
 
 impl<E: StoreEngine, O: Start> Locked<E, O> {
     /// One event, but no fold, which is what one hold of the lock does. It is the last one of the history then. A change
-    /// that it accepts is in the list, and its trees are published. An event that is asked for needs the permission.
+    /// that it accepts is in the list, and its trees are published. An event that is asked for needs the permission, and one
+    /// that may accept a change needs room that was made.
     ///
     /// Refused with `NoMemory` alone; nothing has changed then.
     pub fn hold<R: Wait>(
@@ -153,6 +159,7 @@ impl<E: StoreEngine, O: Start> Locked<E, O> {
     ) -> Result<Told, Refusal>
         requires no_fold { is_fold event ≡ false }
         requires may { is_asked_by event ≡ true → permission.old.held ≡ true }
+        requires room { may_accept event ≡ true → HasMadeRoom O.start self.old.history }
         ensures kind { IfOk result (λ t. t.kind ≡ kind_of event) }
         ensures step { IfOk result (λ t.
             Step (E.state self.old.engine).machine event t.reply (E.state self.new.engine).machine) }
@@ -163,11 +170,13 @@ impl<E: StoreEngine, O: Start> Locked<E, O> {
             (E.state self.new.engine) ∷ []) }
         ensures lacked { OnErr result (AddsAtMost self.old.history event (E.state self.new.engine)
             self.new.history) }
+        ensures calm { OnErr result (may_accept event ≡ false → self.new.history ≡ self.old.history
+            ++ entry_of event (reply.Refused NoMemory) (E.state self.new.engine) ∷ []) }
         ensures call { ((E.state self.old.engine).clock ≤ (E.state self.new.engine).clock)
             × ((E.state self.new.engine).clock ≤ (E.state self.old.engine).clock + 1) }
         ensures stopped { self.new.stopped ≡ self.old.stopped }
         ensures held { permission.new.held ≡ permission.old.held }
-        ensures counts { O.sole ≡ true → permission.new.asked + length (asked_in self.old.history)
+        ensures counts { permission.new.asked + length (asked_in self.old.history)
             ≡ permission.old.asked + length (asked_in self.new.history) }
     {
         if may_accept(&event) {
@@ -197,11 +206,13 @@ impl<E: StoreEngine, O: Start> Locked<E, O> {
             (E.state self.new.engine) ∷ []) }
         ensures lacked { OnErr result (AddsAtMost self.old.history event (E.state self.new.engine)
             self.new.history) }
+        ensures calm { OnErr result (may_accept event ≡ false → self.new.history ≡ self.old.history
+            ++ entry_of event (reply.Refused NoMemory) (E.state self.new.engine) ∷ []) }
         ensures call { ((E.state self.old.engine).clock ≤ (E.state self.new.engine).clock)
             × ((E.state self.new.engine).clock ≤ (E.state self.old.engine).clock + 1) }
         ensures stopped { self.new.stopped ≡ self.old.stopped }
         ensures held { permission.new.held ≡ permission.old.held }
-        ensures counts { O.sole ≡ true → permission.new.asked + length (asked_in self.old.history)
+        ensures counts { permission.new.asked + length (asked_in self.old.history)
             ≡ permission.old.asked + length (asked_in self.new.history) }
     {
         others_accept_nothing();
@@ -231,6 +242,7 @@ impl<E: StoreEngine, O: Start> Locked<E, O> {
     ) -> Result<Told, Refusal>
         requires accepts { may_accept event ≡ true }
         requires no_fold { is_fold event ≡ false }
+        requires room { HasMadeRoom O.start self.old.history }
         requires may { is_asked_by event ≡ true → permission.old.held ≡ true }
         ensures kind { IfOk result (λ t. t.kind ≡ kind_of event) }
         ensures step { IfOk result (λ t.
@@ -242,11 +254,13 @@ impl<E: StoreEngine, O: Start> Locked<E, O> {
             (E.state self.new.engine) ∷ []) }
         ensures lacked { OnErr result (AddsAtMost self.old.history event (E.state self.new.engine)
             self.new.history) }
+        ensures calm { OnErr result (may_accept event ≡ false → self.new.history ≡ self.old.history
+            ++ entry_of event (reply.Refused NoMemory) (E.state self.new.engine) ∷ []) }
         ensures call { ((E.state self.old.engine).clock ≤ (E.state self.new.engine).clock)
             × ((E.state self.new.engine).clock ≤ (E.state self.old.engine).clock + 1) }
         ensures stopped { self.new.stopped ≡ self.old.stopped }
         ensures held { permission.new.held ≡ permission.old.held }
-        ensures counts { O.sole ≡ true → permission.new.asked + length (asked_in self.old.history)
+        ensures counts { permission.new.asked + length (asked_in self.old.history)
             ≡ permission.old.asked + length (asked_in self.new.history) }
     {
         openings_stay();
@@ -265,12 +279,14 @@ impl<E: StoreEngine, O: Start> Locked<E, O> {
         Ok(Told { kind, reply })
     }
 
-    /// What is seen under the lock: all of the list, which is what the engine accepted, and all of the history.
+    /// What is seen under the lock: all of the list, which is what the engine accepted, and all of the history. Nobody asked
+    /// for an event.
     pub fn sight(&self) -> Sight<O>
         ensures owner { IsOf O.trees O.number O.hives (E.state self.now.engine).machine }
         ensures whole { result ≡ record {
           list = (E.state self.now.engine).machine.accepted;
           history = self.now.history;
+          asked = 0;
         } }
         ensures durable { (E.state self.now.engine).machine.durable
             ≤ O.number + length (E.state self.now.engine).machine.accepted }
@@ -293,6 +309,7 @@ impl<E: StoreEngine, O: Start> Locked<E, O> {
         ensures whole { mine.new ≡ record {
           list = (E.state self.now.engine).machine.accepted;
           history = self.now.history;
+          asked = mine.old.asked;
         } }
     {
         let all = self.sight();
@@ -307,13 +324,23 @@ impl<E: StoreEngine, O: Start> Locked<E, O> {
         self.engine.durable()
     }
 
-    /// That the sole asker has asked for all that was asked for.
+    /// That the owner of a permission asked for no more than was asked for, and the sole asker for all of it.
     pub(crate) fn audit(&mut self, permission: &mut Permission<O>)
         ensures same { (self.new ≡ self.old) × (permission.new ≡ permission.old) }
+        ensures bound { permission.old.asked ≤ length (asked_in self.new.history) }
         ensures whole { O.sole ≡ true → permission.old.held ≡ true →
             permission.old.asked ≡ length (asked_in self.new.history) }
     {
         self.requests.audit(permission);
+    }
+
+    /// That nothing was asked for but with permissions that came back, if each has come back.
+    pub(crate) fn audit_pool(&mut self, permissions: &mut PermissionPool<O>)
+        ensures same { (self.new ≡ self.old) × (permissions.new ≡ permissions.old) }
+        ensures whole { permissions.old.left ≡ O.parts →
+            permissions.old.asked ≡ length (asked_in self.new.history) }
+    {
+        self.requests.audit_pool(permissions);
     }
 
     /// One event of one who has seen some of the list and of the history, and has seen all of both before and after it.
@@ -324,10 +351,12 @@ impl<E: StoreEngine, O: Start> Locked<E, O> {
         event: Event,
     ) -> Result<Told, Refusal>
         requires no_fold { is_fold event ≡ false }
+        requires room { may_accept event ≡ true → HasMadeRoom O.start self.old.history }
         ensures seen { SeesMore mine.old mine.new }
         ensures whole { mine.new ≡ record {
           list = (E.state self.new.engine).machine.accepted;
           history = self.new.history;
+          asked = mine.new.asked;
         } }
         ensures told { IfOk result (λ t. Tells O.sole O.start O.trees O.number O.hives mine.old mine.new event t) }
         ensures step { IfOk result (λ t.
@@ -345,8 +374,18 @@ impl<E: StoreEngine, O: Start> Locked<E, O> {
         self.show(rt, &mut mine.seen);
         let told = self.hold(rt, event, &mut mine.permission);
         self.show(rt, &mut mine.seen);
+        mine.seen.note(&mine.permission); // for the prover
         let told = told?;
         Ok(told)
+    }
+
+    // that what was seen is a beginning of the history
+    pub(crate) fn has_seen<R: Wait>(&self, rt: &R, seen: &SeenEvents)
+        requires book { seen.now.book ≡ O.history }
+        ensures { IsPrefix seen.now.log self.now.history }
+    {
+        let mut all = seen.again();
+        self.events.show(rt, &mut all);
     }
 
     /// Tells the flusher to stop.
@@ -401,6 +440,7 @@ impl<E: StoreEngine, O: Start> Locked<E, O> {
     /// need is made here.
     ///
     /// Refused with `NoMemory`, or with `NoSeat` if the library denies a reader; the engine comes back then.
+    #[tactic(auto, using(crate::proofs::RoomMade::none_yet))]
     pub fn open<R: Wait>(
         alloc: Global,
         rt: &R,
@@ -492,12 +532,13 @@ impl<E: StoreEngine, O: Start> Locked<E, O> {
         Ok(told)
     }
 
-    /// A law: the engine is the registry's.
+    /// A law: the engine is the registry's, and what is durable was accepted.
     pub(crate) fn is_of_registry(&self)
-        ensures { IsOf O.trees O.number O.hives (E.state self.now.engine).machine }
+        ensures owner { IsOf O.trees O.number O.hives (E.state self.now.engine).machine }
+        ensures durable { (E.state self.now.engine).machine.durable
+            ≤ O.number + length (E.state self.now.engine).machine.accepted }
     {
-        // what the type keeps is known once a field is read
-        let _ = &self.alloc; // for the prover
+        self.engine.stays_within();
     }
 
     /// The engine and its whole history, without the lock. Each session that is open in it is ended, whoever has it, and
@@ -511,6 +552,7 @@ impl<E: StoreEngine, O: Start> Locked<E, O> {
         ensures book { result.1.book ≡ O.history }
         ensures leads { LeadsTo O.start O.safe O.faithful (E.safe result.0) (E.faithful result.0) result.1.log
             (E.state result.0) }
+        ensures room { MakesRoom O.start result.1.log }
     {
         let Locked {
             alloc: _,
@@ -601,6 +643,7 @@ fn end_sessions<E: StoreEngine, O: Start, R: Wait>(
     requires most { bound ≤ 2 ^ 32 }
     requires leads { LeadsTo O.start O.safe O.faithful (E.safe engine.old) (E.faithful engine.old) events.old.log
         (E.state engine.old) }
+    requires room { MakesRoom O.start events.old.log }
     ensures store { E.store engine.new ≡ E.store engine.old }
     ensures owner { IsOf O.trees O.number O.hives (E.state engine.new).machine }
     ensures sessions { (E.state engine.new).machine.sessions ≡ [] }
@@ -609,6 +652,7 @@ fn end_sessions<E: StoreEngine, O: Start, R: Wait>(
     ensures ends { (ends : List HistoryEntry) × EndSessions ends × (events.new.log ≡ events.old.log ++ ends) }
     ensures leads { LeadsTo O.start O.safe O.faithful (E.safe engine.new) (E.faithful engine.new) events.new.log
         (E.state engine.new) }
+    ensures room { MakesRoom O.start events.new.log }
 {
     openings_stay();
     others_accept_nothing();

@@ -11,7 +11,7 @@ use std::sync::Wait;
 use store_engine::StoreEngine;
 
 /// That the change of a number is durable, and with it each earlier one. It carries the list of changes and the history as
-/// they were then: a session that learns it has seen them.
+/// they were then, and for how many events its committer had asked: a session that learns it has seen them.
 pub struct Receipt<O: Start> {
     number: u64,
     seen: Sight<O>,
@@ -42,19 +42,16 @@ impl<O: Start> Model for Receipt<O> {
 }
 
 impl<O: Start> Receipt<O> {
-    /// A receipt of a number that is durable: its one maker.
-    pub fn of<E: StoreEngine>(locked: &Locked<E, O>, number: u64) -> Receipt<O>
+    /// A receipt of a number that is durable, for one who has seen all that is seen under the lock: its one maker.
+    pub fn of<E: StoreEngine>(locked: &Locked<E, O>, seen: Sight<O>, number: u64) -> Receipt<O>
         requires durable { number ≤ (E.state locked.now.engine).machine.durable }
-        ensures { result ≡ record {
-          number = number;
-          seen = record { list = (E.state locked.now.engine).machine.accepted; history = locked.now.history };
-        } }
+        requires list { seen.list ≡ (E.state locked.now.engine).machine.accepted }
+        requires history { seen.history ≡ locked.now.history }
+        ensures { result ≡ record { number = number; seen = seen } }
     {
+        locked.is_of_registry(); // for the prover
         locked.keeps_history(); // for the prover
-        Receipt {
-            number,
-            seen: locked.sight(),
-        }
+        Receipt { number, seen }
     }
 
     /// The number; 0 for a transaction without operations.

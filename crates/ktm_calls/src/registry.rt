@@ -1,13 +1,15 @@
 //! The registry: one lock, and what threads do with it. Each guard is let go by `MutexGuard::unlock`, on each path.
-ghost use Rattle.std.specs.Prelude.{◌≡◌, ◌⊎◌, ◌≤◌, ◌+◌, ◌++◌, ℕ, List, [], Some, slice_get, false, true, length, IfOk, IfErr};
+ghost use Rattle.std.specs.Prelude.{◌≡◌, ◌⊎◌, ◌≤◌, ◌+◌, ◌++◌, ℕ, List, [], Some, slice_get, false, true, length, IfOk, IfErr, IfSome};
 ghost use mathlib.Core.List.{IsPrefix};
 ghost use Rattle.published_trees.specs.declared.rule.TheConstants.{MOST_READERS};
 ghost use Rattle.refusals.specs.declared.refusal.Refusal.TheVariants.{NoMemory, NoSeat};
 ghost use Rattle.store_model.specs.Machine.{Machine};
-ghost use Rattle.store_model.specs.Steps.{is_fold};
+ghost use Rattle.store_model.specs.Steps.{is_fold, may_accept as accepts};
 ghost use Rattle.store_model.specs.declared.event.Event.TheVariants as event;
 ghost use Rattle.store_model.specs.declared.event.Reply.TheVariants as reply;
 ghost use Rattle.histories.specs.Asked.{EndSessions, asked_in};
+ghost use Rattle.ktm_calls.specs.Ends.{IsAllAsked};
+ghost use Rattle.ktm_calls.specs.Room.{HasMadeRoom, IsStuck, MakesRoom};
 ghost use Rattle.histories.specs.Histories.{IsHistory, LeadsTo, end_of};
 ghost use Rattle.histories.specs.Points.{HistoryEntry};
 ghost use Rattle.ktm_calls.specs.Waiting.{IsOfAll, IsUsed, IsUsedRoom, SteppedOrFailed, is_step_kind};
@@ -20,9 +22,10 @@ use crate::locked::{Locked, OpenResult, Told};
 use crate::receipt::{Receipt, Stopped};
 use crate::room::UsedRoom;
 use crate::session::{Session, SessionHandle};
+use crate::sight::Sight;
 use crate::waiting::{CheckpointResult, MemoryPolicy, TurnResult, WaitMode, WaitResult};
 use disk_model::Progress;
-use histories::{EventCount, Permission, RequestCount, SeenEvents, Start};
+use histories::{EventCount, Permission, PermissionPool, RequestCount, SeenEvents, Start};
 use published_trees::{ChangeCount, MOST_READERS, SeenChanges};
 use refusals::Refusal;
 use refusals::limits::MOST_JOURNAL_BYTES;
@@ -164,27 +167,21 @@ impl<E: StoreEngine, O: Start> Registry<E, O> {
         })
     }
 
-    /// Opens a session of a registry in which each may ask. Refused as its event: `Faulted`, or `NoSeat` if 32 are open.
-    pub fn session<R: Wait>(&self, rt: &R) -> Result<(Session<O>, Told), Denied>
-        requires shared { O.sole ≡ false }
-        ensures opened { IfOk result (λ made. (was : AnySight)
-            × IsOpened O.sole O.start O.trees O.number O.hives was made.0 made.1) }
-        ensures denied { IfErr result (λ why. (was is : AnySight)
-            × IsNotOpened O.sole O.start O.trees O.number O.hives was is why) }
+    /// One who asks with this permission, with which nothing was asked for, and has seen all that is seen now.
+    pub fn asker<R: Wait>(&self, rt: &R, permission: Permission<O>) -> Asker<O>
+        requires held { permission.held ≡ true }
+        requires unused { permission.asked ≡ 0 }
+        ensures { result.asked ≡ 0 }
     {
-        let mut guard = self.lock.lock(rt);
-        let mut asker = Asker::new((&*guard).sight(), Permission::shared());
-        let opened = (&mut *guard).start_session(rt, &mut asker);
+        let guard = self.lock.lock(rt);
+        let seen = (&*guard).sight();
         let _ = MutexGuard::unlock(guard);
-        match open_result(opened) {
-            Ok((handle, told)) => Ok((Session::new(handle, asker), told)),
-            Err(why) => Err(why),
-        }
+        Asker::new(seen, permission)
     }
 
-    /// Opens the first session of one who asks, after all that it has seen. If that is refused, it comes back; what it has
-    /// seen then ends with the event.
-    pub fn first_session<R: Wait>(
+    /// Opens a session in which this one asks, after all that it has seen. If that is refused, it comes back; what it has seen
+    /// then ends with the event. Refused as the event: `Faulted`, or `NoSeat` if 32 are open.
+    pub fn session<R: Wait>(
         &self,
         rt: &R,
         asker: Asker<O>,
@@ -224,17 +221,23 @@ impl<E: StoreEngine, O: Start> Registry<E, O> {
         open_result(opened)
     }
 
-    /// Ends a session, with all of its transactions. It is gone also if that is refused.
-    pub fn end_session<R: Wait>(&self, rt: &R, session: Session<O>) -> Result<Told, Denied>
-        ensures told { IfOk result (λ t. (is : AnySight)
-            × Tells O.sole O.start O.trees O.number O.hives session.seen is (event.EndSession session.number) t) }
-        ensures granted { IfOk result (λ t. ¬ (IsRefusal t.reply)) }
-        ensures denied { IfErr result (λ why. (is : AnySight)
-            × IsDenied O.sole O.start O.trees O.number O.hives session.seen is (event.EndSession session.number) why) }
+    /// Ends a session, with all of its transactions. It is gone also if that is refused; who asked in it comes back.
+    pub fn end_session<R: Wait>(
+        &self,
+        rt: &R,
+        session: Session<O>,
+    ) -> (Asker<O>, Result<Told, Denied>)
+        ensures seen { SeesMore session.seen result.0 }
+        ensures told { IfOk result.1 (λ t. Tells O.sole O.start O.trees O.number O.hives session.seen result.0
+            (event.EndSession session.number) t) }
+        ensures granted { IfOk result.1 (λ t. ¬ (IsRefusal t.reply)) }
+        ensures denied { IfErr result.1 (IsDenied O.sole O.start O.trees O.number O.hives session.seen result.0
+            (event.EndSession session.number)) }
     {
         let (handle, asker) = session.into_parts();
         let mut asker = asker;
-        self.end_by(rt, handle, &mut asker)
+        let answer = self.end_by(rt, handle, &mut asker);
+        (asker, answer)
     }
 
     /// Ends the session of a handle, with all of its transactions, while another session goes on in which the same one
@@ -302,13 +305,8 @@ impl<E: StoreEngine, O: Start> Registry<E, O> {
         )
     }
 
-    /// Ends the registry and each session, and hands the engine back. One history leads to it from the start: at each
-    /// moment of it, a crash leaves a prefix of the machine's changes of then. The change of each receipt is durable in it,
-    /// and what this one had seen begins the changes accepted, and the history. A sole asker has seen each event that was
-    /// asked for, but for the ends of the sessions that were still open.
-    ///
-    /// If all that was accepted is durable, `Event::Fold` folds the history then, and [`Registry::new`] may take the
-    /// engine again, as [`crate::laws`] says.
+    /// Ends the registry of one who asks, as [`Registry::end_shared`] does. A sole asker has seen each event that was asked
+    /// for, but for the ends of the sessions that were still open.
     pub fn end<R: Wait>(self, rt: &R, asker: Asker<O>, receipts: Vec<Receipt<O>>) -> Ended<E>
         ensures owner { IsOf O.trees O.number O.hives (E.state result.engine).machine }
         ensures closed { (E.state result.engine).machine.sessions ≡ [] }
@@ -321,6 +319,39 @@ impl<E: StoreEngine, O: Start> Registry<E, O> {
             × IsPrefix asker.history result.events.log }
         ensures asked { O.sole ≡ true → (ends : List HistoryEntry) × EndSessions ends
             × (asked_in result.events.log ≡ asked_in asker.history ++ ends) }
+        ensures room { MakesRoom O.start result.events.log }
+    {
+        asker.saw_what_it_asked(); // for the prover
+        let (seen, permission) = asker.into_parts();
+        self.end_shared(rt, seen, PermissionPool::of(permission), receipts)
+    }
+
+    /// Ends the registry and each session, and hands the engine back. One history leads to it from the start: at each
+    /// moment of it, a crash leaves a prefix of the machine's changes of then. The change of each receipt is durable in it,
+    /// and what was seen begins the changes accepted, and the history. If each permission has come back, nothing was asked
+    /// for but with them, beside the ends of the sessions that were still open. Before each event that may accept a change
+    /// room was made in the journal, unless no step could free any.
+    ///
+    /// If all that was accepted is durable, `Event::Fold` folds the history then, and [`Registry::new`] may take the
+    /// engine again, as [`crate::laws`] says.
+    pub fn end_shared<R: Wait>(
+        self,
+        rt: &R,
+        seen: Sight<O>,
+        permissions: PermissionPool<O>,
+        receipts: Vec<Receipt<O>>,
+    ) -> Ended<E>
+        ensures owner { IsOf O.trees O.number O.hives (E.state result.engine).machine }
+        ensures closed { (E.state result.engine).machine.sessions ≡ [] }
+        ensures durable { result.durable ≡ (E.state result.engine).machine.durable }
+        ensures store { E.store result.engine ≡ O.store }
+        ensures history { LeadsTo O.start O.safe O.faithful (E.safe result.engine) (E.faithful result.engine)
+            result.events.log (E.state result.engine) }
+        ensures receipts { (i : ℕ) (r : NumberedSight) → slice_get receipts.items i ≡ Some r → r.number ≤ result.durable }
+        ensures seen { IsPrefix seen.list (E.state result.engine).machine.accepted
+            × IsPrefix seen.history result.events.log }
+        ensures asked { permissions.left ≡ O.parts → IsAllAsked seen.history permissions.asked result.events.log }
+        ensures room { MakesRoom O.start result.events.log }
     {
         let Registry {
             lock,
@@ -330,9 +361,9 @@ impl<E: StoreEngine, O: Start> Registry<E, O> {
             last_batch: _,
         } = self;
         let mut locked = lock.into_inner();
-        let mut last = asker.seen.again();
-        let mut asker = asker;
-        locked.audit(&mut asker.permission); // for the prover
+        let mut permissions = permissions;
+        locked.audit_pool(&mut permissions); // for the prover
+        let mut last = seen;
         locked.show(rt, &mut last); // for the prover
         let (engine, events) = locked.close(rt);
         are_durable(rt, &events, &receipts); // for the prover
@@ -372,37 +403,49 @@ impl<E: StoreEngine, O: Start> Registry<E, O> {
     // the lock, for an event. One that may accept a change gets it while less than half of the journal's room is used, and
     // room is made until then: else those that write without a pause would never let a trim come, and be refused at last.
     // If no room can be made, the event tells why
-    fn lock_for<'a, R: Wait>(&'a self, rt: &R, event: &Event) -> MutexGuard<'a, Locked<E, O>> {
-        let mut may_wait = may_accept(event);
+    fn lock_for<'a, R: Wait>(&'a self, rt: &R, event: &Event) -> MutexGuard<'a, Locked<E, O>>
+        ensures room { accepts event.now ≡ true → HasMadeRoom O.start result.value.history }
+    {
+        let mut tried = None;
         for _ in rt.forever() {
             let guard = self.lock.lock(rt);
-            if !may_wait || (&*guard).engine().room() < BUSY_ROOM {
+            (&*guard).keeps_history(); // for the prover
+            if !may_accept(event) || (&*guard).engine().room() < BUSY_ROOM {
+                return guard;
+            }
+            if let Some(tried) = &tried {
+                (&*guard).has_seen(rt, tried); // for the prover
                 return guard;
             }
             let _ = MutexGuard::unlock(guard);
             // others may have filled the room again when the lock is taken
-            may_wait = self.make_room(rt);
+            tried = self.make_room(rt);
         }
         unreachable!()
     }
 
-    // makes the flusher's steps, one a hold, until less than half of the journal's room is used. False if there was nothing
-    // to do before, or a step was refused
-    fn make_room<R: Wait>(&self, rt: &R) -> bool {
+    // makes the flusher's steps, one a hold, until less than half of the journal's room is used. If there was nothing to do
+    // before, or a step was refused, the history as it was then
+    fn make_room<R: Wait>(&self, rt: &R) -> Option<SeenEvents>
+        ensures stuck { IfSome result (λ tried. (tried.book ≡ O.history) × IsStuck O.start tried.log) }
+    {
         for _ in rt.forever() {
             let mut guard = self.lock.lock(rt);
             if (&*guard).engine().room() < BUSY_ROOM {
                 let _ = MutexGuard::unlock(guard);
-                return true;
+                return None;
             }
             let answer = (&mut *guard).turn(rt);
+            let tried = (&*guard).events();
             let _ = MutexGuard::unlock(guard);
             let TurnResult::Step(told) = answer else {
-                return false;
+                return Some(tried);
             };
-            if self.stepped(told).is_err() {
-                return false;
+            if told.refusal().is_some() {
+                self.durable.notify_all();
+                return Some(tried);
             }
+            let _ = self.stepped(told);
         }
         unreachable!()
     }

@@ -191,6 +191,7 @@ impl<O: Start> Session<O> {
     pub fn learn(&mut self, receipt: &Receipt<O>)
         ensures own { SeesMore self.old.seen self.new.seen }
         ensures learnt { SeesMore receipt.now.seen self.new.seen }
+        ensures asked { self.new.seen.asked ≡ self.old.seen.asked }
         ensures number { self.new.number ≡ self.old.number }
     {
         self.asker.learn(receipt.sight());
@@ -201,6 +202,7 @@ impl<O: Start> Session<O> {
     pub fn look_up(&mut self, key: &Key, question: Question) -> Result<ReadResult, Refusal>
         ensures later { IsPrefix self.old.seen.list self.new.seen.list }
         ensures history { self.new.seen.history ≡ self.old.seen.history }
+        ensures asked { self.new.seen.asked ≡ self.old.seen.asked }
         ensures number { self.new.number ≡ self.old.number }
         ensures found { IfOk result (λ found. read_within O.hives (after_elements O.trees self.new.seen.list)
             key.now.hive key.now.path question ≡ Some found) }
@@ -236,6 +238,7 @@ impl<O: Start> Session<O> {
     pub fn get_value(&mut self, key: &Key, name: ValueName) -> Result<Value, Refusal>
         ensures later { IsPrefix self.old.seen.list self.new.seen.list }
         ensures history { self.new.seen.history ≡ self.old.seen.history }
+        ensures asked { self.new.seen.asked ≡ self.old.seen.asked }
         ensures number { self.new.number ≡ self.old.number }
         ensures found { IfOk result (λ value. read_within O.hives (after_elements O.trees self.new.seen.list)
             key.now.hive key.now.path (question.ValueOf name) ≡ Some (found.Value value)) }
@@ -253,6 +256,7 @@ impl<O: Start> Session<O> {
     pub fn enum_value(&mut self, key: &Key, index: usize) -> Result<Value, Refusal>
         ensures later { IsPrefix self.old.seen.list self.new.seen.list }
         ensures history { self.new.seen.history ≡ self.old.seen.history }
+        ensures asked { self.new.seen.asked ≡ self.old.seen.asked }
         ensures number { self.new.number ≡ self.old.number }
         ensures found { IfOk result (λ value. read_within O.hives (after_elements O.trees self.new.seen.list)
             key.now.hive key.now.path (question.ValueAt index) ≡ Some (found.Value value)) }
@@ -270,6 +274,7 @@ impl<O: Start> Session<O> {
     pub fn enum_key(&mut self, key: &Key, index: usize) -> Result<Name, Refusal>
         ensures later { IsPrefix self.old.seen.list self.new.seen.list }
         ensures history { self.new.seen.history ≡ self.old.seen.history }
+        ensures asked { self.new.seen.asked ≡ self.old.seen.asked }
         ensures number { self.new.number ≡ self.old.number }
         ensures found { IfOk result (λ name. read_within O.hives (after_elements O.trees self.new.seen.list)
             key.now.hive key.now.path (question.KeyAt index) ≡ Some (found.Key name)) }
@@ -287,6 +292,7 @@ impl<O: Start> Session<O> {
     pub fn query_info(&mut self, key: &Key) -> Result<Info, Refusal>
         ensures later { IsPrefix self.old.seen.list self.new.seen.list }
         ensures history { self.new.seen.history ≡ self.old.seen.history }
+        ensures asked { self.new.seen.asked ≡ self.old.seen.asked }
         ensures number { self.new.number ≡ self.old.number }
         ensures found { IfOk result (λ info. read_within O.hives (after_elements O.trees self.new.seen.list)
             key.now.hive key.now.path question.InfoOf ≡ Some (found.Counts info)) }
@@ -308,6 +314,7 @@ impl<O: Start> Session<O> {
     pub fn outcome_of(&mut self, unit: &Uuid) -> Result<u64, Refusal>
         ensures later { IsPrefix self.old.seen.list self.new.seen.list }
         ensures history { self.new.seen.history ≡ self.old.seen.history }
+        ensures asked { self.new.seen.asked ≡ self.old.seen.asked }
         ensures number { self.new.number ≡ self.old.number }
         ensures found { IfOk result (λ number. HasOutcome O.hives
             (after_elements O.trees self.new.seen.list) unit.now number) }

@@ -3,15 +3,17 @@ ghost use Rattle.std.specs.Prelude.{◌≡◌};
 ghost use mathlib.Core.List.{IsPrefix};
 ghost use Rattle.ktm_calls.specs.Moments.{SeesMore};
 
-use histories::{SeenEvents, Start};
+use histories::{Permission, SeenEvents, Start};
 use published_trees::SeenChanges;
-use std::marker::{Model, PhantomData};
+use std::marker::Model;
+use std::snapshot::Snapshot;
 
-/// What a session has seen, or a receipt carries.
+/// What one has seen who asks for events, or a receipt carries; and for how many events it had asked by then.
 pub struct Sight<O: Start> {
     pub(crate) changes: SeenChanges,
     pub(crate) events: SeenEvents,
-    of: PhantomData<O>,
+    // with what it had asked; it has no bytes
+    by: Snapshot<Permission<O>>,
 }
 
 impl<O: Start> Drop for Sight<O> {
@@ -20,7 +22,7 @@ impl<O: Start> Drop for Sight<O> {
         let Sight {
             changes: _,
             events: _,
-            of: _,
+            by: _,
         } = self;
     }
 }
@@ -33,7 +35,7 @@ impl<O: Start> Model for Sight<O> {
 
     ghost coded = { sight_code };
 
-    ghost view = { λ s. record { list = s.changes.list; history = s.events.log } };
+    ghost view = { λ s. record { list = s.changes.list; history = s.events.log; asked = s.by.value.asked } };
 
     ghost invariant = { λ s. record {
       changes : s.changes.book ≡ O.book;
@@ -42,28 +44,35 @@ impl<O: Start> Model for Sight<O> {
 }
 
 impl<O: Start> Sight<O> {
-    /// What was seen, of both.
+    /// What was seen, of both, by one who has asked for nothing.
     pub fn new(changes: SeenChanges, events: SeenEvents) -> Sight<O>
         requires changes { changes.book ≡ O.book }
         requires events { events.book ≡ O.history }
-        ensures { result ≡ record { list = changes.list; history = events.log } }
+        ensures { result ≡ record { list = changes.list; history = events.log; asked = 0 } }
     {
         Sight {
             changes,
             events,
-            of: PhantomData,
+            by: Snapshot::of(&Permission::none()),
         }
     }
 
-    /// A copy.
-    pub fn again(&self) -> Sight<O>
-        ensures { result ≡ self.now }
+    /// The same, of one who has asked with this permission.
+    pub(crate) fn again_by(&self, permission: &Permission<O>) -> Sight<O>
+        ensures { result ≡ record self.now { asked = permission.now.asked } }
     {
         Sight {
             changes: self.changes.again(),
             events: self.events.again(),
-            of: PhantomData,
+            by: Snapshot::of(permission),
         }
+    }
+
+    /// It has asked with this permission by now.
+    pub(crate) fn note(&mut self, permission: &Permission<O>)
+        ensures { self.new ≡ record self.old { asked = permission.now.asked } }
+    {
+        self.by = Snapshot::of(permission);
     }
 
     /// What was seen of the history.
@@ -77,6 +86,7 @@ impl<O: Start> Sight<O> {
     pub fn learn(&mut self, other: &Sight<O>)
         ensures this { SeesMore self.old self.new }
         ensures that { SeesMore other.now self.new }
+        ensures asked { self.new.asked ≡ self.old.asked }
     {
         self.changes.learn(&other.changes);
         self.events.learn(&other.events);

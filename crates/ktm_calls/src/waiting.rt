@@ -2,8 +2,11 @@
 //!
 //! One of those who wait makes the steps of the journal for all, one a hold; the others sleep meanwhile. What is
 //! accepted during a batch is the next batch. Nobody depends on the flusher.
-ghost use Rattle.std.specs.Prelude.{◌≡◌, ◌+◌, ◌≤◌, ℕ, true, length, IfNone, IfOk, IfSome};
+ghost use Rattle.std.specs.Prelude.{◌≡◌, ◌+◌, ◌≤◌, ℕ, true, length, IfNone, IfOk, IfSome, OnErr};
+ghost use Rattle.refusals.specs.declared.refusal.Refusal.{Refusal as AnyRefusal};
+ghost use Rattle.store_model.specs.declared.event.Reply.TheVariants.{Refused};
 ghost use Rattle.ktm_calls.specs.Moments.{SeesSteps, Sight as AnySight};
+ghost use Rattle.ktm_calls.specs.Room.{EndsRefused, MayBeStuck};
 ghost use Rattle.ktm_calls.specs.Waiting.{EndsCheckpoint, EndsWait, HasNoWork, IsOfAll, IsTurn, IsWork, SteppedOrFailed, is_step_kind};
 
 use crate::asker::Asker;
@@ -127,7 +130,7 @@ impl<E: StoreEngine, O: Start> Locked<E, O> {
         };
         match told.reply() {
             Reply::Receipt { number: durable } => {
-                let receipt = Receipt::of(self, *durable);
+                let receipt = Receipt::of(self, mine.sight_again(), *durable);
                 if leads {
                     self.leave_lead();
                 }
@@ -226,8 +229,10 @@ impl<E: StoreEngine, O: Start> Locked<E, O> {
     /// One hold of the flusher: one event, or none if there is nothing to do.
     pub(crate) fn turn<R: Wait>(&mut self, rt: &R) -> TurnResult
         ensures turns { IsTurn O.history O.start (E.state self.new.engine) result }
+        ensures stuck { MayBeStuck O.start self.new.history result }
         ensures call { (E.state self.new.engine).clock ≤ (E.state self.old.engine).clock + 1 }
     {
+        self.keeps_history(); // for the prover
         let Some(event) = self.next_work() else {
             if self.is_stopped() {
                 return TurnResult::Stopped(Stopped::of(self));
@@ -258,6 +263,8 @@ impl<E: StoreEngine, O: Start> Locked<E, O> {
     fn step<R: Wait>(&mut self, rt: &R, event: Event) -> Result<Told, Refusal>
         requires work { IsWork (E.state self.old.engine).machine event }
         ensures made { IfOk result (λ t. (is_step_kind t.kind ≡ true) × SteppedOrFailed t.reply) }
+        ensures refused { IfOk result (λ t. (why : AnyRefusal) → t.reply ≡ Refused why → EndsRefused self.new.history) }
+        ensures lacked { OnErr result (EndsRefused self.new.history) }
         ensures call { (E.state self.new.engine).clock ≤ (E.state self.old.engine).clock + 1 }
     {
         let told = self.hold(rt, event, &mut Permission::none())?;
@@ -272,6 +279,6 @@ impl<E: StoreEngine, O: Start> Locked<E, O> {
     {
         self.is_of_registry();
         self.keeps_history(); // for the prover
-        Receipt::of(self, self.durable())
+        Receipt::of(self, self.sight(), self.durable())
     }
 }

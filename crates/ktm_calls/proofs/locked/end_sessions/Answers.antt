@@ -3,6 +3,7 @@ use Rattle.std.specs.List.{All}
 use Rattle.store_model.specs.declared.event.Event.TheVariants as event
 use Rattle.histories.specs.Points.{entry_of}
 use Rattle.ktm_calls.proofs.Ends.{one_more_end}
+use Rattle.ktm_calls.proofs.RoomMade.{goes_on_calm}
 use Rattle.ktm_calls.proofs.OpenSessions.{ended, fewer, none_left, still_below, still_of}
 use Rattle.ktm_calls.proofs.locked.end_sessions.Goals as goal
 
@@ -22,6 +23,7 @@ loop-number-preserved g c =
       book = c.put_event.ensures.book ∙ was.book;
       ends = one_more_end c.args.events.now.log c.loop-number.events.log c.put_event.new.events.log (entry_of ends reply (g.E.StoreEngine.state c.put_event.new.engine)) tt c.put_event.ensures.added was.ends;
       leads = c.put_event.ensures.leads;
+      room = goes_on_calm g.O.Start.start c.loop-number.events.log c.put_event.new.events.log (entry_of ends reply (g.E.StoreEngine.state c.put_event.new.engine)) c.put_event.ensures.added was.room refl;
       from = subst (λ (l : List ℕ). All (λ s. c.loop-number.number + 1 ≤ s) l) (sym (ended old new c.loop-number.number reply step)) (fewer c.loop-number.number old.sessions was.from);
     }
 

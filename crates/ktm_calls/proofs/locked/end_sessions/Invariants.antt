@@ -4,6 +4,7 @@ use Rattle.histories.specs.Asked.{EndSessions}
 use Rattle.histories.specs.Points.{HistoryEntry}
 use Rattle.ktm_calls.specs.Moments.{IsOf}
 use Rattle.ktm_calls.specs.OpenSessions.{AreBelow}
+use Rattle.ktm_calls.specs.Room.{MakesRoom}
 use Rattle.ktm_calls.proofs.OpenSessions.{AreFrom}
 use Rattle.ktm_calls.proofs.locked.end_sessions.Given as goal
 
@@ -17,4 +18,5 @@ invariant-loop-number g l = record {
   book : l.events.book ≡ l.fn.events.book;
   ends : (ends : List HistoryEntry) × EndSessions ends × (l.events.log ≡ l.fn.events.log ++ ends);
   leads : LeadsTo g.O.Start.start g.O.Start.safe g.O.Start.faithful (g.E.StoreEngine.safe l.engine) (g.E.StoreEngine.faithful l.engine) l.events.log (g.E.StoreEngine.state l.engine);
+  room : MakesRoom g.O.Start.start l.events.log;
 }
