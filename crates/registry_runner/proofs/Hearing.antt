@@ -55,7 +55,7 @@ module _ (sole : Bool) (origin : EngineView) (trees : List TreeMap) (number hive
       inr (id, told.reply, t.stands.after, ap asked_in t.stands.there ∙ (asked_one t.stands.past x refl ∙ ap (λ (w : List HistoryEntry). w ++ x ∷ []) (t.alone so)))
 
   denied_probes : (why : Denied) → IsDenied sole origin trees number hives was is (Begin MOST_READERS id) why → MayProbe sole was is
-  denied_probes denied.NoMemory d so = elim (d so) [ inl none ↦ inl none | inr one ↦ inr (id, answer.Refused NoMemory, one.0, one.1) ]
+  denied_probes denied.NoMemory d so = elim (d.alone so) [ inl none ↦ inl none | inr one ↦ inr (id, answer.Refused NoMemory, one.0, one.1) ]
   denied_probes (denied.Told told) d so = told_probes told d.0 so
 
   pub probes : (r : Result Told Denied) → IfOk r (λ t. Tells sole origin trees number hives was is (Begin MOST_READERS id) t) → IfErr r (IsDenied sole origin trees number hives was is (Begin MOST_READERS id)) → MayProbe sole was is
@@ -104,8 +104,8 @@ pub same_history : {A : Type 0} {old new : List A} → new ≡ old → IsPrefix 
 same_history {old = old} same = ([], append-nil old ∙ sym same)
 
 -- a session rests whose history was seen no further
-pub rests : (sole : Bool) (old new : NumberedSight) → new.number ≡ old.number → IsPrefix old.seen.list new.seen.list → new.seen.history ≡ old.seen.history → Rests sole old new
-rests sole old new number list history = record { number = number; seen = record { more = record { list = list; history = same_history history }; alone = λ so. ap asked_in history } }
+pub rests : (sole : Bool) (old new : NumberedSight) → new.number ≡ old.number → IsPrefix old.seen.list new.seen.list → new.seen.history ≡ old.seen.history → new.seen.asked ≡ old.seen.asked → Rests sole old new
+rests sole old new number list history asked = record { number = number; seen = record { more = record { list = list; history = same_history history }; same = asked; alone = λ so. ap asked_in history } }
 
 -- what an answer says if it is one
 pub on_ok : {A E : Type 0} (r : Result A E) (P Q : Type 0) → (P → Q) → OnOk r P → OnOk r Q

@@ -44,9 +44,10 @@ pub record IsBegun (sole : Bool) (origin : EngineView) (trees : List TreeMap) (n
   pub moment : script.moment ≡ current
   pub labels : (label : List ℕ) → script.labels label ≡ None
 
--- all that there is to see of a registry after this history: the changes that were accepted in it, and the history
+-- all that there is to see of a registry after this history: the changes that were accepted in it, and the history; and
+-- how many events were asked for in it
 abbrev pub sight_of : EngineView → List HistoryEntry → Sight
-sight_of start history = record { list = (end_of start history).machine.accepted; history = history }
+sight_of start history = record { list = (end_of start history).machine.accepted; history = history; asked = length (asked_in history) }
 
 -- What was seen begins all that there is to see of a registry. If there is a sole asker, all that was asked for was seen,
 -- but for the ends of sessions that were still open.

@@ -95,7 +95,7 @@ impl<'a, E: StoreEngine, O: Start, R: Wait> Caller<'a, E, O, R> {
         ensures refused { IfErr result (λ why.
             MayNotEnter O.sole O.start O.trees O.number O.hives asker why.1 why.0) }
     {
-        match self.registry.first_session(self.rt, asker) {
+        match self.registry.session(self.rt, asker) {
             Ok((session, _told)) => Ok(session),
             Err((denied, asker)) => Err((refusal_of(denied), asker)),
         }

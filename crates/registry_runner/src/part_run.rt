@@ -1,5 +1,5 @@
 //! One part of a run: a script's lines over a registry, beside a flusher.
-ghost use Rattle.std.specs.Prelude.{◌≡◌, ◌<◌, ℕ, List, [], Ok, IfErr, IfOk};
+ghost use Rattle.std.specs.Prelude.{◌≡◌, ◌<◌, ℕ, List, [], Ok, true, IfErr, IfOk};
 ghost use Rattle.std.specs.Io.KnownBytes.{Appends};
 ghost use Rattle.store_model.specs.Machine.{Machine};
 ghost use Rattle.histories.specs.Histories.{HasLedWith};
@@ -63,6 +63,7 @@ pub fn run_part<
         × ((E.state engine).machine.accepted ≡ []) × ((E.state engine).machine.sessions ≡ []) }
     requires number { start.number ≡ O.number }
     requires blank { (blank.name ≡ O.name) × (blank.parts ≡ O.parts) × (0 < blank.parts) }
+    requires sole { O.sole ≡ true }
     ensures store { E.store result.0 ≡ O.store }
     ensures owner { IsOf O.trees O.number O.hives (E.state result.0).machine }
     ensures sessions { (E.state result.0).machine.sessions ≡ [] }

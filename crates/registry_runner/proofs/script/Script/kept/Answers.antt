@@ -4,10 +4,10 @@ use Rattle.registry_runner.proofs.Hearing.{hears_denied, rests}
 use Rattle.registry_runner.proofs.script.Script.kept.Goals as goal
 
 pub returns-in-Ok : goal.returns-in-Ok
-returns-in-Ok g c = inl ((rests g.O.Start.sole c.args.self.now.session c.outcome_of.new.self c.outcome_of.ensures.number c.outcome_of.ensures.later c.outcome_of.ensures.history, inl (c.in-Ok.number, c.in-Ok.ensures.found, refl)), refl)
+returns-in-Ok g c = inl ((rests g.O.Start.sole c.args.self.now.session c.outcome_of.new.self c.outcome_of.ensures.number c.outcome_of.ensures.later c.outcome_of.ensures.history c.outcome_of.ensures.asked, inl (c.in-Ok.number, c.in-Ok.ensures.found, refl)), refl)
 
 pub returns-in-Err : goal.returns-in-Err
-returns-in-Err g c = inl ((rests g.O.Start.sole c.args.self.now.session c.outcome_of.new.self c.outcome_of.ensures.number c.outcome_of.ensures.later c.outcome_of.ensures.history, inr (c.in-Err.refusal, c.in-Err.ensures.refused, refl)), refl)
+returns-in-Err g c = inl ((rests g.O.Start.sole c.args.self.now.session c.outcome_of.new.self c.outcome_of.ensures.number c.outcome_of.ensures.later c.outcome_of.ensures.history c.outcome_of.ensures.asked, inr (c.in-Err.refusal, c.in-Err.ensures.refused, refl)), refl)
 
 pub returns-in-Err-outcome_of : goal.returns-in-Err-outcome_of
 returns-in-Err-outcome_of g c =
