@@ -1,5 +1,5 @@
 -- What is left of a store that was shared.
-use Rattle.std.specs.Prelude.{◌≡◌, ◌⊎◌, ℕ, List, [], length, Some, None}
+use Rattle.std.specs.Prelude.{◌≡◌, ◌⊎◌, ℕ, Bool, false, List, [], length, None}
 use Rattle.std.specs.List.{All}
 use mathlib.Core.List.{IsPrefix}
 use Rattle.refusals.specs.declared.refusal.Refusal.{Refusal}
@@ -10,29 +10,30 @@ use Rattle.engine_invariant.specs.Engines.{EngineView}
 use Rattle.histories.specs.Histories.{end_of}
 use Rattle.histories.specs.Leaving.{LeavesHistory}
 use Rattle.histories.specs.Points.{HistoryEntry}
-use Rattle.ktm_calls.specs.Moments.{IsOf}
+use Rattle.reg_tree.specs.Maps.{TreeMap}
+use Rattle.ktm_calls.specs.Ends.{IsAllAsked}
+use Rattle.ktm_calls.specs.Moments.{IsOf, Sight}
 use Rattle.ktm_calls.specs.Waiting.{HasNoWork}
 use Rattle.store_driver.specs.Openings.{IsOpenedOn, MayNotOpen}
-use Rattle.shared_store.specs.declared.account.Account.{Account}
+use Rattle.shared_store.specs.Accounts.{AskTogether}
 use Rattle.shared_store.specs.declared.service.Served.{Served}
 
--- a thread has reported, and what it reported is so of what it had seen of a history that began here
-abbrev pub HasReported : {T : Type 0} → (EngineView → List HistoryEntry → T → Type 0) → EngineView → Account T → Type 0
-HasReported {T = T} tells begun account = (report : T) × (account.report ≡ Some report) × tells begun account.seen.log report
-
--- What is told of a service whose history began here and led there: the number up to which all is durable; a report of
--- each thread, which is so in a beginning of the history; and if nothing was left undone, then no step of the flusher had
--- anything to do at some moment of it.
-pub record TellsOf {T : Type 0} (tells : EngineView → List HistoryEntry → T → Type 0) (begun : EngineView) (history : List HistoryEntry) (last : EngineView) (threads : ℕ) (served : Served T) : Type 0 where
+-- What is told of a service whose history began here and led there: the number up to which all is durable; an account of
+-- each thread, by what it had seen of the history; and if nothing was left undone, then no step of the flusher had anything
+-- to do at some moment of it. The threads asked for all that was asked for, beside the ends of the sessions that were still
+-- open at the close.
+pub record TellsOf {T : Type 0} (tells : EngineView → Sight → Sight → T → Type 0) (sole : Bool) (begun : EngineView) (trees : List TreeMap) (number hives : ℕ) (history : List HistoryEntry) (last : EngineView) (threads : ℕ) (served : Served T) : Type 0 where
   pub durable : served.durable ≡ last.machine.durable
   pub count : length served.accounts.items ≡ threads
-  pub reports : All (HasReported tells begun) served.accounts.items
+  pub asked : ℕ
+  pub together : AskTogether tells sole begun trees number hives served.accounts.items asked
+  pub all : IsAllAsked [] asked history
   pub within : All (λ account. IsPrefix account.seen.log history) served.accounts.items
   pub done : served.undone ≡ None → (past : List HistoryEntry) × IsPrefix past history × HasNoWork (end_of begun past)
 
 -- A store was opened on these files, and its registry was shared. One history leads from there to the engine as it was
 -- last, and to the disk that is handed back. What is told is so of it.
-pub record KeepsStore {D T : Type 0} (is_faithful : D → Type 0) (states_of : D → ℕ → ℕ → FileState) (clock_of failures_of : D → ℕ) (tells : EngineView → List HistoryEntry → T → Type 0) (files : ℕ → List ℕ) (disk : D) (threads : ℕ) (served : Served T) : Type 0 where
+pub record KeepsStore {D T : Type 0} (is_faithful : D → Type 0) (states_of : D → ℕ → ℕ → FileState) (clock_of failures_of : D → ℕ) (tells : EngineView → Sight → Sight → T → Type 0) (files : ℕ → List ℕ) (disk : D) (threads : ℕ) (served : Served T) : Type 0 where
   pub first : D
   pub store : Store
   pub begun : EngineView
@@ -41,7 +42,7 @@ pub record KeepsStore {D T : Type 0} (is_faithful : D → Type 0) (states_of : D
   pub last : EngineView
   pub owner : IsOf begun.machine.opened begun.machine.before begun.machine.bounds.hives last.machine
   pub left : LeavesHistory is_faithful states_of clock_of failures_of store first begun disk history last
-  pub told : TellsOf tells begun history last threads served
+  pub told : TellsOf tells false begun begun.machine.opened begun.machine.before begun.machine.bounds.hives history last threads served
 
 -- why a store can't be shared: it can't be opened, or the library of readers denies one
 abbrev pub MayNotServe : Type 0 → Type 0 → (ℕ → List ℕ) → Refusal → Type 0

@@ -1,37 +1,18 @@
-//! What a client's thread leaves: a report, and the history that it saw.
-ghost use Rattle.std.specs.Prelude.{◌≡◌, IfOk, length};
+//! What the threads of a client leave: their reports, and the history that they saw.
+ghost use Rattle.std.specs.Prelude.{◌≡◌};
 ghost use Rattle.std.specs.List.{All};
 ghost use mathlib.Core.List.{IsPrefix};
 
 use histories::SeenEvents;
-use std::alloc::{AllocError, Global};
+use refusals::Refusal;
 
-/// What a thread of a client reported at its end, and what it had seen then of the store's history.
+/// What a thread of a client did, and what it had seen at its end of the store's history.
 #[derive(Drop)]
 pub struct Account<T: Drop> {
     /// What was seen: a beginning of the history. It has no bytes.
     pub seen: SeenEvents,
-    /// What was reported. [`serve`](crate::serve) leaves none of them out.
-    pub report: Option<T>,
-}
-
-/// An account for each of so many threads, which have seen and reported nothing yet.
-pub fn new_accounts<T: Drop>(
-    alloc: Global,
-    events: &SeenEvents,
-    threads: usize,
-) -> Result<Vec<Account<T>>, AllocError>
-    ensures count { IfOk result (λ made. length made.items ≡ threads) }
-    ensures book { IfOk result (λ made. All (λ account. account.seen.book ≡ events.now.book) made.items) }
-{
-    let mut accounts = Vec::with_capacity(alloc, threads)?;
-    for _ in 0..threads {
-        accounts.push(Account {
-            seen: events.again(),
-            report: None,
-        })?;
-    }
-    Ok(accounts)
+    /// What was reported. Or why no session could be opened for the thread, which did nothing then.
+    pub report: Result<T, Refusal>,
 }
 
 /// All that the threads of these accounts had seen, after what was seen before.

@@ -7,6 +7,7 @@
 
 mod account;
 mod client;
+mod seat;
 mod service;
 mod workers;
 

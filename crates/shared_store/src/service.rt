@@ -1,5 +1,5 @@
 //! The service of a store to the threads of a client.
-ghost use Rattle.std.specs.Prelude.{◌≡◌, ◌⊎◌, ◌<◌, ℕ, [], None, false, length, IfOk, IfErr, IsOk};
+ghost use Rattle.std.specs.Prelude.{◌≡◌, ◌⊎◌, ◌<◌, ℕ, [], None, Some, false, length, IfOk, IfErr, IsOk};
 ghost use Rattle.std.specs.List.{All};
 ghost use mathlib.Core.List.{IsPrefix};
 ghost use denote.Param.Send.{IsSend, IsSync};
@@ -8,16 +8,18 @@ ghost use Rattle.recovery.specs.Recovered.{seen_in};
 ghost use Rattle.store_model.specs.Machine.{Machine};
 ghost use Rattle.store_driver.specs.Openings.{LeavesLife};
 ghost use Rattle.histories.specs.Histories.{HasLedWith};
-ghost use Rattle.ktm_calls.specs.Moments.{IsOf};
+ghost use Rattle.ktm_calls.specs.Moments.{IsOf, no_sight};
 ghost use Rattle.ktm_calls.specs.Waiting.{IsDone, IsFailedStep};
-ghost use Rattle.shared_store.specs.Serving.{HasReported, KeepsStore, MayNotServe, TellsOf};
+ghost use Rattle.shared_store.specs.Accounts.{HasFinished};
+ghost use Rattle.shared_store.specs.Serving.{KeepsStore, MayNotServe, TellsOf};
 
-use crate::account::{Account, new_accounts, seen_by_all};
+use crate::account::{Account, seen_by_all};
 use crate::client::Client;
+use crate::seat::{Seat, new_seats, settle};
 use disk_model::Disk;
 use flusher::run_beside_from;
-use histories::{EventCount, Permission, RequestCount, SeenEvents, Start};
-use ktm_calls::{Asker, Ended, Registry, Sight, Stopped, Told};
+use histories::{EventCount, PermissionPool, RequestCount, SeenEvents, Start};
+use ktm_calls::{Ended, Registry, Sight, Stopped, Told};
 use published_trees::{ChangeCount, SeenChanges};
 use refusals::Refusal;
 use std::alloc::Global;
@@ -38,16 +40,18 @@ pub struct Served<T: Drop> {
     pub durable: u64,
     /// Why the flusher ended before all was in the hives, if it did: the device failed.
     pub undone: Option<Refusal>,
-    /// What each thread reported.
+    /// What each thread did, in the order of their indexes.
     pub accounts: Vec<Account<T>>,
 }
 
 /// Opens the store that is on a disk, and runs a client of its registry on so many threads, with a flusher on one more.
-/// When all have ended, all that was accepted is made durable and moved into the hives. The disk is handed back. One
-/// history leads from the opening to the end: at each of its moments, whatever a crash leaves recovers a beginning of what
-/// was accepted by then. Each thread's report is so in a beginning of it.
+/// Each thread has a session of its own, which is ended with it. When all have ended, all that was accepted is made durable
+/// and moved into the hives. The disk is handed back. One history leads from the opening to the end: at each of its moments,
+/// whatever a crash leaves recovers a beginning of what was accepted by then. Each thread's report is so in a beginning of
+/// it. Nobody but the threads asked for an event of it, but for the ends of sessions that a client left open.
 ///
-/// What no thread can be made for runs on the caller's.
+/// What no thread can be made for runs on the caller's. No more than 32 sessions are open at once: a thread that gets none
+/// does nothing, and its account has the refusal.
 ///
 /// Refused if the store isn't opened, and with `NoMemory` or `NoSeat` if there can be no registry; the client doesn't
 /// run then.
@@ -74,7 +78,7 @@ pub fn serve<D: Disk + Send, C: Client<R, T> + Sync, T: Send + Drop, R: Threads 
         rt,
         alloc,
         engine,
-        Blank::new(1),
+        Blank::new(threads as u64),
         EventCount::open(),
         count,
         seen,
@@ -116,6 +120,7 @@ fn serve_over<
 ) -> (E, Result<Served<T>, Refusal>)
     requires shared { O.sole ≡ false }
     requires blank { (blank.name ≡ O.name) × (blank.parts ≡ O.parts) }
+    requires parts { blank.parts ≡ sharing.threads }
     requires book { (count ≡ O.book) × (seen ≡ record { book = O.book; list = [] }) }
     requires events { events ≡ record { book = O.history; log = [] } }
     requires store { E.store engine ≡ O.store }
@@ -128,7 +133,8 @@ fn serve_over<
     ensures owner { IsOf O.trees O.number O.hives (E.state result.0).machine }
     ensures opened { IfOk result.1 (λ served. served.opened ≡ sharing.entry.opened) }
     ensures kept { HasLedWith O.start O.safe O.faithful (E.safe result.0) (E.faithful result.0) (E.state result.0)
-        (λ history. IfOk result.1 (TellsOf C.tells O.start history (E.state result.0) sharing.entry.threads)) }
+        (λ history. IfOk result.1 (TellsOf C.tells O.sole O.start O.trees O.number O.hives history (E.state result.0)
+        sharing.entry.threads)) }
     ensures refused { IfErr result.1 (λ why. (why ≡ NoMemory) ⊎ (why ≡ NoSeat)) }
 {
     engine.keeps_a_prefix(); // for the prover
@@ -139,24 +145,26 @@ fn serve_over<
     } = sharing;
     let before = events.all().again();
     let changes = seen.again();
-    let accounts = match new_accounts::<T>(alloc, &before, threads) {
-        Ok(accounts) => accounts,
+    let (requests, share_of_all) = blank.open::<O>();
+    let requests = RequestCount::new(requests);
+    let mut permissions = PermissionPool::new(share_of_all);
+    let made = match new_seats::<O, T>(alloc, &events, &seen, &mut permissions, threads) {
+        Ok(made) => made,
         Err(_) => return (engine, Err(Refusal::NoMemory)),
     };
-    let (requests, _share) = blank.open::<O>();
-    let requests = RequestCount::new(requests);
+    let (seats, mut accounts) = made;
     let registry = match Registry::<E, O>::new(alloc, rt, engine, events, requests, count, seen) {
         Ok(registry) => registry,
         Err((why, engine)) => return (engine, Err(why)),
     };
-    let (accounts, flushed) = share(rt, &registry, client, accounts);
+    let (seats, flushed) = share(rt, &registry, client, seats);
+    settle::<O, C, T, R>(seats, &mut permissions, &mut accounts);
     let all = seen_at_end(&accounts, &flushed, &before);
-    let asker = Asker::new(Sight::new(changes, all), Permission::shared());
     let Ended {
         engine,
         events: _,
         durable,
-    } = registry.end(rt, asker, Vec::new(alloc));
+    } = registry.end_shared(rt, Sight::new(changes, all), permissions, Vec::new(alloc));
     let served = Served {
         opened,
         durable,
@@ -166,7 +174,7 @@ fn serve_over<
     (engine, Ok(served))
 }
 
-// runs a client on the threads of these accounts, with a flusher beside
+// runs a client on the threads of these places, with a flusher beside
 fn share<
     O: Start + Send + Sync,
     E: StoreEngine + Send,
@@ -177,13 +185,11 @@ fn share<
     rt: &R,
     registry: &Registry<E, O>,
     client: &C,
-    accounts: Vec<Account<T>>,
-) -> (Vec<Account<T>>, Result<Stopped, Told>)
-    requires shared { O.sole ≡ false }
-    requires book { All (λ account. account.seen.book ≡ O.history) accounts.items }
-    ensures count { length result.0.items ≡ length accounts.items }
-    ensures book { All (λ account. account.seen.book ≡ O.history) result.0.items }
-    ensures reports { All (HasReported C.tells O.start) result.0.items }
+    seats: Vec<Seat<O, T>>,
+) -> (Vec<Seat<O, T>>, Result<Stopped, Told>)
+    requires first { All (λ seat. seat.asker ≡ Some no_sight) seats.items }
+    ensures count { length result.0.items ≡ length seats.items }
+    ensures ended { All (λ seat. HasFinished C.tells O.sole O.start O.trees O.number O.hives seat.asker seat.report) result.0.items }
     ensures stopped { IfOk result.1 (IsDone O.history O.start) }
     ensures failed { IfErr result.1 IsFailedStep }
 {
@@ -191,44 +197,26 @@ fn share<
         rt,
         registry,
         BUSY_ROOM,
-        move || -> Vec<Account<T>>
-            requires { IsSend E.row × IsSync C.row × IsSync R.row × IsSend T.row × (O.sole ≡ false)
-                × All (λ account. account.seen.book ≡ O.history) accounts.items }
-            ensures { (length result.items ≡ length accounts.items)
-                × All (λ account. account.seen.book ≡ O.history) result.items
-                × All (HasReported C.tells O.start) result.items }
+        move || -> Vec<Seat<O, T>>
+            requires { IsSend E.row × IsSync C.row × IsSync R.row × IsSend T.row × IsSend O.row
+                × All (λ seat. seat.asker ≡ Some no_sight) seats.items }
+            ensures { (length result.items ≡ length seats.items)
+                × All (λ seat. HasFinished C.tells O.sole O.start O.trees O.number O.hives seat.asker seat.report) result.items }
         {
-            let mut accounts = accounts;
-            let threads = accounts.len().max(1);
+            let mut seats = seats;
+            let threads = seats.len().max(1);
             thread::for_each_mut(
                 rt,
-                &mut accounts,
+                &mut seats,
                 threads,
-                &|thread: usize, account: &mut Account<T>|
-                    requires { (O.sole ≡ false) × (account.now.seen.book ≡ O.history) }
-                    ensures { (account.exit.now.seen.book ≡ O.history) × HasReported C.tells O.start account.exit.now }
-                { run_one(rt, registry, client, thread, account) },
+                &|thread: usize, seat: &mut Seat<O, T>|
+                    requires { seat.now.asker ≡ Some no_sight }
+                    ensures { HasFinished C.tells O.sole O.start O.trees O.number O.hives seat.exit.now.asker seat.exit.now.report }
+                { seat.work(rt, registry, client, thread) },
             );
-            accounts
+            seats
         },
     )
-}
-
-// the work of one thread, which leaves its report in its account
-fn run_one<O: Start, E: StoreEngine, C: Client<R, T>, T: Drop, R: Wait>(
-    rt: &R,
-    registry: &Registry<E, O>,
-    client: &C,
-    thread: usize,
-    account: &mut Account<T>,
-)
-    requires shared { O.sole ≡ false }
-    requires book { account.old.seen.book ≡ O.history }
-    ensures book { account.new.seen.book ≡ O.history }
-    ensures reports { HasReported C.tells O.start account.new }
-{
-    let report = client.run(rt, registry, &mut account.seen, thread);
-    account.report = Some(report);
 }
 
 // all that the threads and the flusher had seen

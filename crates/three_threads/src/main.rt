@@ -1,11 +1,12 @@
 //! Makes a store in the folder `store`. Three threads count in it, while a flusher moves their changes into its hive.
 #![tactic(auto)]
 
-ghost use Rattle.std.specs.Prelude.{◌≡◌, false};
+ghost use Rattle.std.specs.Prelude.{◌≤◌, IfOk};
+ghost use Rattle.histories.specs.Histories.{end_of};
 
 use file_disk::{FileDisk, Unknown};
-use histories::{SeenEvents, Start};
-use ktm_calls::{Key, Receipt, Registry};
+use histories::Start;
+use ktm_calls::{Key, Registry, Session};
 use refusals::Refusal;
 use reg_names::{Name, Path};
 use reg_tree::{Data, Trees};
@@ -33,21 +34,18 @@ impl<R: Wait + Print> Client<R, u64> for Counters {
     ghost use Rattle.histories.specs.Histories.{end_of};
 
     // the number that a thread reports is durable
-    ghost tells = { λ begun seen number. number ≤ (end_of begun seen).machine.durable };
+    ghost tells = { λ begun was is number. number ≤ (end_of begun is.history).machine.durable };
 
     fn run<E: StoreEngine, O: Start>(
         &self,
         rt: &R,
         registry: &Registry<E, O>,
-        seen: &mut SeenEvents,
+        session: &mut Session<O>,
         thread: usize,
     ) -> u64 {
         let letter = [b'A', b'B', b'C'][thread % 3];
-        match count(rt, self.0, registry, u16::from(letter)) {
-            Ok(receipt) => {
-                *seen = receipt.sight().events().again();
-                receipt.number()
-            }
+        match count(rt, self.0, registry, session, u16::from(letter)) {
+            Ok(number) => number,
             Err(why) => {
                 let _ = println!(rt; "{why}");
                 0
@@ -60,26 +58,25 @@ fn count<E: StoreEngine, O: Start, R: Wait>(
     rt: &R,
     alloc: Global,
     registry: &Registry<E, O>,
+    session: &mut Session<O>,
     letter: u16,
-) -> Result<Receipt<O>, Refusal>
-    requires shared { O.sole ≡ false }
+) -> Result<u64, Refusal>
+    ensures { IfOk result (λ number. number ≤ (end_of O.start session.new.seen.history).machine.durable) }
 {
-    let (mut session, _) = registry.session(rt)?;
     let mut key = Key::new(0, Path::parse(alloc, &[letter])?);
-    registry.reg_create_key(rt, &mut session, &key, 0)?;
+    registry.reg_create_key(rt, session, &key, 0)?;
     for round in 0..100u32 {
         let moment = u64::from(round);
-        let (tx, _) = registry.create_transaction(rt, &mut session, Uuid::nil())?;
+        let (tx, _) = registry.create_transaction(rt, session, Uuid::nil())?;
         key.tx = Some(tx);
         let name = Name::value(alloc, &[u16::from(b'n')])?;
         let data = Data::new(alloc, &round.to_le_bytes())?;
-        registry.set_value(rt, &mut session, &key, name, REG_DWORD, data, moment)?;
-        registry.commit_transaction(rt, &mut session, tx, moment)?;
-        registry.close_transaction(rt, &mut session, tx)?;
+        registry.set_value(rt, session, &key, name, REG_DWORD, data, moment)?;
+        registry.commit_transaction(rt, session, tx, moment)?;
+        registry.close_transaction(rt, session, tx)?;
     }
-    let (receipt, _) = registry.flush_key(rt, &mut session, &key)?;
-    registry.end_session(rt, session)?;
-    Ok(receipt)
+    let (receipt, _) = registry.flush_key(rt, session, &key)?;
+    Ok(receipt.number())
 }
 
 fn main(rt: HostRuntime) -> io::Result<()> {
@@ -94,26 +91,27 @@ fn main(rt: HostRuntime) -> io::Result<()> {
     }
     let (_disk, served) = serve(&rt, alloc, disk, &Counters(alloc), 3);
     match served {
-        Ok(served) => {
-            let Served {
-                opened: _,
-                durable,
-                undone,
-                accounts: _,
-            } = served;
-            tell(&rt, durable, undone)
-        }
+        Ok(served) => tell(&rt, &served),
         Err(why) => refused(&rt, why),
     }
 }
 
-// says how many changes are durable, or why the flusher left something undone
-fn tell<R: Print>(rt: &R, durable: u64, undone: Option<Refusal>) -> io::Result<()> {
-    match undone {
-        None if durable == CHANGES => println!(rt; "{CHANGES} changes are durable"),
-        None => Err(ErrorKind::Other.into()),
-        Some(why) => refused(rt, why),
+// says how many changes are durable, or why not all are
+fn tell<R: Print>(rt: &R, served: &Served<u64>) -> io::Result<()> {
+    if let Some(why) = served.undone {
+        return refused(rt, why);
     }
+    for account in &served.accounts {
+        match account.report {
+            Ok(0) => return Err(ErrorKind::Other.into()),
+            Ok(_) => {}
+            Err(why) => return refused(rt, why),
+        }
+    }
+    if served.durable != CHANGES {
+        return Err(ErrorKind::Other.into());
+    }
+    println!(rt; "{CHANGES} changes are durable")
 }
 
 // prints a refusal, and ends the program with status 1

@@ -163,7 +163,7 @@ fn counts_of(info: Info) -> Answer {
     Answer::Counts(subkeys, values, time)
 }
 
-/// A registry over an engine that was just opened, in which each may ask, and one who has seen nothing of it yet.
+/// A registry over an engine that was just opened, and one who has seen nothing of it yet.
 pub fn share<E: StoreEngine + Drop, O: Start, R: Wait>(
     rt: &R,
     alloc: Global,
@@ -171,10 +171,10 @@ pub fn share<E: StoreEngine + Drop, O: Start, R: Wait>(
     count: ChangeCount,
     seen: SeenChanges,
 ) -> Result<(Registry<E, O>, Asker<O>), Refusal> {
-    let (requests, _share) = Blank::new(1).open::<O>();
+    let (requests, share) = Blank::new(1).open::<O>();
     let requests = RequestCount::new(requests);
     let events = EventCount::open();
-    let asker = Asker::first(&events, &seen, Permission::shared());
+    let asker = Asker::first(&events, &seen, Permission::sole(share));
     match Registry::<E, O>::new(alloc, rt, engine, events, requests, count, seen) {
         Ok(registry) => Ok((registry, asker)),
         Err((why, _engine)) => Err(why),
@@ -204,9 +204,11 @@ impl<'a, E: StoreEngine, O: Start, R: Wait> Drop for Calls<'a, E, O, R> {
 impl<'a, E: StoreEngine, O: Start, R: Wait> Calls<'a, E, O, R> {
     /// Opens a session.
     pub fn start(&self) -> Result<Session<O>, Refusal> {
-        match self.registry.session(self.rt) {
+        // these programs have no proofs, and so no permissions: their sessions ask with none
+        let asker = self.registry.asker(self.rt, Permission::none());
+        match self.registry.session(self.rt, asker) {
             Ok((session, _told)) => Ok(session),
-            Err(denied) => Err(refusal_of(denied)),
+            Err((denied, _asker)) => Err(refusal_of(denied)),
         }
     }
 
@@ -223,7 +225,8 @@ impl<'a, E: StoreEngine, O: Start, R: Wait> Calls<'a, E, O, R> {
 
     /// Ends a session.
     pub fn end(&self, session: Session<O>) -> Result<Answer, Refusal> {
-        answered(self.registry.end_session(self.rt, session))
+        let (_asker, told) = self.registry.end_session(self.rt, session);
+        answered(told)
     }
 
     /// Creates a key.

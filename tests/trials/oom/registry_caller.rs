@@ -392,7 +392,8 @@ impl<O: Start> Caller<O> {
             expect_ended(answer_of(closed))?;
         }
         for session in [session, reader] {
-            if answer_of(calls.registry.end_session(calls.rt, session)) != Answer::Done {
+            let (_asker, ended) = calls.registry.end_session(calls.rt, session);
+            if answer_of(ended) != Answer::Done {
                 return Err(Fault::Otherwise("a session that doesn't end"));
             }
         }

@@ -240,10 +240,10 @@ fn live_over<O: Start, E: StoreEngine + Drop, R: Wait>(
     watch: &DiskWatch,
     patience: Patience,
 ) -> Result<(E, Result<bool, Fault>), (Refusal, E)> {
-    let (requests, _share) = Blank::new(1).open::<O>();
+    let (requests, share) = Blank::new(1).open::<O>();
     let requests = RequestCount::new(requests);
     let events = EventCount::open();
-    let asker = Asker::first(&events, &seen, Permission::shared());
+    let asker = Asker::first(&events, &seen, Permission::sole(share));
     let registry = match Registry::<E, O>::new(alloc, rt, engine, events, requests, count, seen) {
         Ok(registry) => registry,
         Err(back) => return Err(back),
@@ -295,7 +295,9 @@ fn session_of<O: Start, E: StoreEngine, R: Wait>(
     was_refused: &mut bool,
 ) -> Result<Session<O>, Fault> {
     let before = (calls.registry.room(calls.rt).bytes, calls.watch.calls());
-    let denied = match calls.registry.session(calls.rt) {
+    // these programs have no proofs, and so no permissions: their sessions ask with none
+    let asker = calls.registry.asker(calls.rt, Permission::none());
+    let (denied, asker) = match calls.registry.session(calls.rt, asker) {
         Ok((session, _told)) => return Ok(session),
         Err(denied) => denied,
     };
@@ -304,9 +306,9 @@ fn session_of<O: Start, E: StoreEngine, R: Wait>(
     if (calls.registry.room(calls.rt).bytes, calls.watch.calls()) != before {
         return Err(Fault::Otherwise("a refused session has changed something"));
     }
-    match calls.registry.session(calls.rt) {
+    match calls.registry.session(calls.rt, asker) {
         Ok((session, _told)) => Ok(session),
-        Err(denied) => Err(refused_again(refusal_of(&denied))),
+        Err((denied, _asker)) => Err(refused_again(refusal_of(&denied))),
     }
 }
 

@@ -5,8 +5,8 @@ use denote.Param.{param}
 use denote.Param.Send.{param_sync}
 use mir.Syntax.{named}
 use Rattle.registry_send.proofs.RegistryCrossing.{registry_sync}
-use Rattle.shared_store.specs.Serving.{HasReported}
-use Rattle.shared_store.specs.declared.account.Account.{Account}
+use Rattle.shared_store.specs.Accounts.{HasFinished}
+use Rattle.shared_store.specs.declared.seat.Seat.{Seat}
 use Rattle.shared_store.proofs.Captured.{three_sync}
 use Rattle.shared_store.proofs.service.fn.share.run_beside_from.Goals as goal
 
@@ -17,14 +17,13 @@ for_each_mut-requires-sync-F g c κs within =
 
 pub returns : goal.returns
 returns g c =
-    let was = c.captures.accounts.items in
+    let was = c.captures.seats.items in
     let is = c.for_each_mut.new.s in
     let behind = drop (length is) was in
-    let count : c.captures.accounts.len ≡ length is = sym (c.for_each_mut.auto.s ∙ c.deref_mut.ensures.len) in
-    let whole : take c.captures.accounts.len (is ++ behind) ≡ is = subst (λ (n : ℕ). take n (is ++ behind) ≡ is) (sym count) (take-append_seam is behind) in
+    let count : c.captures.seats.len ≡ length is = sym (c.for_each_mut.auto.s ∙ c.deref_mut.ensures.len) in
+    let whole : take c.captures.seats.len (is ++ behind) ≡ is = subst (λ (n : ℕ). take n (is ++ behind) ≡ is) (sym count) (take-append_seam is behind) in
     let inside : (k : ℕ) → k < length is → k < length c.deref_mut.result.now = λ k less. omega (arith, less, c.for_each_mut.auto.s) in
-    subst (λ (items : List (Account _)). (length items ≡ length was) × All (λ account. account.seen.book ≡ g.O.Start.history) items × All (HasReported g.C.Client.tells g.O.Start.start) items) (sym whole) (
-      c.for_each_mut.auto.s ∙ (c.deref_mut.ensures.len ∙ c.captures.accounts.ok.0),
-      λ k d less. let made = (c.for_each_mut.ensures k d (inside k less)).1 in subst (λ (account : Account _). account.seen.book ≡ g.O.Start.history) made.left made.call.0,
-      λ k d less. let made = (c.for_each_mut.ensures k d (inside k less)).1 in subst (HasReported g.C.Client.tells g.O.Start.start) made.left made.call.1,
+    subst (λ (items : List (Seat _ _)). (length items ≡ length was) × All (λ seat. HasFinished g.C.Client.tells g.O.Start.sole g.O.Start.start g.O.Origin.trees g.O.Origin.number g.O.Origin.hives seat.asker seat.report) items) (sym whole) (
+      c.for_each_mut.auto.s ∙ (c.deref_mut.ensures.len ∙ c.captures.seats.ok.0),
+      λ k d less. let made = (c.for_each_mut.ensures k d (inside k less)).1 in subst (λ (seat : Seat _ _). HasFinished g.C.Client.tells g.O.Start.sole g.O.Start.start g.O.Origin.trees g.O.Origin.number g.O.Origin.hives seat.asker seat.report) made.left made.call,
     )
