@@ -10,8 +10,8 @@ use Rattle.crash_lab.specs.Experiments.{AnswersLine, following_line}
 use Rattle.crash_lab.specs.declared.reply.LabReply.{LabReply}
 use Rattle.crash_lab.specs.declared.reply.LabReply.TheVariants.{OneLine}
 
--- a line of other scripts gets their reply, nothing is asked of the device, and the limit stays
-pub answered_as_theirs : (old new : LabState) (line : Line) (reported : ReplyLine) → AnswersOf old.script line reported new.script → (new.asked ≡ old.asked) × (new.limit ≡ old.limit)
+-- a line of other scripts gets their reply, nothing more is asked of the device, and the limit stays
+pub answered_as_theirs : (old new : LabState) (line : Line) (reported : ReplyLine) → AnswersOf old.script line reported new.script → (new.points ≡ old.points) × (new.limit ≡ old.limit)
     → (following_line (Some line) ≡ Some line) × AnswersLine old line (OneLine reported) new
 answered_as_theirs old new (Hives count) reported is kept = absurd is
 answered_as_theirs old new (History limit) reported is kept = absurd is

@@ -1,5 +1,6 @@
 -- What the lines of a laboratory ask, and the replies to them.
 use Rattle.std.specs.Prelude.{◌≡◌, ◌≢◌, ◌⊎◌, ℕ, zero, suc, ◌-◌, ◌^◌, Bool, false, List, [], ◌∷◌, ◌++◌, ◌+◌, Option, Some, None}
+use Rattle.disk_model.specs.Plan.{no_points}
 use Rattle.disk_model.specs.declared.tear.Tear.{Tear}
 use Rattle.disk_model.specs.declared.tear.Tear.TheVariants as tear
 use Rattle.store_model.specs.declared.event.Event.TheVariants as event
@@ -18,7 +19,8 @@ use Rattle.script_runner.specs.Plays.{is_refusal}
 use Rattle.script_runner.specs.Plays.{opened_text}
 use Rattle.script_runner.specs.Scripts.{Script, Answers, Asks, IsLabelled, script_at}
 use Rattle.tree_printer.specs.TreeTexts.{tree_text}
-use Rattle.crash_lab.specs.LabStates.{LabState, CrashesAreSafe, nothing_asked}
+use Rattle.crash_lab.specs.LabStates.{LabState, CrashesAreSafe}
+use Rattle.crash_lab.specs.Devices.{HasJustBegun, number_after}
 use Rattle.crash_lab.specs.Crashes.{MayNotReopen, OpensAfterCrash}
 use Rattle.crash_lab.specs.declared.reply.LabReply.{LabReply}
 use Rattle.crash_lab.specs.declared.reply.LabReply.TheVariants.{OneLine, Opened}
@@ -34,9 +36,9 @@ following_line (Some line) = Some line
 abbrev pub line_asked : List ℕ → Option Line
 line_asked bytes = following_line (line_of bytes)
 
--- the script asks for what is reported, nothing is asked of the device, and the limit of the history stays
+-- the script asks for what is reported, nothing more is asked of the device, and the limit of the history stays
 abbrev pub Replies : (ReplyLine → Script → Type 0) → LabState → LabReply → LabState → Type 0
-Replies answers old (OneLine reported) new = answers reported new.script × (new.asked ≡ old.asked) × (new.limit ≡ old.limit)
+Replies answers old (OneLine reported) new = answers reported new.script × (new.points ≡ old.points) × (new.limit ≡ old.limit)
 Replies answers old (Opened number) new = ⊥
 
 -- the transaction of a label is committed, and not waited for
@@ -66,12 +68,14 @@ tear_of crash.New = tear.New
 tear_of crash.Torn = tear.Torn
 
 -- A store was opened after a loss of power: session 0 is open and current, no label names anything, the moment is the
--- one before, its history may have as many changes as before, and nothing is asked of the new disk's device.
+-- one before, its history may have as many changes as before, nothing is asked of the
+-- new disk's device, and none of its calls has failed.
 pub record Reopens (at : Tear) (old : LabState) (number : ℕ) (new : LabState) : Type 0 where
   pub opens : OpensAfterCrash at old.files old.limit number new.script.machine
   pub script_is : new.script ≡ record (script_at new.script.machine) { moment = old.script.moment }
   pub limit_is : new.limit ≡ old.limit
-  pub asked_is : new.asked ≡ nothing_asked
+  pub points_is : new.points ≡ no_points
+  pub calls : HasJustBegun new.counts
 
 -- the power goes: a store is opened on what is left, or none is, which changes nothing
 abbrev pub Crashes : Tear → LabState → LabReply → LabState → Type 0
@@ -86,8 +90,8 @@ Experiments old JournalStep reported new = Replies (Asks old.script event.Journa
 Experiments old (FlusherStep hive) reported new = Replies (Asks old.script (event.FlusherStep hive)) old reported new
 Experiments old TrimStep reported new = Replies (Asks old.script event.TrimStep) old reported new
 Experiments old (FlushWhole hive) reported new = Replies (IsFlushedWhole old.script hive) old reported new
-Experiments old (StopAt call) reported new = (reported ≡ OneLine reply.Done) × (new ≡ record old { asked = record old.asked { stop = Some call } })
-Experiments old (FailAt call) reported new = (reported ≡ OneLine reply.Done) × (new ≡ record old { asked = record old.asked { fail = Some call } })
+Experiments old (StopAt call) reported new = (reported ≡ OneLine reply.Done) × (new ≡ record old { points = record old.points { stop_on = number_after old.counts.changes call } })
+Experiments old (FailAt call) reported new = (reported ≡ OneLine reply.Done) × (new ≡ record old { points = record old.points { fail_on = number_after old.counts.calls call } })
 Experiments old (Crash at) reported new = Crashes (tear_of at) old reported new
 
 -- the same of any line: those of other scripts get their replies

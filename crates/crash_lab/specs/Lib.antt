@@ -1,3 +1,4 @@
+pub mod Devices
 pub mod LabStates
 pub mod Crashes
 pub mod Experiments

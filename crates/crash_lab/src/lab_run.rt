@@ -16,7 +16,8 @@ use std::io::{BufRead, Write};
 /// stop or fail, a loss of power. After a loss of power what is left is opened, and its number and trees are written.
 /// If it can't be opened, the reason is written, and nothing has changed.
 ///
-/// `Err` says that a write failed, which ends the run; the program then ends with the status of a refusal.
+/// `Err` says that a write failed, or that the device did otherwise than it was asked, which none does. It ends the run;
+/// the program then ends with the status of a refusal.
 pub fn lab<R: BufRead, W: Write>(
     alloc: Global,
     reader: &mut R,

@@ -3,13 +3,14 @@ ghost use Rattle.std.specs.Prelude.{◌≡◌, ◌↔◌, true, Some, None, Matc
 ghost use Rattle.script_syntax.specs.declared.line.Line.{Line as AnyLine};
 ghost use Rattle.script_runner.specs.Interpreters.{script_of};
 ghost use Rattle.store_model.specs.Machine.{trees_now};
+ghost use Rattle.crash_lab.specs.Devices.{GoesAsAsked};
 ghost use Rattle.crash_lab.specs.LabStates.{lab_state_of};
 ghost use Rattle.crash_lab.specs.Experiments.{Answered, AnswersLine, Crashes, Experiments, IsFlushedWhole, following_line, line_asked, tear_of};
 
-use crate::device::Device;
+use crate::device::{Device, has_just_begun};
 use crate::power_loss::{Reopened, open_after_crash};
 use crate::reply::LabReply;
-use disk_model::{MemDisk, Tear};
+use disk_model::{CallCounts, MemDisk, Tear};
 use reg_tree::Trees;
 use reply_lines::ReplyLine;
 use script_loop::{Answerer, HistoryLimit, LineTurn, ScriptedStore};
@@ -18,11 +19,11 @@ use script_syntax::{CrashTear, LabLine, Line, read_line};
 use std::alloc::{AllocError, Global};
 use std::convert::Infallible;
 use std::io;
-use std::io::Write;
+use std::io::{ErrorKind, Write};
 use store_model::Event;
 use word_syntax::ParseError;
 
-/// A script over a disk in memory, and what was asked of that disk's device.
+/// A script over a disk in memory, and that disk's device.
 pub(crate) struct Laboratory {
     alloc: Global,
     interpreter: Interpreter<MemDisk>,
@@ -54,6 +55,9 @@ impl ScriptedStore for Laboratory {
         let device = Device::new(alloc)?;
         match begin_on(alloc, line, device.plan()?)? {
             Some(engine) => {
+                if !has_just_begun(engine.disk()) {
+                    return Err(AllocError);
+                }
                 engine.keeps_a_prefix(); // for the prover
                 let interpreter = Interpreter::new(alloc, engine);
                 Ok(Some(Laboratory {
@@ -97,8 +101,14 @@ impl Answerer<Global> for Laboratory {
         line: &[u8],
         writer: &mut W,
     ) -> io::Result<LineTurn<Infallible>> {
+        let counted = self.counts();
+        self.device.begin_line();
         match self.reply_to(line) {
             Ok(Some(reported)) => {
+                if !self.has_gone_as_asked(counted, &reported) {
+                    // no run comes here: the disk takes what its plan has as soon as the line begins
+                    return Err(io::Error::from(ErrorKind::Other));
+                }
                 reported.write(self.hives(), self.trees(), writer)?;
                 let is_refusal = reported.is_refusal();
                 Ok(LineTurn::Replied { is_refusal })
@@ -122,6 +132,26 @@ impl Laboratory {
         ensures { result ≡ (lab_state_of self.now).script.machine.bounds.hives }
     {
         usize::from(self.interpreter.engine().hives())
+    }
+
+    // how many calls of the disk there were
+    fn counts(&self) -> CallCounts
+        ensures { result ≡ (lab_state_of self.now).counts }
+    {
+        self.interpreter.engine().disk().counts()
+    }
+
+    // Whether the device did at the line what was asked of it, if so many calls were counted before. The engine's
+    // contract forgets which plan its disk has and which calls it makes, so they are looked at.
+    fn has_gone_as_asked(&self, before: CallCounts, reported: &LabReply) -> bool
+        ensures { result ≡ true → GoesAsAsked (lab_state_of self.now).points before reported.now
+            (lab_state_of self.now).counts }
+    {
+        let disk = self.interpreter.engine().disk();
+        if reported.tells_of_device() && disk.counts().failures == 0 {
+            return false;
+        }
+        disk.has_gone(self.device.points(), reported.counts_before(before))
     }
 
     // answers a further line of the script, or `None` if the bytes are no such line. Memory is refused only for reading
@@ -178,11 +208,13 @@ impl Laboratory {
             LabLine::TrimStep => reported(self.interpreter.ask(Event::TrimStep)),
             LabLine::FlushWhole { hive } => reported(self.flush_whole(hive)),
             LabLine::StopAt { call } => {
-                self.device.stop_at(call);
+                let counted = self.counts();
+                self.device.stop_at(counted, call);
                 reported(ReplyLine::Done)
             }
             LabLine::FailAt { call } => {
-                self.device.fail_at(call);
+                let counted = self.counts();
+                self.device.fail_at(counted, call);
                 reported(ReplyLine::Done)
             }
             LabLine::Crash { tear } => self.crash(tear_of(tear)),

@@ -1,10 +1,13 @@
 //! What opens after a loss of power.
 ghost use Rattle.std.specs.Prelude.{◌≡◌, ◌≢◌, IfOk, IfErr};
 ghost use Rattle.refusals.specs.declared.refusal.Refusal.TheVariants.{DiskFault, NoMemory};
-ghost use Rattle.crash_lab.specs.LabStates.{files_of, nothing_asked};
+ghost use Rattle.disk_model.specs.MemDisks.{counts_of};
+ghost use Rattle.disk_model.specs.Plan.{no_points};
+ghost use Rattle.crash_lab.specs.Devices.{HasJustBegun};
+ghost use Rattle.crash_lab.specs.LabStates.{files_of};
 ghost use Rattle.crash_lab.specs.Crashes.{IsLeftBy, MayNotReopen, OpensAfterCrash};
 
-use crate::device::Device;
+use crate::device::{Device, has_just_begun};
 use disk_model::{MemDisk, Tear};
 use engine::Engine;
 use refusals::Refusal;
@@ -36,7 +39,8 @@ pub(crate) fn open_after_crash(
 ) -> Result<Reopened, Refusal>
     ensures opens { IfOk result (λ it.
         OpensAfterCrash tear (files_of disk.now) limit it.number it.engine.machine) }
-    ensures device { IfOk result (λ it. it.device.asked ≡ nothing_asked) }
+    ensures device { IfOk result (λ it. it.device.points ≡ no_points) }
+    ensures calls { IfOk result (λ it. HasJustBegun (counts_of it.engine.disk)) }
     ensures refused { IfErr result (MayNotReopen tear (files_of disk.now)) }
 {
     let device = Device::new(alloc)?;
@@ -45,6 +49,9 @@ pub(crate) fn open_after_crash(
         Ok((engine, number)) => {
             let mut engine = engine;
             engine.limit_history(limit.changes());
+            if !has_just_begun(engine.disk()) {
+                return Err(Refusal::NoMemory);
+            }
             Ok(Reopened {
                 engine,
                 number,

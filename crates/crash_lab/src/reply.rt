@@ -1,8 +1,11 @@
 //! The reply to a line of a laboratory, and its text.
 ghost use Rattle.std.specs.Prelude.{◌≡◌, OnOk, IfOk, take};
 ghost use Rattle.std.specs.Io.KnownBytes.{Appends};
+ghost use Rattle.crash_lab.specs.Devices.{counts_before, tells_of_device};
 ghost use Rattle.crash_lab.specs.Experiments.{is_refused, lab_reply_text, trees_text};
 
+use disk_model::CallCounts;
+use refusals::Refusal;
 use reg_tree::Trees;
 use reply_lines::ReplyLine;
 use script_runner::is_refusal;
@@ -33,6 +36,31 @@ impl LabReply {
         match self {
             LabReply::OneLine { reported } => is_refusal(reported),
             LabReply::Opened { .. } => false,
+        }
+    }
+
+    /// What is counted of calls as its line begins, if so many were counted before: a store that a line has opened is on
+    /// a new disk.
+    pub(crate) fn counts_before(&self, before: CallCounts) -> CallCounts
+        ensures { result ≡ counts_before before self.now }
+    {
+        match self {
+            LabReply::OneLine { .. } => before,
+            LabReply::Opened { .. } => CallCounts::none(),
+        }
+    }
+
+    /// Whether it reports that the device failed, in this call or in an earlier one.
+    pub(crate) fn tells_of_device(&self) -> bool
+        ensures { result ≡ tells_of_device self.now }
+    {
+        match self {
+            LabReply::OneLine {
+                reported: ReplyLine::Refused {
+                    refusal: Refusal::DiskFault | Refusal::Faulted,
+                },
+            } => true,
+            _ => false,
         }
     }
 

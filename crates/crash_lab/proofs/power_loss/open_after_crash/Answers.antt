@@ -15,8 +15,8 @@ limit_history-requires-clause-there c =
     let none : length c.in-Ok.engine.machine.accepted ≡ 0 = ap (λ (machine : Machine). length machine.accepted) c.in-Ok.ensures.ok.begins in
     omega (arith, none)
 
-pub returns-in-Ok-clause-opens : goal.returns-in-Ok-clause-opens
-returns-in-Ok-clause-opens c = (
+pub returns-else-not-has_just_begun-clause-opens : goal.returns-else-not-has_just_begun-clause-opens
+returns-else-not-has_just_begun-clause-opens c = (
   files_of c.in_ok-left.left,
   c.in_ok-left.ensures,
   (

@@ -1,6 +1,9 @@
 use Rattle.std.proofs.Common.{◌≡◌, ◌∙◌, ap, refl, sym, subst}
+use Rattle.engine.specs.Shown.{Shown}
+use Rattle.disk_model.specs.MemDisks.{counts_of}
 use Rattle.script_runner.specs.Interpreters.{engine_of, script_of}
 use Rattle.script_runner.specs.Scripts.{script_at}
+use Rattle.crash_lab.specs.Devices.{HasJustBegun}
 use Rattle.crash_lab.specs.LabStates.{lab_state_of, files_of}
 use Rattle.crash_lab.specs.Crashes.{MayNotReopen, OpensAfterCrash}
 use Rattle.crash_lab.specs.Experiments.{Crashes}
@@ -17,7 +20,8 @@ returns-in-Ok c =
       opens = subst (OpensAfterCrash c.args.tear (files_of (engine_of old).disk) c.args.self.now.limit it.number) (sym machine) (subst (λ disk. OpensAfterCrash c.args.tear (files_of disk) c.args.self.now.limit it.number it.engine.machine) disk c.in-Ok.ensures.opens);
       script_is = c.reopen.ensures.script ∙ ap (λ machine. record (script_at machine) { moment = (script_of old).moment }) (sym machine);
       limit_is = refl;
-      asked_is = c.in-Ok.ensures.device;
+      points_is = c.in-Ok.ensures.device;
+      calls = subst (λ (engine : Shown _). HasJustBegun (counts_of engine.disk)) (sym c.reopen.ensures.engine) c.in-Ok.ensures.calls;
     }
 
 pub returns-in-Err : goal.returns-in-Err

@@ -9,4 +9,4 @@ returns-in-FlushWhole c =
     let new = lab_state_of c.flush_whole.new.self in
     subst (λ line. Experiments old line c.reported-in-FlushWhole.result new) (sym c.in-FlushWhole.is)
     (subst (λ reported. Replies (IsFlushedWhole old.script c.in-FlushWhole.hive) old reported new) (sym c.reported-in-FlushWhole.ensures)
-    (c.flush_whole.ensures.reported, ap (λ device. device.asked) c.flush_whole.ensures.device, c.flush_whole.ensures.limit))
+    (c.flush_whole.ensures.reported, ap (λ device. device.points) c.flush_whole.ensures.device, c.flush_whole.ensures.limit))

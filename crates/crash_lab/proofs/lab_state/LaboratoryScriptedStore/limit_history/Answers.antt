@@ -3,6 +3,7 @@ use Rattle.engine.specs.Lives.{IsSafe}
 use Rattle.engine.specs.Shown.{Shown}
 use Rattle.script_runner.specs.Interpreters.{engine_of}
 use Rattle.script_runner.specs.Scripts.{Script, limited}
+use Rattle.disk_model.specs.MemDisks.{counts_of}
 use Rattle.crash_lab.specs.LabStates.{LabState, lab_state_of, files_of}
 use Rattle.crash_lab.proofs.lab_state.LaboratoryScriptedStore.limit_history.Goals as goal
 
@@ -18,7 +19,7 @@ returns c =
     let limit = c.args.limit in
     record {
       is =
-          ap (λ script. let one : LabState = record { script = script; limit = limit; files = files_of (engine_of new).disk; asked = old.asked } in one) c.limit_history.ensures.script
-          ∙ ap (λ (engine : Shown _). let one : LabState = record { script = limited limit old.script; limit = limit; files = files_of engine.disk; asked = old.asked } in one) c.limit_history.ensures.engine;
+          ap (λ script. let one : LabState = record { script = script; limit = limit; files = files_of (engine_of new).disk; counts = counts_of (engine_of new).disk; points = old.points } in one) c.limit_history.ensures.script
+          ∙ ap (λ (engine : Shown _). let one : LabState = record { script = limited limit old.script; limit = limit; files = files_of engine.disk; counts = counts_of engine.disk; points = old.points } in one) c.limit_history.ensures.engine;
       kept = ((engine_of new).store, subst (λ (engine : Shown _). IsSafe engine.store engine.machine (files_of engine.disk)) c.engine.ensures (c.keeps_a_prefix.ensures tt));
     }
