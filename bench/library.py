@@ -4,9 +4,9 @@
     bench/library.py FOLDER [--write]
 
 FOLDER has libregtx.a and regtx.h, as tools/c_library.py writes them. Hives are those of `bench/reg_files.py` of 1, 10 and 50 MB, and
-those with so many subkeys of one key. bench/walk_regtx.c and bench/walk_hivex.c read each key's name and counts, and each value's
-name, type and data. Both must come to the same sum. Times are processor seconds (user and system), the least of several runs;
-memory is the most that a process held resident. `--write` puts the table into docs/MEASURED.md.
+those with so many subkeys of one key. bench/walk_cursor.c, bench/walk_regtx.c, which goes by paths, and bench/walk_hivex.c read each
+key's name and counts, and each value's name, type and data. All must come to the same sum. Times are processor seconds (user and
+system), the least of several runs; memory is the most that a process held resident. `--write` puts the table into docs/MEASURED.md.
 """
 import itertools
 import math
@@ -29,8 +29,8 @@ HIVES = [("a tree of fan-out 10", tree, [MB // KEY_BYTES, 10 * MB // KEY_BYTES, 
 
 def walks(folder, library):
     """The programs that read a hive."""
-    return (measured.compiled("walk_regtx.c", f"{folder}/walk_regtx", "-I", library, f"{library}/libregtx.a"),
-            measured.compiled("walk_hivex.c", f"{folder}/walk_hivex", "-lhivex"))
+    ours = [measured.compiled(f"{name}.c", f"{folder}/{name}", "-I", library, f"{library}/libregtx.a") for name in ("walk_cursor", "walk_regtx")]
+    return (*ours, measured.compiled("walk_hivex.c", f"{folder}/walk_hivex", "-lhivex"))
 
 
 def read_by(walk, path):
@@ -43,7 +43,7 @@ def read_by(walk, path):
 def measure(library, folder):
     """The rows of the table."""
     peak, path = measured.peak(folder), f"{folder}/hive.dat"
-    ours, theirs = walks(folder, library)
+    ours, by_paths, theirs = walks(folder, library)
     for shape, made, sizes in HIVES:
         last = None
         for keys in sizes:
@@ -52,13 +52,14 @@ def measure(library, folder):
             length = os.path.getsize(path)
             opened, walked, read = read_by(ours, path)
             their_opened, their_walked, their_read = read_by(theirs, path)
-            if read != their_read:
-                sys.exit(f"{shape}, {keys} keys: {read}, and by libhivex {their_read}")
+            _, paths_walked, paths_read = read_by(by_paths, path)
+            if not read == their_read == paths_read:
+                sys.exit(f"{shape}, {keys} keys: {read}, by paths {paths_read}, by libhivex {their_read}")
             both, their_both = opened + walked, their_opened + their_walked
             held, their_held = (measured.spent_by(peak, 1, [walk, path])[1] for walk in (ours, theirs))
-            exponent = f"{math.log(both / last[0]) / math.log(int(read[0]) / last[1]):.2f}" if last else ""
-            last = (both, int(read[0]))
-            yield (f"| {shape} | {length / MB:.1f} | {int(read[0]):,} | {opened:.4f} | {walked:.4f} | {exponent} "
+            exponent = f"{math.log(walked / last[0]) / math.log(int(read[0]) / last[1]):.2f}" if last else ""
+            last = (walked, int(read[0]))
+            yield (f"| {shape} | {length / MB:.1f} | {int(read[0]):,} | {opened:.4f} | {walked:.4f} | {exponent} | {paths_walked:.4f} "
                    f"| {their_opened:.4f} | {their_walked:.4f} | {both / their_both:.2f} | {held / length:.2f} "
                    f"| {their_held / length:.2f} |")
 
@@ -71,9 +72,9 @@ def main():
         lines = itertools.chain([
             f"{measured.head('library')}, beside libhivex.",
             "",
-            "| hive | MB | keys | seconds to open | seconds to walk | exponent | seconds of libhivex to open | to walk "
-            "| ratio of the times | memory in files | memory of libhivex |",
-            "|---|---|---|---|---|---|---|---|---|---|---|",
+            "| hive | MB | keys | seconds to open | seconds to walk | exponent of the walk | seconds to walk by paths "
+            "| seconds of libhivex to open | to walk | ratio of the times | memory in files | memory of libhivex |",
+            "|---|---|---|---|---|---|---|---|---|---|---|---|",
         ], measure(os.path.abspath(given.folder), folder))
         measured.tell(lines, "bench/library.py", given.write)
 

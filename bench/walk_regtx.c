@@ -1,12 +1,5 @@
-/* Opens a hive by libregtx.a and reads all of it, for bench/library.py: walk_regtx FILE. */
-#include "regtx.h"
-#include "walk.h"
-
-#include <fcntl.h>
-#include <stdlib.h>
-#include <sys/mman.h>
-#include <sys/stat.h>
-#include <unistd.h>
+/* Opens a hive by libregtx.a and reads all of it by paths, for bench/library.py: walk_regtx FILE. */
+#include "open_regtx.h"
 
 enum { MOST_UNITS = 512 * 256, FIRST_ROOM = 1 << 20 };
 
@@ -15,20 +8,6 @@ static uint16_t path[MOST_UNITS], name[MOST_UNITS];
 static uint8_t *data;
 static size_t room = FIRST_ROOM;
 static struct sums sums;
-
-/* Ends this unless a call or a block of memory was given. */
-static void need(int is_given)
-{
-    if (!is_given)
-        exit(1);
-}
-
-static uint64_t with_name(uint64_t sum, const uint16_t *units, size_t len)
-{
-    for (size_t i = 0; i < len; i++)
-        sum = mixed(sum, units[i]);
-    return mixed(sum, 0);
-}
 
 static void read_value(size_t path_len, uint64_t sum, size_t index)
 {
@@ -60,24 +39,11 @@ static void read_key(size_t path_len, uint64_t sum)
     }
 }
 
-/* The file is mapped, as libhivex maps it; the library copies it. */
-static void open_file(const char *file)
-{
-    struct stat is;
-    int from = open(file, O_RDONLY);
-    need(from >= 0 && fstat(from, &is) == 0);
-    size_t len = (size_t)is.st_size;
-    void *bytes = mmap(NULL, len, PROT_READ, MAP_PRIVATE, from, 0);
-    need(bytes != MAP_FAILED && regtx_hive_open(bytes, len, &hive) == REGTX_OK);
-    munmap(bytes, len);
-    close(from);
-}
-
 int main(int count, char **words)
 {
     need(count == 2);
     int64_t begun = spent();
-    open_file(words[1]);
+    open_file(words[1], &hive);
     need((data = malloc(room)) != NULL);
     int64_t opened = spent();
     read_key(0, 0);

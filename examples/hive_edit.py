@@ -3,7 +3,7 @@
 
     hive_edit.py IN OUT KEY NAME NUMBER
 
-The head of hive_edit.c says what is printed, and what becomes of OUT. REGTX_LIBRARY names the folder of libregtx.so.
+The head of hive_edit.c says what is printed, and what becomes of OUT. REGTX_LIBRARY names the folder of libregtx.so.0.
 """
 import ctypes
 import os
@@ -48,7 +48,7 @@ CALLS = {
 
 def library() -> ctypes.CDLL:
     """The library, each call with the types of regtx.h: without these ctypes would cut lengths to an int."""
-    found = ctypes.CDLL(os.path.join(os.environ.get("REGTX_LIBRARY", ""), "libregtx.so"))
+    found = ctypes.CDLL(os.path.join(os.environ.get("REGTX_LIBRARY", ""), "libregtx.so.0"))
     for name, types in CALLS.items():
         call = getattr(found, name)
         call.argtypes, call.restype = types, c_uint32

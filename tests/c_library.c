@@ -1,6 +1,7 @@
 /* A program over libregtx.a, for tests/c_library.py, which says what it is for:
  *
  *     c_library checks                          tries each call; a line for each thing that is wrong
+ *     c_library readers                         threads that read one hive at once, and that edit hives of their own
  *     c_library failing FILE                    the same edits and reads with each allocation refused in turn
  *     c_library dump FILE                       prints a hive as `regtx dump` does
  *     c_library rewrite FILE NEW                opens a hive, and writes it to another file
@@ -19,6 +20,24 @@
 #include <string.h>
 
 /* ---- allocations that fail */
+
+#ifdef __SANITIZE_THREAD__
+/* gcc's ThreadSanitizer has no such calls, which the library's compiler makes */
+void *__tsan_memcpy(void *to, const void *from, size_t len)
+{
+    return memcpy(to, from, len);
+}
+
+void *__tsan_memmove(void *to, const void *from, size_t len)
+{
+    return memmove(to, from, len);
+}
+
+void *__tsan_memset(void *to, int byte, size_t len)
+{
+    return memset(to, byte, len);
+}
+#endif
 
 static long left_until_refusal = -1; /* how many are given before one is refused; negative: none is */
 
@@ -218,13 +237,90 @@ static void add_key(struct text *text, regtx_hive *hive, struct units *path)
     }
 }
 
+/* the same of the value at an index of a cursor's key, in one call */
+static void add_cursor_value(struct text *text, regtx_cursor *cursor, size_t index)
+{
+    char some[32];
+    regtx_value value = {9, 9, 9};
+    uint32_t code = regtx_cursor_value(cursor, index, &value, NULL, 0, NULL, 0);
+    expect("a cursor's value without room", code == (value.name_len + value.len ? REGTX_NO_ROOM : REGTX_OK));
+    size_t name_len = value.name_len, len = value.len;
+    uint16_t *name = taken(__real_malloc(name_len ? 2 * name_len : 1));
+    uint8_t *data = taken(__real_malloc(len ? len : 1));
+    if (len)
+        expect("too little room for data", regtx_cursor_value(cursor, index, &value, name, name_len, data, len - 1) == REGTX_NO_ROOM);
+    if (name_len)
+        expect("too little room for a name", regtx_cursor_value(cursor, index, &value, name, name_len - 1, data, len) == REGTX_NO_ROOM);
+    code = regtx_cursor_value(cursor, index, &value, name, name_len, data, len);
+    expect("a cursor's value", code == REGTX_OK && value.name_len == name_len && value.len == len);
+    add(text, "val ");
+    add_name(text, name, name_len);
+    snprintf(some, sizeof some, " %u %s", value.type, len ? "" : "-");
+    add(text, some);
+    add_hex(text, data, len);
+    add(text, "\n");
+    free(name);
+    free(data);
+}
+
+/* the same of a cursor's key, to which a path leads, and all below it; the cursor is there again afterwards */
+static void add_cursor_key(struct text *text, regtx_cursor *cursor, const struct text *path)
+{
+    char some[32];
+    regtx_info info;
+    regtx_value none;
+    size_t stepped = 0, len;
+    expect("a cursor's key", regtx_cursor_key(cursor, &info, name_units.at, MOST_UNITS, &len) == REGTX_OK);
+    add(text, "key 0:");
+    add(text, path->at);
+    snprintf(some, sizeof some, " %llu\n", (unsigned long long)info.time);
+    add(text, some);
+    for (size_t i = 0; i < info.values; i++)
+        add_cursor_value(text, cursor, i);
+    expect("past the last value", regtx_cursor_value(cursor, info.values, &none, NULL, 0, NULL, 0) == REGTX_NOT_FOUND);
+    uint32_t code = regtx_cursor_down(cursor);
+    for (; code == REGTX_OK; code = regtx_cursor_next(cursor), stepped++) {
+        regtx_info below;
+        struct text further = {0};
+        expect("a subkey's name", regtx_cursor_key(cursor, &below, name_units.at, MOST_UNITS, &len) == REGTX_OK);
+        add(&further, path->at);
+        if (path->len)
+            add(&further, "\\");
+        add_name(&further, name_units.at, len);
+        add_cursor_key(text, cursor, &further);
+        drop(&further);
+    }
+    expect("the last subkey", code == REGTX_NOT_FOUND && stepped == info.subkeys);
+    if (stepped)
+        expect("the key above", regtx_cursor_up(cursor) == REGTX_OK);
+}
+
+/* the hive as a cursor at its root tells it */
+static struct text text_by_cursor(regtx_cursor *cursor)
+{
+    struct text text = {0}, path = {0};
+    add(&text, "hive 0\n");
+    add(&path, "");
+    add_cursor_key(&text, cursor, &path);
+    expect("the root", regtx_cursor_up(cursor) == REGTX_NOT_FOUND && regtx_cursor_next(cursor) == REGTX_NOT_FOUND);
+    drop(&path);
+    return text;
+}
+
+/* the hive as calls with paths tell it, which a cursor tells too */
 static struct text text_of(regtx_hive *hive)
 {
     static struct units path;
+    regtx_cursor cursor = {0};
     struct text text = {0};
     path.len = 0;
     add(&text, "hive 0\n");
     add_key(&text, hive, &path);
+    EXPECT(regtx_cursor_open(hive, NULL, 0, &cursor) == REGTX_OK);
+    struct text same = text_by_cursor(&cursor);
+    EXPECT(is_same(&text, &same));
+    drop(&same);
+    regtx_cursor_close(&cursor);
     return text;
 }
 
@@ -558,6 +654,76 @@ static void check_null(void)
     regtx_hive_close(&hive);
 }
 
+/* what a cursor's key has, if its name is this one */
+static bool is_at(regtx_cursor *cursor, const char *name, uint64_t subkeys, uint64_t values, uint64_t time)
+{
+    regtx_info info;
+    uint16_t units[32];
+    size_t len;
+    bool is_so = regtx_cursor_key(cursor, &info, units, 32, &len) == REGTX_OK && len == strlen(name);
+    for (size_t i = 0; is_so && i < len; i++)
+        is_so = units[i] == (unsigned char)name[i];
+    return is_so && info.subkeys == subkeys && info.values == values && info.time == time;
+}
+
+static void check_closed_cursor(void)
+{
+    regtx_hive hive = {0};
+    regtx_cursor cursor = {0};
+    regtx_info info = {1, 2, 3};
+    regtx_value value = {4, 5, 6};
+    size_t len = 5;
+    regtx_cursor_close(&cursor);
+    EXPECT(regtx_cursor_open(&hive, PATH(""), &cursor) == REGTX_NOT_OPEN);
+    EXPECT(regtx_cursor_down(&cursor) == REGTX_NOT_OPEN && regtx_cursor_next(&cursor) == REGTX_NOT_OPEN);
+    EXPECT(regtx_cursor_up(&cursor) == REGTX_NOT_OPEN);
+    EXPECT(regtx_cursor_key(&cursor, &info, NULL, 0, &len) == REGTX_NOT_OPEN && info.values == 2 && len == 5);
+    EXPECT(regtx_cursor_value(&cursor, 0, &value, NULL, 0, NULL, 0) == REGTX_NOT_OPEN && value.name_len == 5);
+}
+
+/* a cursor sees the hive as it was when it was opened, at a key and below it */
+static void check_cursors(void)
+{
+    regtx_hive hive = {0};
+    regtx_cursor cursor = {0}, late = {0};
+    regtx_info info = {1, 2, 3};
+    regtx_value value = {4, 5, 6};
+    uint16_t units[8] = {7};
+    uint8_t bytes[8] = {7};
+    size_t made, len = 9;
+    EXPECT(regtx_hive_new(&hive) == REGTX_OK);
+    EXPECT(regtx_hive_create_key(&hive, PATH("A\\Bb\\C"), 1, &made) == REGTX_OK);
+    EXPECT(regtx_hive_create_key(&hive, PATH("A\\D"), 2, &made) == REGTX_OK);
+    EXPECT(regtx_hive_create_key(&hive, PATH("E"), 3, &made) == REGTX_OK);
+    EXPECT(regtx_hive_set_value(&hive, PATH("A\\D"), NAME("Nm"), 4, (const uint8_t *)"data", 4, 5) == REGTX_OK);
+    EXPECT(regtx_cursor_open(&hive, PATH("a"), &cursor) == REGTX_OK && is_at(&cursor, "A", 2, 0, 2));
+    EXPECT(regtx_cursor_open(&hive, PATH("None"), &cursor) == REGTX_NOT_FOUND && is_at(&cursor, "A", 2, 0, 2));
+    EXPECT(regtx_cursor_open(&hive, PATH("A\\\\B"), &cursor) == REGTX_BAD_NAME && is_at(&cursor, "A", 2, 0, 2));
+    EXPECT(regtx_cursor_open(&hive, path_units.at, 1030, &cursor) == REGTX_BAD_NAME && is_at(&cursor, "A", 2, 0, 2));
+    EXPECT(regtx_cursor_up(&cursor) == REGTX_NOT_FOUND && regtx_cursor_next(&cursor) == REGTX_NOT_FOUND);
+    EXPECT(is_at(&cursor, "A", 2, 0, 2));
+    EXPECT(regtx_cursor_down(&cursor) == REGTX_OK && is_at(&cursor, "Bb", 1, 0, 1));
+    EXPECT(regtx_cursor_key(&cursor, &info, units, 1, &len) == REGTX_NO_ROOM && len == 2 && info.subkeys == 1 && units[0] == 7);
+    EXPECT(regtx_cursor_down(&cursor) == REGTX_OK && is_at(&cursor, "C", 0, 0, 1));
+    EXPECT(regtx_cursor_down(&cursor) == REGTX_NOT_FOUND && regtx_cursor_next(&cursor) == REGTX_NOT_FOUND);
+    EXPECT(is_at(&cursor, "C", 0, 0, 1) && regtx_cursor_up(&cursor) == REGTX_OK && is_at(&cursor, "Bb", 1, 0, 1));
+    EXPECT(regtx_hive_delete_tree(&hive, PATH("A"), 9) == REGTX_OK);
+    EXPECT(regtx_cursor_open(&hive, PATH(""), &late) == REGTX_OK && is_at(&late, "ROOT", 1, 0, 9));
+    regtx_hive_close(&hive);
+    EXPECT(regtx_cursor_next(&cursor) == REGTX_OK && is_at(&cursor, "D", 0, 1, 5));
+    EXPECT(regtx_cursor_value(&cursor, 1, &value, units, 8, bytes, 8) == REGTX_NOT_FOUND && value.type == 4 && value.len == 6);
+    EXPECT(regtx_cursor_value(&cursor, 0, &value, units, 1, bytes, 8) == REGTX_NO_ROOM && units[0] == 7 && bytes[0] == 7);
+    EXPECT(value.type == 4 && value.name_len == 2 && value.len == 4);
+    EXPECT(regtx_cursor_value(&cursor, 0, &value, units, 8, bytes, 3) == REGTX_NO_ROOM && units[0] == 7 && bytes[0] == 7);
+    EXPECT(regtx_cursor_value(&cursor, 0, &value, units, 2, bytes, 4) == REGTX_OK && units[1] == 'm' && bytes[4] == 0);
+    EXPECT(memcmp(bytes, "data", 4) == 0 && regtx_cursor_next(&cursor) == REGTX_NOT_FOUND);
+    EXPECT(regtx_cursor_up(&cursor) == REGTX_OK && is_at(&cursor, "A", 2, 0, 2));
+    EXPECT(regtx_cursor_down(&late) == REGTX_OK && is_at(&late, "E", 0, 0, 3) && regtx_cursor_next(&late) == REGTX_NOT_FOUND);
+    regtx_cursor_close(&cursor);
+    regtx_cursor_close(&cursor);
+    regtx_cursor_close(&late);
+}
+
 static void check_texts(void)
 {
     static const struct {
@@ -615,6 +781,73 @@ static void check_threads(void)
     }
 }
 
+/* walks a hive by a cursor that the thread is given, and counts its keys and values, without buffers that are shared */
+struct reader {
+    regtx_cursor cursor;
+    size_t keys, values;
+};
+
+static void count_below(struct reader *reader)
+{
+    regtx_info info = {0, 0, 0};
+    regtx_value value;
+    uint16_t name[64];
+    uint8_t data[64];
+    size_t len;
+    reader->keys += regtx_cursor_key(&reader->cursor, &info, name, 64, &len) == REGTX_OK;
+    for (size_t i = 0; i < info.values; i++)
+        reader->values += regtx_cursor_value(&reader->cursor, i, &value, name, 64, data, 64) == REGTX_OK;
+    if (regtx_cursor_down(&reader->cursor) != REGTX_OK)
+        return;
+    do
+        count_below(reader);
+    while (regtx_cursor_next(&reader->cursor) == REGTX_OK);
+    regtx_cursor_up(&reader->cursor);
+}
+
+static void *on_reader(void *given)
+{
+    for (int round = 0; round < 20; round++)
+        count_below(given);
+    return given;
+}
+
+/* two threads read one hive at once, each by its cursor, while it is edited here, and after it is closed */
+static void check_readers(void)
+{
+    static const uint16_t keys[] = {'K', '\\', 'A', '\\', 'B'};
+    regtx_hive hive = {0};
+    struct reader readers[2] = {{{{0}}, 0, 0}, {{{0}}, 0, 0}};
+    pthread_t threads[2];
+    uint16_t path[5];
+    size_t made, failed = 0;
+    memcpy(path, keys, sizeof keys);
+    EXPECT(regtx_hive_new(&hive) == REGTX_OK);
+    for (uint8_t i = 0; i < 100; i++) {
+        path[2] = (uint16_t)('A' + i % 20);
+        path[4] = (uint16_t)('A' + i / 20);
+        failed += regtx_hive_create_key(&hive, path, 5, i, &made) != REGTX_OK;
+        failed += regtx_hive_set_value(&hive, path, 5, path, 3, i, &i, 1, i) != REGTX_OK;
+    }
+    for (int i = 0; i < 2; i++) {
+        EXPECT(regtx_cursor_open(&hive, NULL, 0, &readers[i].cursor) == REGTX_OK);
+        EXPECT(pthread_create(&threads[i], NULL, on_reader, &readers[i]) == 0);
+    }
+    for (uint8_t i = 0; i < 100; i++) {
+        path[2] = (uint16_t)('A' + i % 20);
+        path[4] = (uint16_t)('A' + i / 20);
+        failed += regtx_hive_delete_key(&hive, path, 5, i) != REGTX_OK;
+        failed += regtx_hive_set_value(&hive, path, 3, path, 3, i, &i, 1, i) != REGTX_OK;
+    }
+    EXPECT(failed == 0);
+    regtx_hive_close(&hive);
+    for (int i = 0; i < 2; i++) {
+        EXPECT(pthread_join(threads[i], NULL) == 0);
+        EXPECT(readers[i].keys == 20 * (2 + 20 + 100) && readers[i].values == 20 * 100);
+        regtx_cursor_close(&readers[i].cursor);
+    }
+}
+
 /* ---- stack */
 
 enum { STACK = 768 << 10, LEVELS = 512, BESIDE = 17 };
@@ -642,7 +875,14 @@ static void *on_small_stack(void *given)
     size_t len, failed = 0;
     for (size_t i = 0; i < 2 * LEVELS; i++)
         path[i] = i % 2 ? '\\' : 'A' + BESIDE - 1;
+    regtx_cursor cursor = {0};
     uint8_t *bytes = written(hive, &len);
+    failed += regtx_cursor_open(hive, path, 1, &cursor) != REGTX_OK;
+    for (size_t at = 1; at < LEVELS; at++) {
+        failed += regtx_cursor_down(&cursor) != REGTX_OK;
+        for (size_t i = 1; i < BESIDE; i++)
+            failed += regtx_cursor_next(&cursor) != REGTX_OK;
+    }
     failed += regtx_hive_set_value(hive, path, 2 * LEVELS - 1, path, 1, 3, bytes, 100000, 2) != REGTX_OK;
     failed += regtx_hive_delete_value(hive, path, 2 * LEVELS - 1, path, 1, 3) != REGTX_OK;
     failed += regtx_hive_delete_key(hive, path, 2 * LEVELS - 1, 4) != REGTX_OK;
@@ -652,11 +892,12 @@ static void *on_small_stack(void *given)
     failed += regtx_hive_open(bytes, len, hive) != REGTX_OK;
     regtx_hive_close(&again);
     regtx_hive_close(hive);
+    regtx_cursor_close(&cursor);
     free(bytes);
     return failed ? NULL : given;
 }
 
-/* the deepest hive on a thread with the stack that the header names */
+/* the deepest hive on a thread with three quarters of the stack that the header names */
 static void check_stack(void)
 {
     regtx_hive hive = {0};
@@ -676,6 +917,23 @@ static void check_stack(void)
 
 static uint8_t *given;
 static size_t given_len;
+
+/* a cursor goes to the first key without subkeys; a step that is refused leaves it where it is */
+static uint32_t walked(regtx_hive *hive)
+{
+    regtx_cursor cursor = {0};
+    uint32_t code = regtx_cursor_open(hive, PATH(""), &cursor);
+    for (size_t levels = 0; code == REGTX_OK; levels++) {
+        code = regtx_cursor_down(&cursor);
+        if (code == REGTX_OK)
+            continue;
+        for (; levels; levels--)
+            EXPECT(regtx_cursor_up(&cursor) == REGTX_OK);
+        EXPECT(regtx_cursor_up(&cursor) == REGTX_NOT_FOUND);
+    }
+    regtx_cursor_close(&cursor);
+    return code == REGTX_NOT_FOUND ? REGTX_OK : code;
+}
 
 static uint32_t call_of(int kind, regtx_hive *hive)
 {
@@ -699,6 +957,8 @@ static uint32_t call_of(int kind, regtx_hive *hive)
         return regtx_hive_delete_key(hive, PATH("A long name of a key\\Another\\B"), 6);
     case 7:
         return regtx_hive_delete_tree(hive, PATH("A long name of a key"), 7);
+    case 8:
+        return walked(hive);
     default:
         return regtx_hive_new(hive);
     }
@@ -711,7 +971,7 @@ static void check_failing(const char *name)
     long refused = 0;
     given = file_bytes(name, &given_len);
     EXPECT(regtx_hive_new(&hive) == REGTX_OK);
-    for (int kind = 0; kind < 9; kind++)
+    for (int kind = 0; kind < 10; kind++)
         for (long at = 0;; at++) {
             struct text before = text_of(&hive);
             left_until_refusal = at;
@@ -939,6 +1199,9 @@ int main(int count, char **words)
     else if (count == 6 && strcmp(words[1], "mutate") == 0) {
         seed = strtoull(words[3], NULL, 10);
         mutate(words[2], strtol(words[4], NULL, 10), words[5]);
+    } else if (count == 2 && strcmp(words[1], "readers") == 0) {
+        check_readers();
+        check_threads();
     } else if (count == 2 && strcmp(words[1], "checks") == 0) {
         check_closed();
         check_keys();
@@ -950,6 +1213,9 @@ int main(int count, char **words)
         check_texts();
         check_names();
         check_null();
+        check_closed_cursor();
+        check_cursors();
+        check_readers();
         check_threads();
         check_stack();
     } else

@@ -5,8 +5,10 @@
 
 Each part tells what passed. The last line is 'N passed, N failed', and the status is 0 if none failed.
 
-- calls: each call of the header, what it answers and what it leaves; the example of the crate's page, whose hive libregf reads too if
-  regfinfo is there; the header as C++, if there is a compiler, and beside that of the client.
+- calls: each call of the header, what it answers and what it leaves. Each hive that is read is read twice, by paths and by a cursor.
+  The example of the crate's page, whose hive libregf reads too if regfinfo is there; the header as C++, if there is a compiler, and beside that of the client.
+- races: threads read one hive at once, each by its cursor, while it is edited, under ThreadSanitizer; the library for that is built
+  here, without proofs, if the toolchain is there.
 - memory: calls with each of their allocations refused in turn.
 - hives: hives that the program wrote, and those of other programs: the library tells the tree that `regtx dump` prints. What it
   writes of them is a hive of the same tree, also for libhivex if hivexml is there.
@@ -37,6 +39,7 @@ FLAGS = ["-std=c11", "-pthread", "-Wall", "-Wextra", "-Wpedantic", "-Werror", "-
          "-fsanitize=address,undefined", "-fno-sanitize-recover=all", "-Wl,--wrap=malloc,--wrap=realloc"]
 # what libregf lists of the hive that the page's example writes
 LISTED = ["(key:) ROOT", "(key:) Software", "(key:) Vendor", "(value: 0) Version"]
+THREADS = ["-std=c11", "-pthread", "-Wall", "-Werror", "-g", "-O1", "-fsanitize=thread", "-Wl,--wrap=malloc,--wrap=realloc"]
 EXAMPLE = re.compile(r"^```c\n(.*?)^```$", re.MULTILINE | re.DOTALL)
 
 
@@ -87,6 +90,15 @@ def calls(program, made, folder):
         source = "".join(f'#include "{name}"\n' for name in names) + "int refused = REGTX_NOT_OPEN + REGTX_COMMIT_UNKNOWN + REGTX_FIXED;\n"
         words = ["cc", *FLAGS[:6], "-I", folder, "-I", os.path.join(TOP, "clients", "c"), "-fsyntax-only", "-x", "c", "-"]
         yield expect(f"{names[0]} first", subprocess.run(words, input=source.encode(), capture_output=True).stderr, b"")
+
+
+def races(program):
+    """What ThreadSanitizer says of threads that read one hive."""
+    folder, made = program.at("races"), program.at("c_races")
+    subprocess.run([os.path.join(TOP, "tools", "c_library.py"), "--races", folder], stderr=subprocess.DEVNULL, check=True)
+    source = os.path.join(TOP, "tests", "c_library.c")
+    subprocess.run(["cc", *THREADS, "-I", folder, "-o", made, source, os.path.join(folder, "libregtx.a")], check=True)
+    yield wrong_run("readers", told(made, "readers"))
 
 
 def script():
@@ -185,6 +197,7 @@ def main():
         files = [hive, hive_of(program, "large", long_script()), hive_of_names(program), *hives_of_others(program)]
         finish([
             tell("calls", list(calls(program, made, folder))),
+            *([tell("races", list(races(program)))] if are_there("races", "rt") else []),
             tell("memory", [wrong_run("failing", told(made, "failing", hive))]),
             tell("hives", [wrong_hive(program, made, readers, path) for path in files]),
             tell("heavy", list(heavy(program, made))),

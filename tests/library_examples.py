@@ -5,8 +5,8 @@
 
 Each part tells what passed. The last line is 'N passed, N failed', and the status is 0 if none failed.
 
-- library: what libregtx.so exports, and what it needs; that it gives each number the name that regtx.h gives it.
-- builds: the three, without warnings; the one in C also under AddressSanitizer and over libregtx.so.
+- library: what libregtx.so.0 exports, and what it needs; that it gives each number the name that regtx.h gives it.
+- builds: the three, without warnings; the one in C also under AddressSanitizer and over libregtx.so.0.
 - hives: each prints what `regtx dump` prints of a hive, spelled as the head of hive_edit.c says. What each writes is the same tree
   with the one value, and the key's time: new values, values in another spelling, OUT over IN.
 - refusals: keys that aren't there, names that no call takes, damaged files, files and folders that can't be read or written, full
@@ -100,11 +100,10 @@ def names(so, header):
 
 def library(folder):
     """What is wrong with the symbols of the shared object, and with what it needs."""
-    so = os.path.join(folder, "libregtx.so")
+    so = os.path.join(folder, "libregtx.so.0")
     with open(os.path.join(folder, "regtx.h"), encoding="utf-8") as file:
         header = file.read()
     declared = re.findall(r"^(?:uint32_t|void|bool) (regtx_\w+)\(", header, re.MULTILINE)
-    yield expect("its link", os.readlink(so), "libregtx.so.0")
     symbols = [line.split()[-2:] for line in lines_of("nm", "-D", so)]
     exported = sorted(name for kind, name in symbols if kind not in "Uw")
     yield expect("exports", exported, sorted(["REGTX_0.9", *(f"{name}@@REGTX_0.9" for name in declared)]))
@@ -141,7 +140,7 @@ def builds(program, folder):
     archive = os.path.join(folder, "libregtx.a")
     plain = compiled(program, folder, "in_c", archive)
     sanitized = compiled(program, folder, "sanitized", *SANITIZED, archive)
-    loading = compiled(program, folder, "loading", "-L", folder, "-lregtx")
+    loading = compiled(program, folder, "loading", "-L", folder, "-l:libregtx.so.0")
     rust = packaged(program, folder)
     python = [sys.executable, "-B", os.path.join(EXAMPLES, "hive_edit.py")]
     examples = [

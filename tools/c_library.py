@@ -1,9 +1,9 @@
 #!/usr/bin/env python3
 """Makes the library for programs in C:
 
-    tools/c_library.py FOLDER                writes libregtx.a, libregtx.so.0 and regtx.h to a folder, and libregtx.so, which leads to
-                                             the second
+    tools/c_library.py FOLDER                writes libregtx.a, libregtx.so.0 and regtx.h to a folder
     tools/c_library.py --quick FOLDER        the same in a minute, without proving anything
+    tools/c_library.py --races FOLDER        writes libregtx.a and regtx.h so, for a program that is linked by cc -fsanitize=thread
     tools/c_library.py --if-stale FOLDER     does so if one of them is missing, or older than a file that it is made of: without
                                              proofs, unless `rt ci` has proved the crates below
     tools/c_library.py --is-proved FOLDER    ends with status 0 if the library there was proved, by what its regtx_version tells
@@ -60,10 +60,10 @@ def build(kit, graph, own):
     return f"addlib {ARCHIVE}"
 
 
-def build_quick(kit, graph, folder):
-    """Compiles the library in a folder without proofs. Answers the line by which `ar` takes it."""
+def build_quick(kit, graph, folder, races=False):
+    """Compiles the library in a folder without proofs, for ThreadSanitizer if that is asked. Answers the line by which `ar` takes it."""
     print("regtx: building the library for C without its proofs; this takes a minute, or three beside other work", file=sys.stderr, flush=True)
-    made, why = quick_object(CRATE, graph, kit, folder)
+    made, why = quick_object(CRATE, graph, kit, folder, races)
     if made is None:
         sys.exit(f"regtx: the library for C could not be built without its proofs:\n{why[-3000:]}")
     return f"addmod {made}"
@@ -74,18 +74,13 @@ def link(folder):
     subprocess.run(["cc", "-shared", "-o", f"{folder}/{SHARED}", f"-Wl,-soname,{SHARED}", "-Wl,-z,defs",
                     "-Wl,--version-script=/dev/stdin", "-Wl,--whole-archive", f"{folder}/libregtx.a", "-Wl,--no-whole-archive"],
                    input=VERSIONS, text=True, check=True)
-    short = f"{folder}/libregtx.so"
-    if os.path.lexists(short):
-        os.remove(short)
-    os.symlink(SHARED, short)
 
 
 def write(to, kit, added):
-    """Writes the files to a folder, of what `ar` takes by a line."""
+    """Writes the archive and the header to a folder, of what `ar` takes by a line."""
     os.makedirs(to, exist_ok=True)
     lines = [f"create {to}/libregtx.a", added, f"addlib {kit}/c/liblibc_c.a", "save", "end"]
     subprocess.run(["ar", "-M"], input="\n".join(lines) + "\n", text=True, check=True)
-    link(to)
     shutil.copyfile(HEADER, f"{to}/regtx.h")
 
 
@@ -98,7 +93,7 @@ def is_proved(folder):
 
 def main():
     words = sys.argv[1:]
-    how = words.pop(0) if words[:1] in (["--quick"], ["--if-stale"], ["--is-proved"]) else None
+    how = words.pop(0) if words[:1] in (["--quick"], ["--races"], ["--if-stale"], ["--is-proved"]) else None
     if len(words) != 1 or words[0].startswith("-"):
         print(__doc__, file=sys.stderr)
         return 2
@@ -112,8 +107,12 @@ def main():
         sys.exit("regtx: the library for C isn't built yet, and the Rattle toolchain that builds it is missing: no rt on the path")
     began, kit = time.time(), kit_folder()
     with tempfile.TemporaryDirectory(prefix="regtx-library-") as folder:
+        if how == "--races":
+            write(to, kit, build_quick(kit, graph, folder, True))
+            return 0
         is_quick = how == "--quick" or how == "--if-stale" and not all(is_built(crate) for crate in own)
         write(to, kit, build_quick(kit, graph, folder) if is_quick else build(kit, graph, own))
+    link(to)
     for path in written(to):
         # a file that changed while it was built is newer
         os.utime(path, (began, began))

@@ -2,7 +2,7 @@
 //!
 //! The promises of the calls themselves would be stated at each step of a caller, though none here relies on them.
 use crate::trouble::Trouble;
-use histories::Start;
+use histories::{Permission, Start};
 use ktm_calls::{Key, Registry, Session};
 use refusals::Refusal;
 use reg_names::{Name, Path};
@@ -48,15 +48,18 @@ pub fn key(alloc: Global, hive: u8, text: &[u8]) -> Result<Key, Refusal> {
 impl<'a, E: StoreEngine, O: Start, R: Wait> Calls<'a, E, O, R> {
     /// Opens a session.
     pub fn start(&self) -> Result<Session<O>, Trouble> {
-        match self.registry.session(self.rt) {
+        // these programs have no proofs, and so no permissions: they ask with none
+        let asker = self.registry.asker(self.rt, Permission::none());
+        match self.registry.session(self.rt, asker) {
             Ok((session, _told)) => Ok(session),
-            Err(denied) => Err(Trouble::from(denied)),
+            Err((denied, _asker)) => Err(Trouble::from(denied)),
         }
     }
 
     /// Ends a session.
     pub fn end(&self, session: Session<O>) -> Result<(), Trouble> {
-        match self.registry.end_session(self.rt, session) {
+        let (_asker, told) = self.registry.end_session(self.rt, session);
+        match told {
             Ok(_told) => Ok(()),
             Err(denied) => Err(Trouble::from(denied)),
         }

@@ -49,10 +49,10 @@ fn measure_shared<
     work: Work,
     syncs: &AtomicU64,
 ) -> Result<(), Trouble> {
-    let (requests, _share) = Blank::new(1).open::<O>();
+    let (requests, share) = Blank::new(1).open::<O>();
     let requests = RequestCount::new(requests);
     let events = EventCount::open();
-    let asker = Asker::first(&events, &seen, Permission::shared());
+    let asker = Asker::first(&events, &seen, Permission::sole(share));
     let registry = match Registry::<E, O>::new(alloc, rt, engine, events, requests, count, seen) {
         Ok(registry) => registry,
         Err((why, _engine)) => return Err(Trouble::Refused(why)),

@@ -26,16 +26,23 @@
  * refusals of a call are listed in their order: if several are true, the first of them is told. REGTX_NO_MEMORY may come
  * in place of any answer of a call that takes memory.
  *
+ * Cursors. A cursor stands at a key of a hive and is stepped from key to key, without paths. It keeps the hive as it was
+ * when the cursor was opened, at no cost but for what changes later. So an edit of the hive isn't seen by it, nor is that
+ * the hive is closed; a new cursor sees the hive of then. Each step and each question takes about the same time, however
+ * large the hive is. So a walk takes as long as what it reads is large.
+ *
  * What the caller owes. No other pointer is null. What one call is given doesn't overlap. A handle may be moved, but of
- * two copies only one may be used from then on. Its fields are never touched. `malloc`, `realloc` and `free` are of one
- * allocator. No call is made in a signal handler. 768 KiB of stack are enough for each call, as deep as a hive may be.
+ * two copies only one may be used from then on. Its fields are never touched. All this goes for cursors too. `malloc`,
+ * `realloc` and `free` are of one allocator. No call is made in a signal handler. 1 MiB of stack is enough for each call,
+ * as deep as a hive may be.
  *
- * Threads. A handle is given to one call at a time. It may be given to another thread, if a lock, or the start or the end
- * of a thread, lies between the two calls. Several threads may use hives of their own at once. Calls that only tell
- * something write to the handle too, and so take none that is `const`: a lock has to keep them apart as well.
+ * Threads. A handle, or a cursor, is given to one call at a time. It may be given to another thread, if a lock, or the
+ * start or the end of a thread, lies between the two calls. Calls that only tell something write to it too, and so take
+ * none that is `const`: a lock has to keep them apart as well. Several threads may use hives and cursors of their own at
+ * once, also cursors of one hive. So threads read one hive at once, each by its cursor, while another one edits the hive.
  *
- * The library owns each open hive, until its handle is closed or another hive is opened by it. It keeps no pointer of
- * the caller beyond a call, and hands out none of its own.
+ * The library owns each open hive, until its handle is closed or another hive is opened by it, and each open cursor
+ * alike. It keeps no pointer of the caller beyond a call, and hands out none of its own.
  */
 #ifndef REGTX_H
 #define REGTX_H
@@ -57,7 +64,7 @@ extern "C" {
 enum {
     REGTX_OK = 0,
     REGTX_NO_MEMORY = 1,   /* memory was asked for and not given */
-    REGTX_NOT_FOUND = 2,   /* there is no such key or value, or the index is past the last one */
+    REGTX_NOT_FOUND = 2,   /* there is no such key or value, or the index or the step is past the last one */
     REGTX_HAS_SUBKEYS = 3, /* the key to be deleted has subkeys */
     REGTX_BAD_NAME = 4,    /* a path or a name breaks the rules of names above */
     REGTX_TOO_DEEP = 5,    /* a path has more than 512 names, or one call would create more than 32 keys */
@@ -78,7 +85,7 @@ enum {
 #endif
 
 enum {
-    REGTX_NOT_OPEN = 100,  /* no hive is open by this handle */
+    REGTX_NOT_OPEN = 100,  /* no hive is open by this handle, or the cursor isn't open */
     REGTX_NO_ROOM = 101,   /* the buffer is too small */
     /* Damage: the bytes are no whole hive. If they have several faults, any one is told. */
     REGTX_TRUNCATED = 1501,  /* they are fewer than they say */
@@ -104,12 +111,24 @@ typedef struct {
     } held;
 } regtx_hive;
 
+/* An open cursor, or none. Set it to zero before its first use: `regtx_cursor cursor = {0};`. */
+typedef struct {
+    regtx_hive at;
+} regtx_cursor;
+
 /* What a key has. `time` is when it was last written, in units of 100 nanoseconds since the year 1601. */
 typedef struct {
     uint64_t subkeys;
     uint64_t values;
     uint64_t time;
 } regtx_info;
+
+/* What a value has beside its name and its data: its type, how many units the name has, and how many bytes the data. */
+typedef struct {
+    uint32_t type;
+    size_t name_len;
+    size_t len;
+} regtx_value;
 
 /* Tells the version of the library, as REGTX_VERSION is that of the header, and whether the library was proved. Takes no
  * memory. */
@@ -152,6 +171,36 @@ uint32_t regtx_hive_value_at(regtx_hive *hive, const uint16_t *path, size_t path
 uint32_t regtx_hive_value(regtx_hive *hive, const uint16_t *path, size_t path_len,
                           const uint16_t *name, size_t name_len,
                           uint32_t *type, uint8_t *data, size_t room, size_t *len);
+
+/* Opens a cursor at the key of a path. The cursor stays at this key and below it. What was open by the cursor before is
+ * closed; if the call is refused, it stays open.
+ * Refused: as regtx_hive_info. */
+uint32_t regtx_cursor_open(regtx_hive *hive, const uint16_t *path, size_t path_len, regtx_cursor *cursor);
+
+/* Closes a cursor, and frees its memory. A closed cursor may be closed again. */
+void regtx_cursor_close(regtx_cursor *cursor);
+
+/* Steps to the first subkey of the cursor's key, in the order of names.
+ * Refused: REGTX_NOT_OPEN, REGTX_NOT_FOUND if it has none; then the cursor stays. */
+uint32_t regtx_cursor_down(regtx_cursor *cursor);
+
+/* Steps to the next subkey of the key above, in the order of names.
+ * Refused: REGTX_NOT_OPEN, REGTX_NOT_FOUND if this is the last one, or where the cursor was opened; then it stays. */
+uint32_t regtx_cursor_next(regtx_cursor *cursor);
+
+/* Steps to the key above. Takes no memory.
+ * Refused: REGTX_NOT_OPEN, REGTX_NOT_FOUND where the cursor was opened; then it stays. */
+uint32_t regtx_cursor_up(regtx_cursor *cursor);
+
+/* Tells what the cursor's key has, and its name as spelled. `*info` is also set with REGTX_NO_ROOM. Takes no memory.
+ * Refused: REGTX_NOT_OPEN, REGTX_NO_ROOM. */
+uint32_t regtx_cursor_key(regtx_cursor *cursor, regtx_info *info, uint16_t *name, size_t room, size_t *len);
+
+/* Tells all of the value at an index of the cursor's key, in the order of names. Indexes begin at 0. With REGTX_NO_ROOM
+ * one of the rooms is too small: `*value` is set, and both buffers stay. Takes no memory.
+ * Refused: REGTX_NOT_OPEN, REGTX_NOT_FOUND, REGTX_NO_ROOM. */
+uint32_t regtx_cursor_value(regtx_cursor *cursor, size_t index, regtx_value *value, uint16_t *name, size_t name_room,
+                            uint8_t *data, size_t room);
 
 /* Creates the key at a path, and each key that is missing on the way to it. `*made` tells how many were made: 0 if the
  * key was there, and then nothing changes. New keys have the time, and the security descriptor of the last key on the way
@@ -265,6 +314,25 @@ static inline uint32_t regtx_hive_value_or_null(regtx_hive *hive, const uint16_t
                             name_len, type, regtx_hive_byte_room(data, room), room, len);
 }
 
+static inline uint32_t regtx_cursor_open_or_null(regtx_hive *hive, const uint16_t *path, size_t path_len,
+                                                 regtx_cursor *cursor)
+{
+    return regtx_cursor_open(hive, regtx_hive_units(path, path_len), path_len, cursor);
+}
+
+static inline uint32_t regtx_cursor_key_or_null(regtx_cursor *cursor, regtx_info *info, uint16_t *name, size_t room,
+                                                size_t *len)
+{
+    return regtx_cursor_key(cursor, info, regtx_hive_unit_room(name, room), room, len);
+}
+
+static inline uint32_t regtx_cursor_value_or_null(regtx_cursor *cursor, size_t index, regtx_value *value,
+                                                  uint16_t *name, size_t name_room, uint8_t *data, size_t room)
+{
+    return regtx_cursor_value(cursor, index, value, regtx_hive_unit_room(name, name_room), name_room,
+                              regtx_hive_byte_room(data, room), room);
+}
+
 static inline uint32_t regtx_hive_create_key_or_null(regtx_hive *hive, const uint16_t *path, size_t path_len,
                                                      uint64_t time, size_t *made)
 {
@@ -319,6 +387,9 @@ static inline uint32_t regtx_code_name_or_null(uint32_t code, uint8_t *name, siz
 #define regtx_hive_value_name_at regtx_hive_value_name_at_or_null
 #define regtx_hive_value_at regtx_hive_value_at_or_null
 #define regtx_hive_value regtx_hive_value_or_null
+#define regtx_cursor_open regtx_cursor_open_or_null
+#define regtx_cursor_key regtx_cursor_key_or_null
+#define regtx_cursor_value regtx_cursor_value_or_null
 #define regtx_hive_create_key regtx_hive_create_key_or_null
 #define regtx_hive_delete_key regtx_hive_delete_key_or_null
 #define regtx_hive_delete_tree regtx_hive_delete_tree_or_null

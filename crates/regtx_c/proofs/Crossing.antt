@@ -21,6 +21,8 @@ use Rattle.reg_tree_parts.specs.contracts.value.Value as Value
 use Rattle.reg_tree_parts.specs.contracts.values.Values as Values
 use Rattle.reg_tree_parts.proofs.node.Node.TheLaws.TheKnot as knot
 use Rattle.reg_tree.specs.contracts.tree.Tree as Tree
+use Rattle.regtx_c.specs.contracts.block.Block as Block
+use Rattle.regtx_c.specs.contracts.block.Step as Step
 use Rattle.regtx_c.specs.Held.{Maybe, freed, held}
 
 name_send : IsSend Name.the_field.row
@@ -93,15 +95,24 @@ node_send = knot.both_send-Node (search sendable) key_send map_send (search send
 node_sync : IsSync Node.the_row
 node_sync = knot.both_sync-Node (search sendable) key_send map_send (search sendable) key_sync map_sync
 
-tree_send : IsSend Tree.the_row
+tree_send : IsSend Tree.the_field.row
 tree_send = search (node_send, node_sync, std.crosses, sendable) depth 40
 
-freed_keyless : (p : Ptr) → Keyless (freed (raw (lone (Tree.the_row).mir)) p)
-freed_keyless p = std.frees.frees (record { memory = record { seal = tt } }) (raw (lone (Tree.the_row).mir)) p
+node_field_send : IsSend Node.the_field.row
+node_field_send = node_send
 
-boxed_keyless : (p : Ptr) (x : (Tree.the_row).Denot) → Keyless (box_owns freed Tree.the_row p x)
+step_send : IsSend Step.the_field.row
+step_send = search (node_field_send, std.crosses, sendable) depth 40
+
+block_send : IsSend Block.the_row
+block_send = search (tree_send, step_send, std.crosses, sendable) depth 40
+
+freed_keyless : (p : Ptr) → Keyless (freed (raw (lone (Block.the_row).mir)) p)
+freed_keyless p = std.frees.frees (record { memory = record { seal = tt } }) (raw (lone (Block.the_row).mir)) p
+
+boxed_keyless : (p : Ptr) (x : (Block.the_row).Denot) → Keyless (box_owns freed Block.the_row p x)
 boxed_keyless null_ptr x = (tt, freed_keyless null_ptr)
-boxed_keyless (block_ptr b o) x = (part_keyless Tree.the_row tree_send full_share x b o, freed_keyless (block_ptr b o))
+boxed_keyless (block_ptr b o) x = (part_keyless Block.the_row block_send full_share x b o, freed_keyless (block_ptr b o))
 
 pub held_keyless : (p : Ptr) (xs : Maybe) → Keyless (held p xs)
 held_keyless p [] = tt

@@ -6,3 +6,6 @@ pub mod Numbered
 pub mod Crossing
 pub mod NewHives
 pub mod Deletions
+pub mod Ways
+pub mod Parts
+pub mod CursorAnswers

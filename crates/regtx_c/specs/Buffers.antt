@@ -1,5 +1,5 @@
 -- How a list that a caller asks for gets into a buffer of the caller.
-use Rattle.std.specs.Prelude.{◌≡◌, ◌⊎◌, ℕ, nat_le, List, ◌++◌, length, drop, Result, Ok, Err, MatchBool}
+use Rattle.std.specs.Prelude.{◌≡◌, ◌⊎◌, ◌&&◌, ℕ, nat_le, List, ◌++◌, length, drop, Result, Ok, Err, MatchBool}
 use Rattle.reg_tree_parts.specs.declared.value.Value.{Value}
 use Rattle.regtx_c.specs.declared.codes.TheConstants.{OK, NO_MEMORY, NO_ROOM}
 
@@ -9,6 +9,14 @@ abbrev pub IsCopied : {X : Type 0} → List X → List X → List X → ℕ → 
 IsCopied found before after len code =
     (len ≡ length found)
     × MatchBool (nat_le (length found) (length before)) ((code ≡ OK) × (after ≡ found ++ drop (length found) before)) ((code ≡ NO_ROOM) × (after ≡ before))
+
+-- Two lists are copied, each to a buffer of its own, if there is room for both. Else both buffers stay, and the number says
+-- so.
+abbrev pub AreCopied : {X Y : Type 0} → List X → List Y → List X → List X → List Y → List Y → ℕ → Type 0
+AreCopied one two one_before one_after two_before two_after code =
+    MatchBool (nat_le (length one) (length one_before) && nat_le (length two) (length two_before))
+    ((code ≡ OK) × (one_after ≡ one ++ drop (length one) one_before) × (two_after ≡ two ++ drop (length two) two_before))
+    ((code ≡ NO_ROOM) × (one_after ≡ one_before) × (two_after ≡ two_before))
 
 -- the list that a question comes to is copied; or the number says why there is none, and nothing is written
 abbrev pub Copies : {X : Type 0} → Result (List X) ℕ → List X → List X → ℕ → ℕ → ℕ → Type 0

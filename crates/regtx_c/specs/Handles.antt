@@ -1,5 +1,5 @@
 -- What a handle of C has, and what a call comes to by it.
-use Rattle.std.specs.Prelude.{ℕ, Option, Some, None, Result, Ok, Err}
+use Rattle.std.specs.Prelude.{ℕ, Option, Some, None, Result, Ok, Err, option_map}
 use Rattle.refusals.specs.declared.refusal.Refusal.{Refusal}
 use Rattle.reg_tree.specs.Maps.{TreeMap}
 use Rattle.regtx_c.specs.declared.codes.TheConstants.{NOT_OPEN}
@@ -9,7 +9,7 @@ use Rattle.regtx_c.specs.Held.{first}
 
 -- the tree of the hive that is open, if one is
 abbrev pub tree_in : Handle → Option TreeMap
-tree_in handle = first handle.held.hives
+tree_in handle = option_map (λ block. block.tree) (first handle.held.blocks)
 
 -- an answer in which a refusal is its number
 abbrev pub coded : {X : Type 0} → Result X Refusal → Result X ℕ

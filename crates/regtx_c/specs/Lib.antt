@@ -11,3 +11,7 @@ pub mod CodeNames
 pub mod FixedKeys
 pub mod FixedKeyLaws
 pub mod Deletions
+pub mod Parts
+pub mod Places
+pub mod Ways
+pub mod Cursors

@@ -6,6 +6,7 @@ ghost use Rattle.reg_tree.specs.Maps.{is_there, row};
 ghost use Rattle.regtx_c.specs.Handles.{tree_in};
 ghost use Rattle.regtx_c.specs.Deletions.{row_without, why_kept, DeletesNamed, DeletesOpen, DeletesTreeOrNoMemory};
 
+use crate::block::Block;
 use crate::codes::{NO_MEMORY, NOT_OPEN, OK, code_of};
 use crate::fixed_keys::FixedKeys;
 use crate::handle::{Handle, put, take};
@@ -78,18 +79,18 @@ fn tree_without(
 }
 
 // deletes the key to which the names lead, with all below it
-fn delete_named(alloc: Global, tree: &mut Tree, names: &[Name], time: u64) -> u32
-    ensures { DeletesNamed (folded_path names.now) time tree.old tree.new result }
+fn delete_named(alloc: Global, block: &mut Block, names: &[Name], time: u64) -> u32
+    ensures { DeletesNamed (folded_path names.now) time block.old.tree block.new.tree result }
 {
     let Some((name, further)) = names.split_first() else {
         return code_of(Refusal::Fixed);
     };
-    if let Some(why) = why_kept_at(tree, names) {
+    if let Some(why) = why_kept_at(block.tree(), names) {
         return code_of(why);
     }
-    match tree_without(alloc, tree, name, further, time) {
+    match tree_without(alloc, block.tree(), name, further, time) {
         Ok(made) => {
-            *tree = made;
+            block.set_tree(alloc, made);
             OK
         }
         Err(_) => NO_MEMORY,
@@ -97,14 +98,14 @@ fn delete_named(alloc: Global, tree: &mut Tree, names: &[Name], time: u64) -> u3
 }
 
 // deletes the key at a path with all below it
-fn delete(alloc: Global, tree: &mut Tree, path: &[u16], time: u64) -> u32
-    ensures { DeletesTreeOrNoMemory path.now time tree.old tree.new result }
+fn delete(alloc: Global, block: &mut Block, path: &[u16], time: u64) -> u32
+    ensures { DeletesTreeOrNoMemory path.now time block.old.tree block.new.tree result }
 {
     let names = match names_of(alloc, path) {
         Ok(names) => names,
         Err(why) => return code_of(why),
     };
-    delete_named(alloc, tree, &names, time)
+    delete_named(alloc, block, &names, time)
 }
 
 /// Deletes the key at a path with all keys below it.
@@ -117,10 +118,10 @@ pub extern "C" fn regtx_hive_delete_tree(
 ) -> u32
     ensures { DeletesOpen path.now time (tree_in hive.old) (tree_in hive.new) result }
 {
-    let Some(mut tree) = take(alloc, hive) else {
+    let Some(mut block) = take(alloc, hive) else {
         return NOT_OPEN;
     };
-    let code = delete(alloc, &mut tree, path, time);
-    put(alloc, hive, Some(tree));
+    let code = delete(alloc, &mut block, path, time);
+    put(alloc, hive, Some(block));
     code
 }

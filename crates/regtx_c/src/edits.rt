@@ -4,6 +4,7 @@ ghost use Rattle.refusals.specs.Answers.{IsOrNoMemory};
 ghost use Rattle.regtx_c.specs.Handles.{tree_in};
 ghost use Rattle.regtx_c.specs.Edits.{create_key, delete_key, set_value, delete_value, keys_made, value_place, EditsOrNoMemory, EditsOpen, TellsCount};
 
+use crate::block::Block;
 use crate::codes::{NOT_OPEN, OK, code_of};
 use crate::handle::{Handle, put, take};
 use refusals::Refusal;
@@ -34,15 +35,23 @@ fn write(alloc: Global, tree: &mut Tree, op: Result<Op, Refusal>, time: u64) -> 
     }
 }
 
+// edits the tree of a block, which is at its root then
+fn write_in(alloc: Global, block: &mut Block, op: Result<Op, Refusal>, time: u64) -> u32
+    ensures { EditsOrNoMemory op time block.old.tree block.new.tree result }
+{
+    block.way = Vec::new(alloc);
+    write(alloc, &mut block.tree, op, time)
+}
+
 // edits the tree that is open by an operation, if there is one
 fn edit(alloc: Global, hive: &mut Handle, op: Result<Op, Refusal>, time: u64) -> u32
     ensures { EditsOpen op time (tree_in hive.old) (tree_in hive.new) result }
 {
-    let Some(mut tree) = take(alloc, hive) else {
+    let Some(mut block) = take(alloc, hive) else {
         return NOT_OPEN;
     };
-    let code = write(alloc, &mut tree, op, time);
-    put(alloc, hive, Some(tree));
+    let code = write_in(alloc, &mut block, op, time);
+    put(alloc, hive, Some(block));
     code
 }
 
@@ -72,6 +81,16 @@ fn create(alloc: Global, tree: &mut Tree, path: &[u16], time: u64, made: &mut us
     }
 }
 
+// the same in a block, which is at its root then
+fn create_in(alloc: Global, block: &mut Block, path: &[u16], time: u64, made: &mut usize) -> u32
+    ensures edits { EditsOrNoMemory (create_key path.now) time block.old.tree block.new.tree result }
+    ensures made { result ≡ OK → keys_made path.now block.old.tree ≡ Ok made.new }
+    ensures unmade { result ≢ OK → made.new ≡ made.old }
+{
+    block.way = Vec::new(alloc);
+    create(alloc, &mut block.tree, path, time, made)
+}
+
 /// Creates the key at a path, and each key that is missing on the way to it. How many were made is told: none if the key
 /// is there.
 #[unsafe(no_mangle)]
@@ -85,11 +104,11 @@ pub extern "C" fn regtx_hive_create_key(
     ensures edits { EditsOpen (create_key path.now) time (tree_in hive.old) (tree_in hive.new) result }
     ensures made { TellsCount (tree_in hive.old) (keys_made path.now) result made.old made.new }
 {
-    let Some(mut tree) = take(alloc, hive) else {
+    let Some(mut block) = take(alloc, hive) else {
         return NOT_OPEN;
     };
-    let code = create(alloc, &mut tree, path, time, made);
-    put(alloc, hive, Some(tree));
+    let code = create_in(alloc, &mut block, path, time, made);
+    put(alloc, hive, Some(block));
     code
 }
 

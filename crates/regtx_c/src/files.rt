@@ -91,10 +91,10 @@ pub extern "C" fn regtx_hive_write(
     ensures same { tree_in hive.new ≡ tree_in hive.old }
     ensures copied { CopiesOpen (tree_in hive.old) file.old file.new len.old len.new result }
 {
-    let Some(tree) = take(alloc, hive) else {
+    let Some(block) = take(alloc, hive) else {
         return NOT_OPEN;
     };
-    let code = write(alloc, &tree, file, len);
-    put(alloc, hive, Some(tree));
+    let code = write(alloc, block.tree(), file, len);
+    put(alloc, hive, Some(block));
     code
 }

@@ -1,54 +1,54 @@
 //! An open hive as C holds it: a struct of its own, whose fields no other code changes.
 ghost use Rattle.std.specs.Prelude.{◌≡◌, true, [], ◌∷◌, IfSome, IfNone};
 ghost use Rattle.std.specs.Coded.{coded_list};
-ghost use Rattle.reg_tree.specs.contracts.tree.Tree.{the_row};
+ghost use Rattle.regtx_c.specs.contracts.block.Block.{the_row};
 ghost use Rattle.regtx_c.specs.Held.{Maybe, has_one, first};
 
+use crate::block::Block;
 use crate::loose::Loose;
-use reg_tree::Tree;
 use std::alloc::Global;
 use std::marker::Model;
 use std::mem::replace;
 use std::ptr::null_mut;
 
-/// The block of the heap that contains a tree, or none.
+/// The block of the heap that contains a tree and a way, or none.
 #[repr(C)]
 #[derive(Drop)]
 pub struct Held {
     at: *mut u8,
-    ghost hives: { Maybe } by { coded_list the_row.coded },
+    ghost blocks: { Maybe } by { coded_list the_row.coded },
 }
 
 impl Model for Held {
     ghost use Rattle.regtx_c.specs.Held.{held};
 
-    ghost also_owns = { λ h. held h.at h.hives };
+    ghost also_owns = { λ h. held h.at h.blocks };
 }
 
 impl Held {
     // no block, whatever the pointer is
     fn none(at: *mut u8) -> Held
-        ensures { result.hives ≡ [] }
+        ensures { result.blocks ≡ [] }
     {
         Held { at }
     }
 
     // the block of a box
-    fn of(loose: Loose<Tree, Global>) -> Held
-        ensures { result.hives ≡ loose.value ∷ [] }
+    fn of(loose: Loose<Block, Global>) -> Held
+        ensures { result.blocks ≡ loose.value ∷ [] }
     {
         let Loose { at, alloc: _ } = loose;
         Held { at: at as *mut u8 }
     }
 
     // the box of a block, which is there
-    fn into_loose(self, alloc: Global) -> Loose<Tree, Global>
-        requires { has_one self.hives ≡ true }
-        ensures { first self.hives ≡ Some result.value }
+    fn into_loose(self, alloc: Global) -> Loose<Block, Global>
+        requires { has_one self.blocks ≡ true }
+        ensures { first self.blocks ≡ Some result.value }
     {
         let Held { at } = self;
         Loose {
-            at: at as *mut Tree,
+            at: at as *mut Block,
             alloc,
         }
     }
@@ -64,18 +64,19 @@ unsafe impl Send for Held {}
 pub struct Handle {
     full: bool,
     held: Held,
-    ghost agrees: { full ≡ has_one held.hives },
+    ghost agrees: { full ≡ has_one held.blocks },
 }
 
 impl Handle {
-    fn of(hive: Option<Box<Tree, Global>>) -> Handle
-        ensures some { IfSome hive (λ hive. first result.held.hives ≡ Some hive.value) }
-        ensures none { IfNone hive (first result.held.hives ≡ None) }
+    /// A handle with a block, or with none.
+    pub(crate) fn of(block: Option<Box<Block, Global>>) -> Handle
+        ensures some { IfSome block (λ block. first result.held.blocks ≡ Some block.value) }
+        ensures none { IfNone block (first result.held.blocks ≡ None) }
     {
-        match hive {
-            Some(hive) => Handle {
+        match block {
+            Some(block) => Handle {
                 full: true,
-                held: Held::of(Loose::of(hive)),
+                held: Held::of(Loose::of(block)),
             },
             None => {
                 let at = null_mut();
@@ -85,9 +86,10 @@ impl Handle {
         }
     }
 
-    fn into_box(self, alloc: Global) -> Option<Box<Tree, Global>>
-        ensures some { IfSome result (λ hive. first self.held.hives ≡ Some hive.value) }
-        ensures none { IfNone result (first self.held.hives ≡ None) }
+    /// The block of a handle, if it has one.
+    pub(crate) fn into_box(self, alloc: Global) -> Option<Box<Block, Global>>
+        ensures some { IfSome result (λ block. first self.held.blocks ≡ Some block.value) }
+        ensures none { IfNone result (first self.held.blocks ≡ None) }
     {
         let Handle { full, held } = self;
         if full {
@@ -97,19 +99,19 @@ impl Handle {
     }
 }
 
-/// Takes the hive out of a handle, by which none is open then.
-pub(crate) fn take(alloc: Global, handle: &mut Handle) -> Option<Box<Tree, Global>>
-    ensures some { IfSome result (λ hive. first handle.old.held.hives ≡ Some hive.value) }
-    ensures none { IfNone result (first handle.old.held.hives ≡ None) }
-    ensures left { first handle.new.held.hives ≡ None }
+/// Takes the block out of a handle, which has none then.
+pub(crate) fn take(alloc: Global, handle: &mut Handle) -> Option<Box<Block, Global>>
+    ensures some { IfSome result (λ block. first handle.old.held.blocks ≡ Some block.value) }
+    ensures none { IfNone result (first handle.old.held.blocks ≡ None) }
+    ensures left { first handle.new.held.blocks ≡ None }
 {
     replace(handle, Handle::of(None)).into_box(alloc)
 }
 
-/// Puts a hive into a handle, or none. What was open by it is let go.
-pub(crate) fn put(alloc: Global, handle: &mut Handle, hive: Option<Box<Tree, Global>>)
-    ensures some { IfSome hive (λ hive. first handle.new.held.hives ≡ Some hive.value) }
-    ensures none { IfNone hive (first handle.new.held.hives ≡ None) }
+/// Puts a block into a handle, or none. What was there is let go.
+pub(crate) fn put(alloc: Global, handle: &mut Handle, block: Option<Box<Block, Global>>)
+    ensures some { IfSome block (λ block. first handle.new.held.blocks ≡ Some block.value) }
+    ensures none { IfNone block (first handle.new.held.blocks ≡ None) }
 {
-    let _ = replace(handle, Handle::of(hive)).into_box(alloc);
+    let _ = replace(handle, Handle::of(block)).into_box(alloc);
 }

@@ -1,4 +1,5 @@
 //! What may be handed to another thread.
+use crate::cursor_handle::CursorHandle;
 use crate::handle::Handle;
 
 // takes what may be handed to another thread
@@ -8,4 +9,9 @@ fn sends<T: Send>(_: &T) {}
 /// safely.
 pub fn handle_is_sent(handle: &Handle) {
     sends(handle);
+}
+
+/// A cursor may be handed to another thread, on which it reads while the hive is edited on this one.
+pub fn cursor_is_sent(cursor: &CursorHandle) {
+    sends(cursor);
 }

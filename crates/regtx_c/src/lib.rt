@@ -8,8 +8,11 @@
 //! what it has. A refusal leaves it, and is told exactly if it is true. Bytes that are written hold it.
 #![tactic(auto)]
 
+mod block;
 mod code_names;
 mod codes;
+mod cursor_handle;
+mod cursors;
 mod deletion;
 mod edits;
 mod files;
@@ -21,5 +24,6 @@ mod names;
 mod opening;
 mod reads;
 mod room;
+mod steps;
 mod texts;
 mod version;

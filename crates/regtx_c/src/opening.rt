@@ -5,6 +5,7 @@ ghost use Rattle.hive_file_reader.specs.Readings.{ShallowFileRefusedAs};
 ghost use Rattle.regtx_c.specs.Handles.{tree_in};
 ghost use Rattle.regtx_c.specs.Openings.{new_root, new_tree, IsMade, IsOpened};
 
+use crate::block::Block;
 use crate::codes::{NO_MEMORY, OK, code_of};
 use crate::handle::{Handle, put};
 use hive_file_reader::load_file_any_weight;
@@ -37,9 +38,9 @@ fn copied(alloc: Global, bytes: &[u8]) -> Result<Vec<u8>, AllocError>
     bytes.to_vec(alloc)
 }
 
-// the tree of a hive's file in memory, in a block of its own
-fn loaded(alloc: Global, file: &[u8]) -> Result<Box<Tree, Global>, Refusal>
-    ensures holds { IfOk result (λ tree. FileHoldsShallowTree file.now tree.value) }
+// the hive of a file in memory
+fn loaded(alloc: Global, file: &[u8]) -> Result<Box<Block, Global>, Refusal>
+    ensures holds { IfOk result (λ block. FileHoldsShallowTree file.now block.value.tree) }
     ensures refused { IfErr result (ShallowFileRefusedAs 0 file.now) }
 {
     let Ok(copy) = copied(alloc, file) else {
@@ -49,8 +50,8 @@ fn loaded(alloc: Global, file: &[u8]) -> Result<Box<Tree, Global>, Refusal>
         Ok(held) => held,
         Err(why) => return Err(why),
     };
-    match Box::new(alloc, held.tree) {
-        Ok(tree) => Ok(tree),
+    match Block::boxed(alloc, held.tree) {
+        Ok(block) => Ok(block),
         Err(_) => Err(Refusal::NoMemory),
     }
 }
@@ -64,8 +65,8 @@ pub extern "C" fn regtx_hive_open(alloc: Global, file: &[u8], hive: &mut Handle)
     ensures { IsOpened file.now (tree_in hive.old) (tree_in hive.new) result }
 {
     match loaded(alloc, file) {
-        Ok(tree) => {
-            put(alloc, hive, Some(tree));
+        Ok(block) => {
+            put(alloc, hive, Some(block));
             OK
         }
         Err(why) => code_of(why),
@@ -90,11 +91,11 @@ fn new_tree_of(alloc: Global) -> Result<Tree, AllocError>
     Tree::from_root(alloc, leaf)
 }
 
-// the tree of a new hive, in a block of its own
-fn fresh(alloc: Global) -> Result<Box<Tree, Global>, AllocError>
-    ensures { IfOk result (λ tree. tree.value ≡ new_tree) }
+// a new hive
+fn fresh(alloc: Global) -> Result<Box<Block, Global>, AllocError>
+    ensures { IfOk result (λ block. block.value.tree ≡ new_tree) }
 {
-    Ok(Box::new(alloc, new_tree_of(alloc)?)?)
+    Block::boxed(alloc, new_tree_of(alloc)?)
 }
 
 /// Opens a new hive, which has a root and nothing else. The root's name is `ROOT`. What was open by the handle before is
@@ -106,8 +107,8 @@ pub extern "C" fn regtx_hive_new(alloc: Global, hive: &mut Handle) -> u32
     ensures { IsMade (tree_in hive.old) (tree_in hive.new) result }
 {
     match fresh(alloc) {
-        Ok(tree) => {
-            put(alloc, hive, Some(tree));
+        Ok(block) => {
+            put(alloc, hive, Some(block));
             OK
         }
         Err(_) => NO_MEMORY,

@@ -129,11 +129,11 @@ pub extern "C" fn regtx_hive_info(
     ensures told { TellsInfoOrNoMemory (asked (tree_in hive.old) (key_info path.now))
         info.old info.new result }
 {
-    let Some(tree) = take(alloc, hive) else {
+    let Some(block) = take(alloc, hive) else {
         return NOT_OPEN;
     };
-    let code = tell_info(alloc, &tree, path, info);
-    put(alloc, hive, Some(tree));
+    let code = tell_info(alloc, block.tree(), path, info);
+    put(alloc, hive, Some(block));
     code
 }
 
@@ -174,11 +174,11 @@ pub extern "C" fn regtx_hive_key_at(
     ensures told { CopiesOrNoMemory (asked (tree_in hive.old) (key_name path.now index))
         name.old name.new len.old len.new result }
 {
-    let Some(tree) = take(alloc, hive) else {
+    let Some(block) = take(alloc, hive) else {
         return NOT_OPEN;
     };
-    let code = tell_key(alloc, &tree, path, index, name, len);
-    put(alloc, hive, Some(tree));
+    let code = tell_key(alloc, block.tree(), path, index, name, len);
+    put(alloc, hive, Some(block));
     code
 }
 
@@ -214,11 +214,11 @@ pub extern "C" fn regtx_hive_value_name_at(
     ensures told { CopiesOrNoMemory (asked (tree_in hive.old) (value_name path.now index))
         name.old name.new len.old len.new result }
 {
-    let Some(tree) = take(alloc, hive) else {
+    let Some(block) = take(alloc, hive) else {
         return NOT_OPEN;
     };
-    let code = tell_value_name(alloc, &tree, path, index, name, len);
-    put(alloc, hive, Some(tree));
+    let code = tell_value_name(alloc, block.tree(), path, index, name, len);
+    put(alloc, hive, Some(block));
     code
 }
 
@@ -259,11 +259,11 @@ pub extern "C" fn regtx_hive_value_at(
     ensures told { CopiesValueOrNoMemory (asked (tree_in hive.old) (indexed_value path.now index))
         kind.old kind.new data.old data.new len.old len.new result }
 {
-    let Some(tree) = take(alloc, hive) else {
+    let Some(block) = take(alloc, hive) else {
         return NOT_OPEN;
     };
-    let code = tell_value_at(alloc, &tree, path, index, kind, data, len);
-    put(alloc, hive, Some(tree));
+    let code = tell_value_at(alloc, block.tree(), path, index, kind, data, len);
+    put(alloc, hive, Some(block));
     code
 }
 
@@ -304,10 +304,10 @@ pub extern "C" fn regtx_hive_value(
     ensures told { CopiesValueOrNoMemory (asked (tree_in hive.old) (named_value path.now name.now))
         kind.old kind.new data.old data.new len.old len.new result }
 {
-    let Some(tree) = take(alloc, hive) else {
+    let Some(block) = take(alloc, hive) else {
         return NOT_OPEN;
     };
-    let code = tell_value(alloc, &tree, path, name, kind, data, len);
-    put(alloc, hive, Some(tree));
+    let code = tell_value(alloc, block.tree(), path, name, kind, data, len);
+    put(alloc, hive, Some(block));
     code
 }

@@ -1,6 +1,6 @@
 //! Buffers of a caller.
 ghost use Rattle.std.specs.Prelude.{◌≤◌, ◌+◌, ◌++◌, length};
-ghost use Rattle.regtx_c.specs.Buffers.{IsCopied};
+ghost use Rattle.regtx_c.specs.Buffers.{AreCopied, IsCopied};
 
 use crate::codes::{NO_ROOM, OK};
 
@@ -28,5 +28,22 @@ pub(crate) fn copy_parts(front: &[u8], back: &[u8], into: &mut [u8], len: &mut u
     }
     into[..front.len()].copy_from_slice(front);
     into[front.len()..end].copy_from_slice(back);
+    OK
+}
+
+/// Copies two lists, each to the front of a buffer of its own, if there is room for both.
+pub(crate) fn copy_both<T: Copy, U: Copy>(
+    one: &[T],
+    two: &[U],
+    one_into: &mut [T],
+    two_into: &mut [U],
+) -> u32
+    ensures { AreCopied one.now two.now one_into.old one_into.new two_into.old two_into.new result }
+{
+    if one_into.len() < one.len() || two_into.len() < two.len() {
+        return NO_ROOM;
+    }
+    one_into[..one.len()].copy_from_slice(one);
+    two_into[..two.len()].copy_from_slice(two);
     OK
 }

@@ -10,8 +10,8 @@ returns-clause-refused c = refused_memory c.args.file.now
 pub returns-in_default-clause-refused : goal.returns-in_default-clause-refused
 returns-in_default-clause-refused c = refused_memory c.args.file.now
 
-pub returns-in-Ok-new-clause-holds : goal.returns-in-Ok-new-clause-holds
-returns-in-Ok-new-clause-holds c =
+pub returns-in-Ok-boxed-clause-holds : goal.returns-in-Ok-boxed-clause-holds
+returns-in-Ok-boxed-clause-holds c =
     let held = c.in-Ok-load_file_any_weight.held in
-    rw c.in-Ok-new.ensures.ok (subst (λ (bytes : List ℕ). FileHoldsShallowTree bytes held.tree) c.in-Ok.ensures
+    rw c.in-Ok-boxed.ensures.tree (subst (λ (bytes : List ℕ). FileHoldsShallowTree bytes held.tree) c.in-Ok.ensures
     (holds_parts c.in-Ok.copy.items held.bins.items held.block held.tree c.in-Ok-load_file_any_weight.ensures.has c.in-Ok-load_file_any_weight.ensures.tree))

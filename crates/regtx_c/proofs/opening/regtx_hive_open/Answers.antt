@@ -1,6 +1,7 @@
 -- The tree that the file holds is the one that is put into the handle.
-use Rattle.std.proofs.Common.{refl, inl}
+use Rattle.std.proofs.Common.{refl, inl, ap, option_map}
+use Rattle.regtx_c.specs.Places.{TreePlace}
 use Rattle.regtx_c.proofs.opening.regtx_hive_open.Goals as goal
 
 pub returns-in-Ok : goal.returns-in-Ok
-returns-in-Ok c = inl (refl, (c.in-Ok.tree.value, c.put.ensures.some, c.in-Ok.ensures.holds))
+returns-in-Ok c = inl (refl, (c.in-Ok.block.value.tree, ap (option_map (λ (place : TreePlace). place.tree)) c.put.ensures.some, c.in-Ok.ensures.holds))

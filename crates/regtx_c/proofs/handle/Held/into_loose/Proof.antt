@@ -29,7 +29,7 @@ use Rattle.std.specs.contracts.impls.GlobalAllocator.TheImpl.{ghosts}
 use Rattle.regtx_c.proofs.Values.{al, both, loose_good, loose_in}
 use Rattle.regtx_c.proofs.HeldSteps.{alone, held_out, held_full}
 use Rattle.regtx_c.specs.Held.{has_one, first, freed}
-use Rattle.reg_tree.specs.contracts.tree.Tree as V
+use Rattle.regtx_c.specs.contracts.block.Block as V
 use Rattle.regtx_c.specs.contracts.handle.Held as R
 use Rattle.regtx_c.specs.contracts.handle.Held.into_loose as f
 use Rattle.regtx_c.proofs.handle.Held.into_loose.Statement.{statement}
@@ -44,9 +44,9 @@ into_loose_spec 𝓤 𝓛 𝓜 𝓡 wired =
     proved_at 𝓛 f.ended stayed c 𝓜 𝓡 (Goes-blank 𝓛 0 (plain (λ _. R.the_row)) yes (λ κs x w. tt), (Goes-blank 𝓛 0 (plain (λ _. heap.the_row)) yes (λ κs x w. tt), tt))
     f.Key.name fn (code.unfolded 𝓤 H 𝓜 𝓡 wired) (λ z are.
     let v = z.0.3.0 in let a = z.0.3.1.0 in let Post : Val → SProp 𝓤 = (walk_of 𝓛 f.ended stayed c).post z in let Run : List Val → SProp 𝓤 = λ ws. WpFn 𝓤 H 𝓣.C 𝓣.Λ fn ws Post in
-    qed 𝓛 ((raw (alive 𝓛 f.signature z.0.0 z.0.1) ⊛ ‵ (owns (types_at f.signature.params z.0.0) z.0.3 z.0.4)) ∷ raw (fact 𝓤 (has_one v.hives ≡ true)) ∷ []) ∵ move ! (1 ∷ []) $
-    heard ! (has_one v.hives ≡ true) (λ full. split ! $ move ! (1 ∷ []) $ fsplit ! $
-    held_out ! v z.0.4.0 (λ ws. held_full ! v.at v.hives full (λ x one.
+    qed 𝓛 ((raw (alive 𝓛 f.signature z.0.0 z.0.1) ⊛ ‵ (owns (types_at f.signature.params z.0.0) z.0.3 z.0.4)) ∷ raw (fact 𝓤 (has_one v.blocks ≡ true)) ∷ []) ∵ move ! (1 ∷ []) $
+    heard ! (has_one v.blocks ≡ true) (λ full. split ! $ move ! (1 ∷ []) $ fsplit ! $
+    held_out ! v z.0.4.0 (λ ws. held_full ! v.at v.blocks full (λ x one.
     in_a_block ! v.at (λ p. box_owns freed V.the_row p x) (fst∗ 𝓤 (never 𝓤) (sem 𝓛 (freed (bare (lone (V.the_row).mir)) null_ptr))) (λ b o e. move ! (1 ∷ []) $ fsplit ! $
     handle_tells (al V.the_row heap.the_row heap_laws.the_row_laws ghosts) ! a z.0.4.1.0 (λ h ea fits.
     -- [the heap's handle; nothing; the block; the tokens]
@@ -56,6 +56,6 @@ into_loose_spec 𝓤 𝓛 𝓜 𝓡 wired =
     sets ! (of_opd ! (get_in ! (fld ! refl (stop !)) (sub ! 0 refl (whole !)))) refl (tt, tt) $ sets ! (of_opd ! (get ! refl)) refl (tt, tt) $
     sets ! (agg ! (and_then ! (get ! refl) (and_then ! (get ! refl) (no_more !)))) refl (loose_good V.the_row heap.the_row heap_laws.the_row_laws ghosts b o h fits) $
     returns ! (look_at ! 0 refl) $ free_all ! refl $
-    move ! (2 ∷ 0 ∷ []) $ loose_in V.the_row heap.the_row heap_laws.the_row_laws ghosts ! b o h a x $ nothing ! $ nothing ! $ fjoin ! $ nothing ! $ fjoin ! $ use0 𝓛 (raw (fact 𝓤 (first v.hives ≡ Some x))) (fact_i 𝓤 (first v.hives ≡ Some x) (emp 𝓤) one) $
+    move ! (2 ∷ 0 ∷ []) $ loose_in V.the_row heap.the_row heap_laws.the_row_laws ghosts ! b o h a x $ nothing ! $ nothing ! $ fjoin ! $ nothing ! $ fjoin ! $ use0 𝓛 (raw (fact 𝓤 (first v.blocks ≡ Some x))) (fact_i 𝓤 (first v.blocks ≡ Some x) (emp 𝓤) one) $
     -- [the promise; what is left of the parameters; the result; nothing; the tokens; ..]
     keep ! (4 ∷ 1 ∷ 2 ∷ 0 ∷ []) $ by ! (leaves 𝓛 f.ended stayed c z (both (vptr b o) h) (record { at = block_ptr b o; alloc = a; value = x }) (tt, (tt, tt)) (tt, (tt, tt))))))))))
