@@ -84,6 +84,8 @@ def source_of(name, make):
     named = {
         "bin/regtx": None, "libexec/regtx": make.program, MANUAL: os.path.join(TOP, "out", "regtx.1"), ZSH: os.path.join(TOP, "completions", "_regtx"),
         "share/bash-completion/completions/regtx": os.path.join(TOP, "completions", "regtx.bash"), "lib/pkgconfig/regtx.pc": None,
+        # a link that the installation makes
+        "lib/libregtx.so": os.path.join(make.library, "libregtx.so.0"),
     }
     if name in named:
         return named[name]
