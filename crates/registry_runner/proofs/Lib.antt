@@ -1,4 +1,5 @@
 mod Hearing
+mod Sessions
 mod Answered
 mod Playing
 mod Folding

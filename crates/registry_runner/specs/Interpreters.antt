@@ -8,6 +8,7 @@ use Rattle.script_runner.specs.Labels.{HasRoom, named_by}
 use Rattle.script_runner.specs.declared.labels.Labels.{Labels}
 use Rattle.registry_runner.specs.Parts.{Part}
 use Rattle.registry_runner.specs.Scripts.{Script}
+use Rattle.registry_runner.specs.Slots.{item_at}
 use Rattle.registry_runner.specs.declared.script.Script.{Script as Shown}
 
 -- the transaction that a label names; before the first label there are none
@@ -21,7 +22,7 @@ HasRoomFor None label = ⊥
 HasRoomFor (Some labels) label = HasRoom labels label
 
 abbrev pub script_of : {O : Type 0} → Shown O → Script
-script_of shown = record { moment = shown.moment; session = shown.session; labels = named_in shown.labels }
+script_of shown = record { moment = shown.moment; current = shown.number; is_open = shown.is_open; session = shown.session; others = item_at shown.others; labels = named_in shown.labels }
 
 -- the part of a run that comes after this past, whose registry's history begins here, and its list of changes on these
 -- trees after this number

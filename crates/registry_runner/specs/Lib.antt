@@ -1,4 +1,5 @@
 pub mod Heard
+pub mod Slots
 pub mod Scripts
 pub mod Parts
 pub mod Interpreters

@@ -6,8 +6,8 @@ use Rattle.script_syntax.specs.declared.line.Line.TheVariants.{Fold}
 use Rattle.reply_lines.specs.declared.reply.ReplyLine.{ReplyLine}
 use Rattle.script_runner.specs.Plays.{is_refusal}
 use Rattle.script_runner.specs.Scripts.{line_asked}
-use Rattle.registry_runner.specs.Scripts.{Script, Answers, FlushesThen, IsFlushed}
-use Rattle.registry_runner.specs.Parts.{Part, IsDue, IsUnlabelled, number_told, with_script}
+use Rattle.registry_runner.specs.Scripts.{Script, Answers, FlushesThen, IsFlushed, HasNothingToEnd}
+use Rattle.registry_runner.specs.Parts.{Part, IsDue, number_told, with_script}
 use Rattle.registry_runner.specs.declared.history_use.HistoryUse.{HistoryUse}
 use Rattle.registry_runner.specs.declared.lines.BetweenLines.{BetweenLines}
 use Rattle.registry_runner.specs.declared.lines.BetweenLines.TheVariants as between
@@ -17,8 +17,8 @@ use Rattle.registry_runner.specs.declared.parts.PartKind.TheVariants.{Opened, Fo
 -- after a line whose reply told a number, the script goes on in the same registry; or the history is to be folded
 abbrev pub Between : ℕ → Part → ℕ → BetweenLines → Script → Type 0
 Between limit old told (between.GoOn failed) new =
-    (new ≡ old.script) ⊎ (IsDue limit old told × IsUnlabelled old.script × (flushed : ReplyLine) × FlushesThen old.sole old.start old.trees old.number old.hives old.script flushed new)
-Between limit old told between.ToFold new = IsDue limit old told × IsUnlabelled old.script × IsFlushed old.sole old.start old.trees old.number old.hives old.script new
+    (new ≡ old.script) ⊎ (IsDue limit old told × HasNothingToEnd old.script × (flushed : ReplyLine) × FlushesThen old.sole old.start old.trees old.number old.hives old.script flushed new)
+Between limit old told between.ToFold new = IsDue limit old told × HasNothingToEnd old.script × IsFlushed old.sole old.start old.trees old.number old.hives old.script new
 
 -- a line is answered, and then that is done
 abbrev pub AnswersThen : ℕ → Part → List ℕ → List ℕ → Bool → BetweenLines → Script → Type 0

@@ -1,5 +1,5 @@
 -- The parts of a script's run. Each calls a registry of its own, and the history is folded between two of them.
-use Rattle.std.specs.Prelude.{◌≡◌, ℕ, ◌+◌, ◌-◌, ◌*◌, ◌≤◌, ◌⊎◌, Bool, true, List, [], ◌++◌, length, None, Result, Ok, Err}
+use Rattle.std.specs.Prelude.{◌≡◌, ℕ, ◌+◌, ◌-◌, ◌*◌, ◌≤◌, ◌⊎◌, Bool, true, List, [], ◌++◌, length, Result, Ok, Err}
 use mathlib.Core.List.{IsPrefix}
 use Rattle.refusals.specs.declared.refusal.Refusal.{Refusal}
 use Rattle.refusals.specs.declared.refusal.Refusal.TheVariants.{NoMemory, NoSeat}
@@ -17,7 +17,7 @@ use Rattle.store_model.specs.Machine.{is_of_device}
 use Rattle.ktm_calls.specs.Denials.{IsOpened}
 use Rattle.ktm_calls.specs.Kinds.{Told}
 use Rattle.ktm_calls.specs.Moments.{SeesMore, Sight, no_sight}
-use Rattle.registry_runner.specs.Scripts.{Script, FlushesThen, IsFlushed, MayNotEnter}
+use Rattle.registry_runner.specs.Scripts.{Script, FlushesThen, IsFlushed, HasNothingToEnd, MayNotEnter}
 use Rattle.registry_runner.specs.declared.parts.PartKind.{PartKind}
 use Rattle.registry_runner.specs.declared.parts.PartKind.TheVariants.{Opened, Folded, Continued}
 
@@ -36,13 +36,13 @@ pub record Part : Type 0 where
 abbrev pub with_script : Part → Script → Part
 with_script part script = record part { script = script }
 
--- a script before a part's first line: a session was just opened, before which nothing was seen, and no label names
+-- a script before a part's first line: session 0 was just opened, before which nothing was seen, and no label names
 -- anything
 pub record IsBegun (sole : Bool) (origin : EngineView) (trees : List TreeMap) (number hives current : ℕ) (script : Script) : Type 0 where
   pub told : Told
   pub opened : IsOpened sole origin trees number hives no_sight script.session told
   pub moment : script.moment ≡ current
-  pub labels : (label : List ℕ) → script.labels label ≡ None
+  pub only : HasNothingToEnd script
 
 -- all that there is to see of a registry after this history: the changes that were accepted in it, and the history; and
 -- how many events were asked for in it
@@ -129,16 +129,13 @@ number_told _ = 0
 abbrev pub IsDue : ℕ → Part → ℕ → Type 0
 IsDue limit part number = 3 * limit ≤ 4 * (number - part.number)
 
--- no label names anything
-abbrev pub IsUnlabelled : Script → Type 0
-IsUnlabelled script = (label : List ℕ) → script.labels label ≡ None
-
 -- After a line's reply nothing changes for the script. Or the history is folded before it is full, of which nothing is
--- printed. That happens only if the reply tells that it is due, and if no label names anything: so each later reply
--- may be one of the registry before the fold. If the fold is refused, the script goes on in the same registry.
+-- printed. That happens only if the reply tells that it is due, and if session 0 alone is open and no label names
+-- anything: so each later reply may be one of the registry before the fold. If the fold is refused, the script goes on in
+-- the same registry.
 abbrev pub KeepsOrFolds : List HistoryEntry → ℕ → Part → ReplyLine → Result Part Refusal → Type 0
 KeepsOrFolds whole limit old reported kept =
     (kept ≡ Ok old)
-    ⊎ (IsDue limit old (number_told reported) × IsUnlabelled old.script
+    ⊎ (IsDue limit old (number_told reported) × HasNothingToEnd old.script
     × (((flushed : ReplyLine) × (new : Script) × FlushesThen old.sole old.start old.trees old.number old.hives old.script flushed new × (kept ≡ Ok (with_script old new)))
     ⊎ ((mid : Script) × IsFlushed old.sole old.start old.trees old.number old.hives old.script mid × Folds whole (with_script old mid) kept)))

@@ -1,5 +1,5 @@
 -- What the lines of a script ask of a registry, and the replies to them.
-use Rattle.std.specs.Prelude.{◌≡◌, ℕ, ◌⊎◌, Bool, true, false, List, [], ◌∷◌, ◌++◌, Option, Some, None, Result, Ok, Err, ⊤}
+use Rattle.std.specs.Prelude.{◌≡◌, ◌≢◌, ℕ, ◌==◌, ◌⊎◌, Bool, true, false, ◌&&◌, not, if◌then◌else◌, List, [], ◌∷◌, ◌++◌, Option, Some, None, Result, Ok, Err, ⊤}
 use Rattle.refusals.specs.declared.refusal.Refusal.{Refusal}
 use Rattle.refusals.specs.declared.refusal.Refusal.TheVariants.{Faulted, NoMemory, NoSuchHandle}
 use Rattle.reg_tree.specs.Maps.{TreeMap}
@@ -28,13 +28,29 @@ use Rattle.ktm_calls.specs.declared.registry.Denied.{Denied}
 use Rattle.registry_runner.specs.declared.script.LineAnswer.{LineAnswer}
 use Rattle.registry_runner.specs.declared.script.LineAnswer.TheVariants as answered
 use Rattle.registry_runner.specs.Heard.{GoesOn, Hears, HearsAlone, HearsDurably, HearsInside, HearsOutcome, IsHeard}
+use Rattle.registry_runner.specs.Slots.{SameItems, PutsItem, TakesItem}
 
--- a script between two lines: the moment of what follows, the session in which it is asked, and the transaction that
--- each label names
+-- a script between two lines: the moment of what follows; the session in which it is asked, with the number that the
+-- script gave it, and whether it is open; the sessions that are open beside it, by the numbers that the script gave them;
+-- and the transaction that each label names
 pub record Script : Type 0 where
   pub moment : ℕ
+  pub current : ℕ
+  pub is_open : Bool
   pub session : NumberedSight
+  pub others : ℕ → Option ℕ
   pub labels : List ℕ → Option Tx
+
+-- the session that a number of the script names, if it is open
+abbrev pub session_named : Script → ℕ → Option ℕ
+session_named script number = if script.is_open && (number == script.current) then Some script.session.number else script.others number
+
+-- a fold ends nothing of the script: session 0 alone is open, in which what follows is asked, and no label names anything
+pub record HasNothingToEnd (script : Script) : Type 0 where
+  pub first : script.current ≡ 0
+  pub is_open : script.is_open ≡ true
+  pub alone : (number : ℕ) → number ≢ 0 → session_named script number ≡ None
+  pub labels : (label : List ℕ) → script.labels label ≡ None
 
 -- a refusal that changes nothing
 abbrev pub IsRefused : Script → Refusal → ReplyLine → Script → Type 0
@@ -87,19 +103,45 @@ abbrev pub IsNotFaulted : Bool → EngineView → List TreeMap → ℕ → ℕ �
 IsNotFaulted sole origin trees number hives was is =
     (id : List ℕ) × (told : Told) × Tells sole origin trees number hives was is (event.Begin MOST_READERS id) told × ¬ (told.reply ≡ answer.Refused Faulted)
 
--- Another session is the current one, which was opened, or was open. Or none is entered, and the current one goes on.
-abbrev pub Enters : Bool → EngineView → List TreeMap → ℕ → ℕ → Script → ReplyLine → Script → Type 0
-Enters sole origin trees number hives old reported new =
-    InSession old new
-    × (((reported ≡ reply.Done) × (told : Told) × IsOpened sole origin trees number hives old.session.seen new.session told)
-    ⊎ ((reported ≡ reply.Done) × IsNotFaulted sole origin trees number hives old.session.seen new.session.seen)
-    ⊎ (GoesOn old.session new.session × (why : Refusal) × MayNotEnter sole origin trees number hives old.session.seen new.session.seen why × (reported ≡ reply.Refused why)))
+-- what follows is asked in the session that this number of the script names from now on; each other number names what it
+-- named
+pub record MakesCurrent (old new : Script) (wanted : ℕ) : Type 0 where
+  pub rest : new ≡ record old { current = wanted; is_open = true; session = new.session; others = new.others }
+  pub names : PutsItem (session_named old) (session_named new) wanted new.session.number
 
--- A session that is open ends, or none of this number is open. If it was the current one, another is, which isn't open.
-abbrev pub Ends : Bool → EngineView → List TreeMap → ℕ → ℕ → Script → ReplyLine → Script → Type 0
-Ends sole origin trees number hives old reported new =
-    IsRefused old NoSuchHandle reported new
-    ⊎ ((session : ℕ) × IsHeard sole origin trees number hives old.session (event.EndSession session) reported new.session × InSession old new)
+-- the session goes on in which what follows is asked, and each number of the script names what it named
+pub record KeepsSessions (old new : Script) : Type 0 where
+  pub rest : new ≡ record old { session = new.session; others = new.others }
+  pub goes_on : GoesOn old.session new.session
+  pub names : SameItems (session_named old) (session_named new)
+
+-- What follows is asked in this session from now on, by this number of the script. The one before it is among the others, if
+-- it is open.
+pub record Switches (old new : Script) (number handle : ℕ) : Type 0 where
+  pub rest : new ≡ record old { current = number; is_open = true; session = record old.session { number = handle }; others = new.others }
+  pub others : old.is_open ≡ true → PutsItem old.others new.others old.current old.session.number
+  pub alone : old.is_open ≡ false → new.others ≡ old.others
+
+-- this number of the script names no session from now on, and each other one what it named; if it was the current one,
+-- what follows is asked in a session that isn't open
+pub record EndsNamed (old new : Script) (wanted : ℕ) : Type 0 where
+  pub rest : new ≡ record old { is_open = new.is_open; session = new.session; others = new.others }
+  pub names : TakesItem (session_named old) (session_named new) wanted
+  pub session : new.session.number ≡ (if old.is_open && (wanted == old.current) then MOST_READERS else old.session.number)
+  pub is_open : new.is_open ≡ old.is_open && not (wanted == old.current)
+
+-- The session that the number names is the current one: it was opened, or was open. Or none is entered.
+abbrev pub Enters : Bool → EngineView → List TreeMap → ℕ → ℕ → Script → ℕ → ReplyLine → Script → Type 0
+Enters sole origin trees number hives old wanted reported new =
+    ((reported ≡ reply.Done) × MakesCurrent old new wanted × (session_named old wanted ≡ None) × (told : Told) × IsOpened sole origin trees number hives old.session.seen new.session told)
+    ⊎ ((reported ≡ reply.Done) × MakesCurrent old new wanted × (session_named old wanted ≡ Some new.session.number) × IsNotFaulted sole origin trees number hives old.session.seen new.session.seen)
+    ⊎ (KeepsSessions old new × (why : Refusal) × MayNotEnter sole origin trees number hives old.session.seen new.session.seen why × (reported ≡ reply.Refused why))
+
+-- The session that the number names ends; or it names none.
+abbrev pub Ends : Bool → EngineView → List TreeMap → ℕ → ℕ → Script → ℕ → ReplyLine → Script → Type 0
+Ends sole origin trees number hives old wanted reported new =
+    ((reported ≡ reply.Refused NoSuchHandle) × (session_named old wanted ≡ None) × KeepsSessions old new × (new.session ≡ old.session))
+    ⊎ ((session : ℕ) × (session_named old wanted ≡ Some session) × IsHeard sole origin trees number hives old.session (event.EndSession session) reported new.session × EndsNamed old new wanted)
 
 -- a transaction is begun, and the label names it from now on
 pub record Begins (sole : Bool) (origin : EngineView) (trees : List TreeMap) (number hives : ℕ) (old : Script) (label id : List ℕ) (reported : ReplyLine) (new : Script) : Type 0 where
@@ -163,8 +205,8 @@ abbrev pub Answers : Bool → EngineView → List TreeMap → ℕ → ℕ → Sc
 Answers sole origin trees number hives old (Hives count) reported new = ⊥
 Answers sole origin trees number hives old (History limit) reported new = ⊥
 Answers sole origin trees number hives old (At moment) reported new = (reported ≡ reply.Done) × (new ≡ record old { moment = moment })
-Answers sole origin trees number hives old (Session wanted) reported new = Enters sole origin trees number hives old reported new
-Answers sole origin trees number hives old (End wanted) reported new = Ends sole origin trees number hives old reported new
+Answers sole origin trees number hives old (Session wanted) reported new = Enters sole origin trees number hives old wanted reported new
+Answers sole origin trees number hives old (End wanted) reported new = Ends sole origin trees number hives old wanted reported new
 Answers sole origin trees number hives old (Plain request) reported new =
     OrNoMemory old reported new (IsNamed (operation_of request) (λ asked. AsksAlone sole origin trees number hives old asked reported new) old reported new)
 Answers sole origin trees number hives old (Inside label request) reported new =

@@ -17,6 +17,7 @@ mod parts;
 mod run_end;
 mod script;
 mod session_lines;
+mod slots;
 mod transaction_lines;
 
 pub use disk_run::{run, run_unread};

@@ -7,12 +7,13 @@ ghost use Rattle.reply_lines.specs.declared.reply.ReplyLine.TheVariants.{Refused
 ghost use Rattle.script_runner.specs.Scripts.{later_line, line_asked};
 ghost use Rattle.ktm_calls.specs.Moments.{no_sight};
 ghost use Rattle.registry_runner.specs.Interpreters.{script_of};
-ghost use Rattle.registry_runner.specs.Parts.{IsBegun, IsUnlabelled};
-ghost use Rattle.registry_runner.specs.Scripts.{Answers, AnswersLine, MayNotEnter};
+ghost use Rattle.registry_runner.specs.Parts.{IsBegun};
+ghost use Rattle.registry_runner.specs.Scripts.{Answers, AnswersLine, HasNothingToEnd, MayNotEnter};
 
 use crate::caller::Caller;
 use crate::labels::tx_of;
 use crate::parts::{NextPart, PartKind};
+use crate::slots::Slots;
 use histories::Start;
 use ktm_calls::{Asker, Key, Session, SessionHandle};
 use refusals::Refusal;
@@ -25,34 +26,6 @@ use std::sync::Wait;
 use store_engine::StoreEngine;
 use store_model::Tx;
 use word_syntax::ParseError;
-
-/// A session that is open and isn't the current one.
-pub struct OpenSession<O: Start> {
-    /// The number that the script gave it.
-    pub number: u32,
-    /// Its handle.
-    pub handle: SessionHandle<O>,
-}
-
-impl<O: Start> Drop for OpenSession<O> {
-    // one drop for all that own one, whose proofs see no more of it than that
-    fn drop(self) {
-        let OpenSession {
-            number: _,
-            handle: _,
-        } = self;
-    }
-}
-
-impl<O: Start> OpenSession<O> {
-    /// The handle alone.
-    pub fn into_handle(self) -> SessionHandle<O>
-        ensures { result ≡ self.handle }
-    {
-        let OpenSession { number: _, handle } = self;
-        handle
-    }
-}
 
 /// What is answered to a line.
 pub enum LineAnswer {
@@ -75,7 +48,8 @@ pub struct Script<O: Start> {
     pub(crate) number: u32,
     pub(crate) is_open: bool,
     pub(crate) session: Session<O>,
-    pub(crate) others: Vec<OpenSession<O>>,
+    // by the numbers that the script gave them
+    pub(crate) others: Slots<SessionHandle<O>>,
     // a flush names a key, and nothing is judged of it
     pub(crate) root: Key,
 }
@@ -119,7 +93,7 @@ impl<O: Start> Script<O> {
             number: 0,
             is_open: true,
             session,
-            others: Vec::new(caller.alloc),
+            others: Slots::new(caller.alloc),
             root,
         })
     }
@@ -244,7 +218,7 @@ impl<O: Start> Script<O> {
     /// Whether a fold ends nothing of the script: session 0 alone is open, and is the current one, and there are no
     /// labels.
     pub fn has_nothing_to_end(&self) -> bool
-        ensures { result ≡ true → IsUnlabelled (script_of self.now) }
+        ensures { result ≡ true → HasNothingToEnd (script_of self.now) }
     {
         self.is_open && self.number == 0 && self.others.is_empty() && self.labels.is_none()
     }

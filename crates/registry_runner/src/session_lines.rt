@@ -1,17 +1,21 @@
 //! The lines that open and end sessions.
-ghost use Rattle.std.specs.Prelude.{◌≡◌, ◌<◌, IfErr, IfNone, IfOk, IfSome};
-ghost use Rattle.std.specs.Vec.{vec_capacity, vec_len};
+ghost use Rattle.std.specs.Prelude.{◌≡◌, ◌≢◌, ◌⊎◌, ℕ, ◌==◌, ◌&&◌, true, None, Some, IfErr, IfNone, IfOk, IfSome, OnErr, OnOk};
 ghost use Rattle.script_syntax.specs.declared.line.Line.TheVariants as line;
 ghost use Rattle.reply_lines.specs.declared.reply.ReplyLine.TheVariants.{Refused};
+ghost use Rattle.ktm_calls.specs.Kinds.{Told as AnyTold};
+ghost use Rattle.ktm_calls.specs.Denials.{IsOpened};
+ghost use Rattle.registry_runner.specs.Heard.{GoesOn};
 ghost use Rattle.registry_runner.specs.Interpreters.{script_of};
-ghost use Rattle.registry_runner.specs.Scripts.{Answers, InSession};
+ghost use Rattle.registry_runner.specs.Scripts.{Answers, EndsNamed, IsNotFaulted, KeepsSessions, MayNotEnter, Switches, session_named};
+ghost use Rattle.registry_runner.specs.Slots.{HasSlot, SameItems, TakesItem};
 
 use crate::caller::{Caller, reply_to};
-use crate::script::{OpenSession, Script};
+use crate::script::Script;
 use histories::Start;
 use ktm_calls::SessionHandle;
 use refusals::Refusal;
 use reply_lines::ReplyLine;
+use std::alloc::AllocError;
 use std::mem;
 use std::sync::Wait;
 use store_engine::StoreEngine;
@@ -28,57 +32,78 @@ impl<O: Start> Script<O> {
         ensures refused { IfErr result (λ refusal. Answers O.sole O.start O.trees O.number O.hives (script_of self.old)
             (line.Session number) (Refused refusal) (script_of self.new)) }
     {
-        if self.is_open && number == self.number {
+        if self.is_current(number) {
             caller.check_not_faulted(&mut self.session)?;
             return Ok(ReplyLine::Done);
         }
-        if self.others.reserve(1).is_err() {
+        if self.make_room().is_err() {
             return Err(Refusal::NoMemory);
         }
-        let handle = match self.place_of(number) {
-            Some(place) => {
-                caller.check_not_faulted(&mut self.session)?;
-                self.take_other(place)
-            }
-            None => caller.open_handle(&mut self.session)?,
-        };
+        let handle = self.reach(caller, number)?;
         self.make_current(number, handle);
         Ok(ReplyLine::Done)
     }
 
-    // takes one of the other sessions
-    fn take_other(&mut self, place: usize) -> SessionHandle<O>
-        requires there { place < vec_len self.old.others }
-        ensures same { script_of self.new ≡ script_of self.old }
-        ensures room { vec_len self.new.others < vec_capacity self.new.others }
+    // whether the number names the session in which lines are asked
+    fn is_current(&self, number: u32) -> bool
+        ensures { result ≡ (self.now.is_open && (number == self.now.number)) }
     {
-        self.others.swap_remove(place).into_handle()
+        self.is_open && number == self.number
     }
 
-    // the place of the session of this number among those that aren't the current one
-    fn place_of(&self, number: u32) -> Option<usize>
-        ensures { IfSome result (λ place. place < vec_len self.now.others) }
+    // makes room for the current session among the others, if it is open
+    fn make_room(&mut self) -> Result<(), AllocError>
+        ensures rest { script_of self.new ≡ record (script_of self.old) { others = (script_of self.new).others } }
+        ensures same { SameItems (script_of self.old).others (script_of self.new).others }
+        ensures room { OnOk result (self.old.is_open ≡ true → HasSlot self.new.others self.old.number) }
     {
-        self.others.iter().position(|open| open.number == number)
+        if self.is_open {
+            self.others.make_room(self.number)?;
+        }
+        Ok(())
+    }
+
+    // The handle of the session of this number, which isn't the current one: one of the others, or it is opened
+    fn reach<E: StoreEngine, R: Wait>(
+        &mut self,
+        caller: &Caller<'_, E, O, R>,
+        number: u32,
+    ) -> Result<SessionHandle<O>, Refusal>
+        ensures rest { script_of self.new ≡ record (script_of self.old) {
+          session = (script_of self.new).session;
+          others = (script_of self.new).others;
+        } }
+        ensures goes_on { GoesOn self.old.session self.new.session }
+        ensures taken { OnOk result (TakesItem (script_of self.old).others (script_of self.new).others number) }
+        ensures rooms { (other : ℕ) → other ≢ number → HasSlot self.old.others other → HasSlot self.new.others other }
+        ensures reached { IfOk result (λ handle.
+            (((script_of self.old).others number ≡ None) × (told : AnyTold)
+            × IsOpened O.sole O.start O.trees O.number O.hives self.old.session.seen
+            (record { number = handle; seen = self.new.session.seen }) told)
+            ⊎ (((script_of self.old).others number ≡ Some handle)
+            × IsNotFaulted O.sole O.start O.trees O.number O.hives self.old.session.seen self.new.session.seen)) }
+        ensures same { OnErr result (SameItems (script_of self.old).others (script_of self.new).others) }
+        ensures refused { IfErr result (MayNotEnter O.sole O.start O.trees O.number O.hives self.old.session.seen
+            self.new.session.seen) }
+    {
+        if self.others.has(number) {
+            caller.check_not_faulted(&mut self.session)?;
+        }
+        match self.others.take(number) {
+            Some(handle) => Ok(handle),
+            None => caller.open_handle(&mut self.session),
+        }
     }
 
     // another session is the current one; the one before it is among the others, if it is open
     fn make_current(&mut self, number: u32, handle: SessionHandle<O>)
-        requires room { vec_len self.old.others < vec_capacity self.old.others }
-        ensures { script_of self.new ≡ record (script_of self.old) {
-          session = record (script_of self.old).session { number = handle };
-        } }
+        requires room { self.old.is_open ≡ true → HasSlot self.old.others self.old.number }
+        ensures { Switches (script_of self.old) (script_of self.new) number handle }
     {
-        let before = OpenSession {
-            number: mem::replace(&mut self.number, number),
-            handle: self.session.switch_to(handle),
-        };
+        let number = mem::replace(&mut self.number, number);
+        let handle = self.session.switch_to(handle);
         if mem::replace(&mut self.is_open, true) {
-            match self.others.push(before) {
-                Ok(()) => {}
-                // there is room for one more
-                Err(_) => unreachable!(),
-            }
+            self.others.put(number, handle);
         }
     }
 
@@ -107,16 +132,18 @@ impl<O: Start> Script<O> {
     // Takes the session of this number out of those that are open. After the current one, what follows is asked in a
     // session that isn't open
     fn take(&mut self, number: u32) -> Option<SessionHandle<O>>
-        ensures some { InSession (script_of self.old) (script_of self.new) }
-        ensures none { IfNone result (script_of self.new ≡ script_of self.old) }
-        ensures seen { (script_of self.new).session.seen ≡ (script_of self.old).session.seen }
+        ensures taken { result ≡ session_named (script_of self.old) number }
+        ensures some { IfSome result (λ _. EndsNamed (script_of self.old) (script_of self.new) number) }
+        ensures none { IfNone result (KeepsSessions (script_of self.old) (script_of self.new)
+            × (self.new.session ≡ self.old.session)) }
+        ensures seen { self.new.session.seen ≡ self.old.session.seen }
     {
-        if self.is_open && number == self.number {
+        let other = self.others.take(number);
+        if self.is_current(number) {
             self.is_open = false;
             let closed = self.session.closed_handle();
             return Some(self.session.switch_to(closed));
         }
-        let place = self.place_of(number)?;
-        Some(self.others.swap_remove(place).into_handle())
+        other
     }
 }

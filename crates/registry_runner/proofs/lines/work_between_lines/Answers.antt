@@ -1,6 +1,6 @@
 use Rattle.std.proofs.Common.{◌*◌, ◌-◌, ◌≤◌, ℕ, inr, rules, subst}
 use Rattle.registry_runner.specs.Interpreters.{script_of}
-use Rattle.registry_runner.specs.Parts.{IsUnlabelled}
+use Rattle.registry_runner.specs.Scripts.{HasNothingToEnd}
 use Rattle.registry_runner.proofs.Hearing.{fold_refused}
 use Rattle.registry_runner.proofs.lines.work_between_lines.Goals as goal
 
@@ -11,5 +11,5 @@ returns-after-has_failed-clause-between g c past begins =
     let used = c.args.history.now in
     let flushed = fold_refused g.O.Start.sole g.O.Start.start O.trees O.number O.hives (script_of c.args.script.now) (script_of c.fold.new.self) c.in-Reply.reply c.in-Reply.ensures in
     let due : 3 * used.limit ≤ 4 * (c.args.told - used.first) = search rules in
-    let unlabelled : IsUnlabelled (script_of c.args.script.now) = search rules in
-    inr (subst (λ (n : ℕ). 3 * used.limit ≤ 4 * (c.args.told - n)) begins due, unlabelled, flushed.0, flushed.1)
+    let ends_nothing : HasNothingToEnd (script_of c.args.script.now) = search rules in
+    inr (subst (λ (n : ℕ). 3 * used.limit ≤ 4 * (c.args.told - n)) begins due, ends_nothing, flushed.0, flushed.1)
