@@ -8,11 +8,10 @@ r"""Windows registry hives in memory, by the library `libregtx`.
         hive[r"ControlSet001\Services\Disk"].values["Start"] = Value.dword(0)
         hive.write("SYSTEM")
 
-README.md beside this file is its page. The library is `libregtx.so.0`: in the folder that REGTX_LIBRARY names, beside this file, or
-where the system's loader finds it. `load` names another one.
+README.md beside this file is its page. The library is `libregtx.so.0`: `load` says where it is looked for.
 
-A path is a str of key names with one backslash between each two; "" is the root. The name "" is that of the default value. Names are
-found as the library looks them up: `a` to `z` count as `A` to `Z`. A lone surrogate of a name is one in the str too.
+A path is a str of key names with one backslash between each two; "" is the root. The name "" is that of the default value. In names
+`a` to `z` count as `A` to `Z`. A lone surrogate of a name is one in the str too.
 """
 from __future__ import annotations
 
@@ -40,9 +39,8 @@ Content = Union[bytes, bytearray, memoryview]
 FilePath = Union[str, "os.PathLike[str]"]
 
 _NAME = "libregtx.so.0"
-# numbers of regtx.h
+# numbers of regtx.h; and those that answer a path at which there is no key
 _OK, _NOT_FOUND, _BAD_NAME, _TOO_DEEP, _NO_ROOM = 0, 2, 4, 5, 101
-# what is answered for a path at which no key can be
 _NO_KEY = (_NOT_FOUND, _BAD_NAME, _TOO_DEEP)
 _UTF_16, _decode = ("utf-16-le", utf_16_le_decode) if sys.byteorder == "little" else ("utf-16-be", utf_16_be_decode)
 # the first rooms of a name, in units, and of data; and what a hive's file may grow until it is written, both in bytes
@@ -793,6 +791,10 @@ class Values(_OfKey[Value], MutableMapping[str, Value]):
 
     def __len__(self) -> int:
         return int(self._key.hive._info(self._key.path).values)
+
+    def clear(self) -> None:
+        for name in self:
+            del self[name]
 
     def _all(self) -> Dict[str, Value]:
         with Cursor(self._key.hive, self._key.path) as cursor:
