@@ -45,8 +45,7 @@ _NO_KEY = (_NOT_FOUND, _BAD_NAME, _TOO_DEEP)
 _UTF_16, _decode = ("utf-16-le", utf_16_le_decode) if sys.byteorder == "little" else ("utf-16-be", utf_16_be_decode)
 # the first rooms of a name, in units, and of data; and what a hive's file may grow until it is written, both in bytes
 _NAME_ROOM, _DATA_ROOM, _GROWTH = 512, 4_096, 65_536
-# from the year 1601 to 1970, in units of 100 nanoseconds
-_MOMENT_1970 = 116_444_736_000_000_000
+_MOMENT_1970 = 116_444_736_000_000_000    # 100 nanoseconds since the year 1601
 _YEAR_1601 = datetime(1601, 1, 1, tzinfo=timezone.utc)
 
 
@@ -519,8 +518,7 @@ def _naming(path: str) -> Iterator[None]:
 
 def _replace(path: str, content: bytes) -> None:
     """Writes a file beside another one, puts it in its place once it is on the disk, and syncs the folder."""
-    # a link stays, and leads to the new file
-    path = os.path.realpath(path) if os.path.islink(path) else path
+    path = os.path.realpath(path) if os.path.islink(path) else path    # the link stays
     beside, folder = f"{path}.new", os.path.dirname(path) or "."
     file = open(beside, "xb")
     try:

@@ -38,6 +38,10 @@
 #![deny(missing_docs, unsafe_op_in_unsafe_fn)]
 #![deny(unsafe_code)]
 
+#[cfg(doctest)]
+#[doc = include_str!("../README.md")]
+struct Page;
+
 mod cursor;
 mod error;
 #[allow(unsafe_code)]
