@@ -1,4 +1,4 @@
-# Installs the program, its manual page, its clients and the library for C. docs/INSTALLING.md says more.
+# Installs the program, its manual page, its clients, the library for C and what stands over it. docs/INSTALLING.md says more.
 #
 #   make                              builds the program, the library and the manual page, if they are missing or stale
 #   make install PREFIX=/usr/local    installs it; with DESTDIR=FOLDER into a folder that stands for the root
@@ -25,10 +25,13 @@ PAGES = README.md docs/USING.md docs/SCRIPTS.md docs/REGFILES.md docs/LAB.md doc
 # sources, pages and examples; no tests, and nothing that was built
 CLIENTS = $(wildcard clients/README.md clients/*/README.md clients/python/*.py clients/c/*.[ch] \
     clients/rust/Cargo.toml clients/rust/Cargo.lock clients/rust/src/*.rs clients/rust/examples/*.rs)
+# the same of what stands over the library for C
+BINDINGS = $(wildcard bindings/README.md bindings/*/README.md bindings/python/*.py bindings/rust/Cargo.toml bindings/rust/Cargo.lock \
+    bindings/rust/src/*.rs bindings/rust/examples/*.rs)
 # all that is installed, below PREFIX
 INSTALLED = bin/regtx libexec/regtx include/regtx.h lib/libregtx.a lib/$(SHARED) lib/libregtx.so lib/pkgconfig/regtx.pc share/man/man1/regtx.1 \
     share/bash-completion/completions/regtx $(ZSH_FUNCTIONS)/_regtx \
-    $(PAGES:%=share/doc/regtx/%) $(CLIENTS:%=share/regtx/%)
+    $(PAGES:%=share/doc/regtx/%) $(CLIENTS:%=share/regtx/%) $(BINDINGS:%=share/regtx/%)
 FOLDERS = $(sort $(patsubst %/,%,$(dir $(INSTALLED))))
 
 SHELL = /bin/sh
@@ -77,7 +80,7 @@ install: program library $(MANUAL)
 	for page in $(PAGES); do
 	    install -m 644 "$$page" "$$root/share/doc/regtx/$$page"
 	done
-	for file in $(CLIENTS); do
+	for file in $(CLIENTS) $(BINDINGS); do
 	    install -m 644 "$$file" "$$root/share/regtx/$$file"
 	done
 	printf '%s\n' "$$about" | grep -q '^proved by ' ||

@@ -9,9 +9,10 @@
  *
  * The value is a REG_DWORD, and its key must be there. KEY and NAME are ASCII. OUT may be IN. The
  * new hive is written as OUT.new, which must not be there, and gets its name once it is on the
- * disk. So OUT is the old file or the new one.
+ * disk. So OUT is the old file or the new one. Then the folder is synced.
  *
- * Status 0: done. 1: something was refused, and OUT is as it was. 2: the words are wrong.
+ * Status 0: done. 1: something was refused, and OUT is as it was, unless that was the sync of its
+ * folder. 2: the words are wrong.
  *
  * Built by: cc -I FOLDER hive_edit.c FOLDER/libregtx.a
  */
@@ -20,6 +21,7 @@
 #include "regtx.h"
 
 #include <errno.h>
+#include <fcntl.h>
 #include <inttypes.h>
 #include <stdio.h>
 #include <stdlib.h>
@@ -327,7 +329,24 @@ static bool write_new(const char *name, const struct bytes *file)
     return is_written;
 }
 
-/* Writes a file beside another one, and puts it in its place once it is on the disk. */
+/* Syncs the folder of a file, whose name is cut off from the path. */
+static bool sync_folder(char *path)
+{
+    char *slash = strrchr(path, '/');
+    if (slash == NULL)
+        strcpy(path, ".");
+    else
+        slash[slash == path] = 0;
+    int folder = open(path, O_RDONLY | O_DIRECTORY);
+    if (folder < 0)
+        return failed(path);
+    bool is_synced = fsync(folder) == 0 || failed(path);
+    close(folder);
+    return is_synced;
+}
+
+/* Writes a file beside another one, puts it in its place once it is on the disk, and syncs the
+ * folder. */
 static bool replace_file(const char *name, const struct bytes *file)
 {
     size_t size = strlen(name) + sizeof ".new";
@@ -340,6 +359,7 @@ static bool replace_file(const char *name, const struct bytes *file)
         is_done = failed(name);
         remove(beside);
     }
+    is_done = is_done && sync_folder(beside);
     free(beside);
     return is_done;
 }

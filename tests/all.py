@@ -62,6 +62,7 @@ TESTS = [
     Test("c_library", "tests/c_library.py $regtx $library", 100),
     Test("memory", "tests/memory.py $regtx runs/memory.run runs/wide_memory.py", 70),
     Test("library_examples", "tests/library_examples.py $regtx $library", 70, ["cargo"]),
+    Test("hive_bindings", "tests/hive_bindings.py $library", 50),
     Test("install", "tests/install.py $regtx $library", 60),
     Test("thread_kills", "tests/thread_kills.py $regtx_bench", 60),
     Test("stores", "tests/stores.py $regtx", 55),

@@ -13,12 +13,12 @@ BLOCK = re.compile(r"^```rust,no_run\n(.*?)^```$.*?^```text\n(.*?)^```$", re.MUL
 # there are so many at least, with the code of the pages
 LEAST_TESTS, SECONDS, EXPORTS = 20, 300, re.compile(r"^\s*(?:pub )?fn (regtx_\w+)\(", re.MULTILINE)
 MANIFEST = """[package]
-name = "page"
+name = "{name}"
 version = "0.0.0"
 edition = "2021"
 
 [dependencies]
-regtx-hive = {{ path = "{}" }}
+regtx-hive = {{ path = "{crate}" }}
 """
 # what stands in the package
 PACKAGE = {".cargo_vcs_info.json", "Cargo.lock", "Cargo.toml", "Cargo.toml.orig", "README.md"}
@@ -26,8 +26,8 @@ PACKAGE = {".cargo_vcs_info.json", "Cargo.lock", "Cargo.toml", "Cargo.toml.orig"
 
 def cargo(program, folder, *words, place=CRATE, **environment):
     """What cargo prints and its status. The linker finds the library by LIBRARY_PATH, as the crate's page says."""
-    given = dict(os.environ, CARGO_TARGET_DIR=program.at("target"), RUSTFLAGS="-D warnings", RUST_TEST_THREADS="1", TMPDIR=program.home,
-                 LIBRARY_PATH=folder, **environment)
+    given = {**os.environ, "CARGO_TARGET_DIR": program.at("target"), "RUSTFLAGS": "-D warnings", "RUST_TEST_THREADS": "1",
+             "TMPDIR": program.home, "LIBRARY_PATH": folder, **environment}
     ran = subprocess.run(["timeout", "--signal=KILL", str(SECONDS), "cargo", *words, "--offline"], cwd=place, env=given,
                          stdin=subprocess.DEVNULL, capture_output=True, text=True)
     return ran.stdout, ran.stderr, ran.returncode
@@ -52,8 +52,7 @@ def package(program, folder):
     sources = {name for name in tracked if name.endswith(".rs")}
     yield expect("the package", set(printed.split()) - {".cargo_vcs_info.json"}, (PACKAGE | sources) - {".cargo_vcs_info.json"})
     for name in sorted(name for name in sources if name.startswith("src/")):
-        with open(os.path.join(CRATE, name), encoding="utf-8") as file:
-            text = file.read()
+        text = content(os.path.join(CRATE, name))
         has_unsafe = re.search(r"\bunsafe\s*(?:\{|impl|fn|extern)", text) is not None
         yield expect(f"{name}: unsafe code", has_unsafe, name == "src/ffi.rs")
         blocks, reasons = len(re.findall(r"\bunsafe (?:\{|impl)", text)), text.count("// SAFETY: ")
@@ -62,22 +61,49 @@ def package(program, folder):
 
 def declared(folder):
     """Each call that the crate declares is one of the library."""
-    with open(os.path.join(CRATE, "src", "ffi.rs"), encoding="utf-8") as file:
-        names = EXPORTS.findall(file.read())
-    with open(os.path.join(folder, "regtx.h"), encoding="utf-8") as file:
-        header = set(re.findall(r"^(?:uint32_t|void|bool) (regtx_\w+)\(", file.read(), re.MULTILINE))
+    names = EXPORTS.findall(content(os.path.join(CRATE, "src", "ffi.rs")))
+    header = set(re.findall(r"^(?:uint32_t|void|bool) (regtx_\w+)\(", content(os.path.join(folder, "regtx.h")), re.MULTILINE))
     yield expect("the calls that are declared", (len(names) > 15, set(names) - header), (True, set()))
+
+
+def content(path):
+    with open(path, encoding="utf-8") as file:
+        return file.read()
+
+
+def project(program, name, code):
+    """The folder of a program that uses the crate."""
+    place = program.at(name)
+    os.makedirs(os.path.join(place, "src"))
+    for path, text in (("Cargo.toml", MANIFEST.format(name=name, crate=CRATE)), ("src/main.rs", code)):
+        with open(os.path.join(place, path), "w", encoding="utf-8") as file:
+            file.write(text)
+    return place
+
+
+def rounds(program, folder):
+    """A program whose hives go from thread to thread: what it prints, what it holds, and two that must not be compiled."""
+    place = project(program, "rounds", content(os.path.join(TOP, "tests", "hive_crate.rs")))
+    _, why, status = cargo(program, folder, "build", place=place, RUSTFLAGS="")
+    yield expect("rounds: the build", (why[-600:] if status else "", status), ("", 0))
+    held = program.at("held.so")
+    # this library tells how many bytes are held, at each line that is printed
+    subprocess.run(["cc", "-O2", "-shared", "-fPIC", "-o", held, os.path.join(TOP, "bench", "held.c")], check=True)
+    words = [program.at("target", "debug", "rounds"), os.path.join(TOP, "examples", "software.dat")]
+    ran = subprocess.run(words, env=dict(os.environ, LD_PRELOAD=held), capture_output=True, timeout=SECONDS)
+    yield expect("rounds", (ran.stdout, ran.returncode), (b"round\n" * 20 + b"done\n", 0))
+    counts = [int(count) for count in re.findall(rb"held=(\d+)", ran.stderr)][5:20]
+    # blocks have a few bytes more or less; a hive has thousands
+    yield expect("bytes held after rounds", (len(counts), max(counts) - min(counts) < 1_000), (15, True)) and f"held: {counts}"
+    for word, wanted in [("is_copied", "the trait bound `Hive: Clone` is not satisfied"), ("is_shared", "cannot be shared between threads safely")]:
+        _, why, status = cargo(program, folder, "check", place=place, RUSTFLAGS=f"--cfg {word}")
+        yield expect(word, (status, wanted in why), (101, True))
 
 
 def page(program, folder):
     """The example of the crate's page prints what the page shows."""
-    with open(os.path.join(CRATE, "README.md"), encoding="utf-8") as file:
-        code, wanted = BLOCK.search(file.read()).groups()
-    place = program.at("page")
-    os.makedirs(os.path.join(place, "src"))
-    for name, text in (("Cargo.toml", MANIFEST.format(CRATE)), ("src/main.rs", code)):
-        with open(os.path.join(place, name), "w", encoding="utf-8") as file:
-            file.write(text)
+    code, wanted = BLOCK.search(content(os.path.join(CRATE, "README.md"))).groups()
+    place = project(program, "page", code)
     printed, why, status = cargo(program, folder, "run", "--quiet", place=place)
     yield expect("the example of the page", (printed, why, status), (wanted, "", 0))
     yield expect("what it writes", os.path.getsize(os.path.join(place, "vendor.hive")) % 4_096, 0)
@@ -116,4 +142,5 @@ def rust(program, folder, trees, spoiled):
         yield from package(program, folder)
         yield from declared(folder)
         yield from page(program, folder)
+        yield from rounds(program, folder)
         yield from read(program, trees, spoiled)

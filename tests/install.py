@@ -5,7 +5,7 @@
 
 - version: each version that is told is the one of crates/regtx/src/about.rt.
 - files: `make install` and `make uninstall`: which files with which modes, what is refused, and what is left.
-- works: the program, the library with pkg-config, and the three clients, each from the place where it is installed.
+- works: the program, the library with pkg-config, the three clients and the two bindings, each from the place where it is installed.
 - manual: the manual page has no warning of groff or mandoc, and all that the pages and the usages have.
 - completion: what bash and zsh complete after each word of each command.
 - package: a Debian package, its fields and its files; it is installed by dpkg, tried and removed, if this is root.
@@ -94,9 +94,13 @@ def versions(make, home):
     client = os.path.join(prefix, "share/regtx/clients")
     told = printed(sys.executable, "-Bc", "import regtx; print(regtx.__version__)", cwd=os.path.join(client, "python"))
     yield expect("the client for Python", told, f"{wanted}\n")
-    for name in ("Cargo.toml", "Cargo.lock"):
-        found = re.findall(r'^name = "regtx-client"\nversion = "(.*)"$', content(os.path.join(client, "rust", name)).decode(), re.M)
-        yield expect(name, found, [wanted])
+    bindings = os.path.join(prefix, "share/regtx/bindings")
+    told = printed(sys.executable, "-Bc", "import regtx_hive; print(regtx_hive.__version__)", cwd=os.path.join(bindings, "python"))
+    yield expect("the module of Python", told, f"{wanted}\n")
+    for crate, place in [("regtx-client", client), ("regtx-hive", bindings)]:
+        for name in ("Cargo.toml", "Cargo.lock"):
+            found = re.findall(rf'^name = "{crate}"\nversion = "(.*)"$', content(os.path.join(place, "rust", name)).decode(), re.M)
+            yield expect(f"{name} of {crate}", found, [wanted])
     numbers = [int(number) for number in wanted.split(".")]
     number = sum(number * weight for number, weight in zip(numbers, (10_000, 100, 1)))
     header = content(os.path.join(prefix, "include/regtx.h")).decode()
@@ -195,7 +199,7 @@ def defaults(make, home):
     """Without PROGRAM and LIBRARY the program that tools/build_quick.py names is installed, and what tools/c_library.py makes if it
     is asked for what is stale."""
     copy, base = os.path.join(home, "copy"), os.path.join(home, "defaults")
-    copied([*SOURCES, "docs", "clients", "completions", "Makefile"], copy)
+    copied([*SOURCES, "docs", "clients", "bindings", "completions", "Makefile"], copy)
     for name, text in [("build_quick.py", f"echo '{make.program}'"),
                        ("c_library.py", f"mkdir -p $2 && cp {make.library}/regtx.h {make.library}/libregtx.* $2 && echo $* >>made")]:
         with open(os.path.join(copy, "tools", name), "w", encoding="ascii") as file:
@@ -294,6 +298,22 @@ def clients(prefix, home):
     yield expect("what the clients write", differences(modes(place), before), ([], [], []))
 
 
+def bindings(prefix, home):
+    """The module and the crate over the installed library, from their places. Nothing is written there."""
+    place, lib = os.path.join(prefix, "share/regtx/bindings"), os.path.join(prefix, "lib")
+    before, hive = modes(place), os.path.join(TOP, "examples", "software.dat")
+    code = f"from regtx_hive import Hive; print(Hive.open({hive!r})['Software/Vendor/Product'.replace('/', chr(92))].values['Version'].value)"
+    found = environment(PYTHONPATH=os.path.join(place, "python"), PYTHONDONTWRITEBYTECODE="1", LD_LIBRARY_PATH=lib)
+    yield expect("the module of Python", ran(sys.executable, "-c", code, env=found), ("1.2\n", "", 0))
+    if are_there("works", "cargo"):
+        given = environment(CARGO_TARGET_DIR=os.path.join(home, "bindings"), RUSTFLAGS="-D warnings", LIBRARY_PATH=lib, LD_LIBRARY_PATH=lib)
+        words = ["run", "--quiet", "--example", "print", "--offline", "--locked", "--jobs", "1"]
+        words += ["--manifest-path", os.path.join(place, "rust/Cargo.toml"), "--", hive]
+        told, why, status = ran("cargo", *words, env=given)
+        yield expect("the crate", ('  "Version" REG_SZ 31002e0032000000\n' in told, why, status), (True, "", 0))
+    yield expect("what the bindings write", differences(modes(place), before), ([], [], []))
+
+
 def works(make, home):
     """The installed program makes a store; the library and the clients are used from their places."""
     prefix = os.path.join(home, "works")
@@ -309,6 +329,7 @@ def works(make, home):
         yield expect(words[0], ran(program, *words, cwd=home), (told, "", 0))
     yield from library(prefix, home)
     yield from clients(prefix, home)
+    yield from bindings(prefix, home)
 
 
 def usages(program):

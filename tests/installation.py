@@ -11,7 +11,7 @@ TOP = os.path.dirname(os.path.dirname(os.path.abspath(__file__)))
 SECONDS = 120
 PAGES = ["README.md", *[f"docs/{name}.md" for name in ("LAB", "REGFILES", "SCRIPTS", "SWEEP", "USING")]]
 MANUAL, ZSH, VENDOR_ZSH = "share/man/man1/regtx.1", "share/zsh/site-functions/_regtx", "share/zsh/vendor-completions/_regtx"
-# what has no client among it, with the modes
+# what has no client and no binding among it, with the modes
 FILES = {"bin/regtx": 0o755, "libexec/regtx": 0o755, "lib/libregtx.so": None, **dict.fromkeys([
     "include/regtx.h", "lib/libregtx.a", "lib/libregtx.so.0", "lib/pkgconfig/regtx.pc", MANUAL, ZSH,
     "share/bash-completion/completions/regtx", *[f"share/doc/regtx/{page}" for page in PAGES],
@@ -69,8 +69,8 @@ class Make:
 
 
 def client_files():
-    """The files of clients that are installed: those of the repository that are no tests, and say nothing to git."""
-    names = (name.split("/") for name in printed("git", "ls-files", "clients", cwd=TOP).split())
+    """The files of clients and bindings that are installed: those of the repository that are no tests, and say nothing to git."""
+    names = (name.split("/") for name in printed("git", "ls-files", "clients", "bindings", cwd=TOP).split())
     return ["/".join(parts) for parts in names if "tests" not in parts and parts[-1] != ".gitignore"]
 
 

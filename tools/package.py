@@ -22,7 +22,7 @@ MAINTAINER = "Nojaldreg <nojaldreg@example.invalid>"
 # files with symbols that the C library has to have, and the page that is kept compressed
 LINKED, MANUAL = ["usr/libexec/regtx", "usr/lib/libregtx.so.0"], "usr/share/man/man1/regtx.1"
 SYMBOL = re.compile(r"\bGLIBC_(\d+(?:\.\d+)+)\b")
-ALSO = "The package has the program, its manual page, its clients for Python, Rust and C, and a library for C: hives in memory."
+ALSO = "The package has the program, its manual page, its clients for Python, Rust and C, bindings for Python and Rust, and a library for C: hives in memory."
 # where the zsh of Debian looks for completions of packages
 ZSH_FUNCTIONS = "ZSH_FUNCTIONS=share/zsh/vendor-completions"
 # a library came or went

@@ -51,7 +51,7 @@ def places(path, page, spoken):
 def has_to_be(path, page):
     """Whether a path has to name a file of ours, and nothing that a command makes."""
     first = path.removeprefix("./").removeprefix("../").split("/")[0]
-    ours = {*crates(), *programs(), "crates", "docs", "tests", "tools", "bench", "runs", "examples", "clients", "completions"}
+    ours = {*crates(), *programs(), "crates", "docs", "tests", "tools", "bench", "runs", "examples", "clients", "bindings", "completions"}
     inner = {"src", "specs", "proofs"} if page.startswith(("crates/", "docs/")) else set()
     return (first in ours | inner or path.endswith((".rt", ".antt"))) and not path.startswith(MADE) and "/out/" not in f"{path}/"
 

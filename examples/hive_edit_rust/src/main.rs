@@ -1,19 +1,13 @@
 //! Prints the keys and values of an offline hive, sets one number in it, and writes the new hive.
 //! The head of `../hive_edit.c` says what is printed, and what becomes of OUT.
 
-mod ffi;
-mod hive;
-
-use hive::{Error, Hive};
+use regtx_hive::{Error, FileError, Hive, Name, Value};
 use std::ffi::{OsStr, OsString};
-use std::fs::{self, OpenOptions};
 use std::io::{self, BufWriter, Write};
-use std::path::{Path, PathBuf};
+use std::path::PathBuf;
 use std::process::ExitCode;
-use std::time::{SystemTime, UNIX_EPOCH};
 use std::{env, fmt};
 
-const REG_DWORD: u32 = 4;
 const MOST_DIGITS: usize = 10;
 
 /// What the words ask for.
@@ -53,15 +47,16 @@ impl Failure {
     }
 }
 
-/// The units of a text.
-fn units_of(text: &str) -> Vec<u16> {
-    text.encode_utf16().collect()
+impl From<FileError> for Failure {
+    fn from(why: FileError) -> Self {
+        Failure(why.to_string())
+    }
 }
 
 /// A name as it is printed.
-fn spelled(units: &[u16]) -> String {
+fn spelled(name: &Name) -> String {
     let escaped = |unit: u16| format!("%{unit:04x}");
-    char::decode_utf16(units.iter().copied())
+    char::decode_utf16(name.units().iter().copied())
         .map(|read| match read {
             Ok(letter) if letter == '%' || letter.is_control() => escaped(letter as u16),
             Ok(letter) => letter.to_string(),
@@ -71,7 +66,7 @@ fn spelled(units: &[u16]) -> String {
 }
 
 /// A value's name as it is printed: the default value has none.
-fn spelled_value(name: &[u16]) -> String {
+fn spelled_value(name: &Name) -> String {
     match spelled(name).as_str() {
         "" => "@".into(),
         "@" => "%0040".into(),
@@ -107,84 +102,29 @@ impl From<io::Error> for Unprinted {
     }
 }
 
-/// Prints the key at a path, and all below it: 512 levels at most.
-fn print_key(hive: &mut Hive, path: &mut Vec<u16>, to: &mut impl Write) -> Result<(), Unprinted> {
-    let info = hive.info(path)?;
-    writeln!(to, "[{}]", spelled(path))?;
-    for index in 0..info.values as usize {
-        let name = hive.value_name_at(path, index)?;
-        let (kind, data) = hive.value_at(path, index)?;
-        writeln!(to, "  {} {kind} {}", spelled_value(&name), hex(&data))?;
-    }
-    let len = path.len();
-    for index in 0..info.subkeys as usize {
-        let name = hive.key_at(path, index)?;
-        if len > 0 {
-            path.push(u16::from(b'\\'));
-        }
-        path.extend(name);
-        print_key(hive, path, to)?;
-        path.truncate(len);
-    }
-    Ok(())
-}
-
-fn print_tree(hive: &mut Hive) -> Result<(), Unprinted> {
+fn print_tree(hive: &Hive) -> Result<(), Unprinted> {
     let mut to = BufWriter::new(io::stdout().lock());
-    print_key(hive, &mut Vec::new(), &mut to)?;
+    for entry in hive.walk("")? {
+        let entry = entry?;
+        writeln!(to, "[{}]", spelled(&entry.path))?;
+        for (name, value) in &entry.values {
+            let (name, kind) = (spelled_value(name), value.kind.0);
+            writeln!(to, "  {name} {kind} {}", hex(&value.data))?;
+        }
+    }
     to.flush()?;
     Ok(())
 }
 
-/// Units of 100 nanoseconds since the year 1601, as keys have them.
-fn now() -> u64 {
-    let since_1970 = SystemTime::now()
-        .duration_since(UNIX_EPOCH)
-        .unwrap_or_default();
-    (since_1970.as_secs() + 11_644_473_600) * 10_000_000
-        + u64::from(since_1970.subsec_nanos()) / 100
-}
-
-/// Writes a file beside another one, and puts it in its place once it is on the disk.
-fn replace_file(out: &Path, bytes: &[u8]) -> Result<(), Failure> {
-    let mut beside = out.as_os_str().to_owned();
-    beside.push(".new");
-    // not over a file that is there
-    let mut to = OpenOptions::new()
-        .write(true)
-        .create_new(true)
-        .open(&beside)
-        .map_err(|why| Failure::with(&beside, why))?;
-    let written = to
-        .write_all(bytes)
-        .and_then(|()| to.sync_all())
-        .map_err(|why| Failure::with(&beside, why))
-        .and_then(|()| fs::rename(&beside, out).map_err(|why| Failure::with(out, why)));
-    if written.is_err() {
-        let _ = fs::remove_file(&beside);
-    }
-    written
-}
-
 fn carry_out(edit: &Edit) -> Result<(), Failure> {
-    let file = fs::read(&edit.file).map_err(|why| Failure::with(&edit.file, why))?;
-    let mut hive = Hive::open(&file).map_err(|why| Failure::with(&edit.file, why))?;
-    drop(file);
-    print_tree(&mut hive).map_err(|why| match why {
+    let mut hive = Hive::open_file(&edit.file)?;
+    print_tree(&hive).map_err(|why| match why {
         Unprinted::Refused(why) => Failure::with(&edit.file, why),
         Unprinted::Unwritten(why) => Failure::with("standard output", why),
     })?;
-    let data = edit.number.to_le_bytes();
-    hive.set_value(
-        &units_of(&edit.key),
-        &units_of(&edit.name),
-        REG_DWORD,
-        &data,
-        now(),
-    )
-    .map_err(|why| Failure::with(&edit.key, why))?;
-    let bytes = hive.write().map_err(|why| Failure::with(&edit.out, why))?;
-    replace_file(&edit.out, &bytes)
+    hive.set_value(&edit.key, &edit.name, &Value::dword(edit.number))
+        .map_err(|why| Failure::with(&edit.key, why))?;
+    Ok(hive.write_file(&edit.out)?)
 }
 
 fn main() -> ExitCode {
