@@ -574,9 +574,9 @@ class Cursor:
 
     def _make_room(self, units: int, size: int) -> None:
         """Makes the buffers of a name and of data, in units and in bytes."""
-        name, data = ctypes.create_string_buffer(2 * units), ctypes.create_string_buffer(size)
-        self._rooms, self._room = (name, ctypes.c_size_t(units), data, ctypes.c_size_t(size)), (units, size)
-        self._names, self._data = memoryview(name).cast("B"), memoryview(data).cast("B")
+        make, as_word = ctypes.create_string_buffer, ctypes.c_size_t.from_param  # type: Any, Any
+        self._names, self._data = make(2 * units), make(size)
+        self._rooms, self._room = (ctypes.byref(self._names), as_word(units), ctypes.byref(self._data), as_word(size)), (units, size)
 
     def __enter__(self) -> Cursor:
         return self
@@ -606,10 +606,12 @@ class Cursor:
 
     def _step(self, step: Callable[..., int]) -> bool:
         code = step(self._at)
-        if code != _NOT_FOUND:
+        if code == _NOT_FOUND:
+            return False
+        if code:
             self._library.check(code)
-            self._read()
-        return code == _OK
+        self._read()
+        return True
 
     def _read(self) -> None:
         """Reads what the key has, and its name."""
@@ -617,7 +619,8 @@ class Cursor:
         if code == _NO_ROOM:
             self._make_room(self._length.value, self._room[1])
             code = self._library.cursor_key(self._at, self._key_at[0], *self._rooms[:2], self._key_at[1])
-        self._library.check(code)
+        if code:
+            self._library.check(code)
         self.name = _decode(self._names[:2 * self._length.value], "surrogatepass", True)[0]
         self.time, self.subkeys, self._count = self._info.time, self._info.subkeys, self._info.values
 
@@ -638,7 +641,7 @@ class Cursor:
                 self._library.check(code)
             kind, units, size = _read_about(about)
             name = _decode(self._names[:units + units], "surrogatepass", True)[0]
-            found[name] = make(Value, (_KINDS.get(kind, kind), bytes(self._data[:size])))
+            found[name] = make(Value, (_KINDS.get(kind, kind), self._data[:size]))
         return found
 
 
@@ -647,7 +650,8 @@ def _walk(cursor: Cursor, path: str) -> Iterator[Entry]:
     paths = [path]
     with cursor:
         while True:
-            yield Entry(paths[-1], cursor.name, len(paths) - 1, cursor.time, cursor.subkeys, cursor.values())
+            told = (paths[-1], cursor.name, len(paths) - 1, cursor.time, cursor.subkeys, cursor.values())
+            yield tuple.__new__(Entry, told)
             if cursor.subkeys and cursor.down():
                 paths.append("")
             else:
@@ -729,8 +733,6 @@ class Key:
 
 
 class _OfKey(Mapping[str, _T]):
-    __slots__ = ("_key",)
-
     def __init__(self, key: Key) -> None:
         self._key = key
 
@@ -749,8 +751,6 @@ class _OfKey(Mapping[str, _T]):
 
 class Subkeys(_OfKey[Key]):
     """The subkeys of a key, by their names, in the hive's order. An iteration tells them as they were when it began."""
-
-    __slots__ = ()
 
     def __getitem__(self, name: str) -> Key:
         # a name with a backslash would be the path of another key
@@ -773,8 +773,6 @@ class Subkeys(_OfKey[Key]):
 
 class Values(_OfKey[Value], MutableMapping[str, Value]):
     """The values of a key, by their names, in the hive's order. An iteration tells them as they were when it began."""
-
-    __slots__ = ()
 
     def __getitem__(self, name: str) -> Value:
         return self._key.hive._value(self._key.path, name)
