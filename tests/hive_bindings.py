@@ -530,9 +530,11 @@ def calls(program, file):
 
 def loading(program, folder):
     """Where the library is looked for: the version, or what is raised, in a process of its own."""
-    beside, empty, so = program.at("beside"), program.at("empty"), os.path.join(folder, "libregtx.so.0")
-    os.mkdir(empty)
-    os.mkdir(beside)
+    beside, empty, wrong, so = *map(program.at, ("beside", "empty", "wrong")), os.path.join(folder, "libregtx.so.0")
+    for name in (beside, empty, wrong):
+        os.mkdir(name)
+    # one that can't be loaded: the system may have another one
+    program.put("wrong/libregtx.so.0", b"no library")
     for name in (os.path.join(PYTHON, "regtx_hive.py"), so):
         shutil.copy(name, beside)
     at_it = {"REGTX_LIBRARY": folder}
@@ -541,7 +543,7 @@ def loading(program, folder):
             ("a folder of the environment", PYTHON, "", at_it, "0.9.0"), ("a file of it", PYTHON, "", {"REGTX_LIBRARY": so}, "0.9.0"),
             ("beside the module", beside, "", {}, "0.9.0"), ("by the system", PYTHON, "", {"LD_LIBRARY_PATH": folder}, "0.9.0"),
             ("a folder that is named", PYTHON, f"regtx_hive.load({folder!r})", {"REGTX_LIBRARY": empty}, "0.9.0"),
-            ("a file that is named", PYTHON, f"regtx_hive.load({so!r})", {}, "0.9.0"), ("none there", PYTHON, "", {}, none),
+            ("a file that is named", PYTHON, f"regtx_hive.load({so!r})", {}, "0.9.0"), ("none that can be loaded", PYTHON, "", {"LD_LIBRARY_PATH": wrong}, none),
             ("an empty folder, though one is beside", beside, "", {"REGTX_LIBRARY": empty}, none),
             ("another library", PYTHON, "regtx_hive.load('/proc/self/exe')", at_it, none)]:
         code = f"import regtx_hive\ntry:\n    {load or 'pass'}\n    print(regtx_hive.version()[0])\nexcept OSError as error: print(error)"

@@ -24,10 +24,11 @@ regtx-hive = {{ path = "{crate}" }}
 PACKAGE = {".cargo_vcs_info.json", "Cargo.lock", "Cargo.toml", "Cargo.toml.orig", "README.md"}
 
 
-def cargo(program, folder, *words, place=CRATE, **environment):
-    """What cargo prints and its status. The linker finds the library by LIBRARY_PATH, as the crate's page says."""
-    given = {**os.environ, "CARGO_TARGET_DIR": program.at("target"), "RUSTFLAGS": "-D warnings", "RUST_TEST_THREADS": "1",
-             "TMPDIR": program.home, "LIBRARY_PATH": folder, **environment}
+def cargo(program, folder, *words, place=CRATE, flags=("-Dwarnings",)):
+    """What cargo prints and its status. The linker is told of the library's folder as the crate's page says."""
+    library = f"-Lnative={folder}"
+    given = {**os.environ, "CARGO_TARGET_DIR": program.at("target"), "CARGO_ENCODED_RUSTFLAGS": "\x1f".join([library, *flags]),
+             "CARGO_ENCODED_RUSTDOCFLAGS": library, "RUST_TEST_THREADS": "1", "TMPDIR": program.home}
     ran = subprocess.run(["timeout", "--signal=KILL", str(SECONDS), "cargo", *words, "--offline"], cwd=place, env=given,
                          stdin=subprocess.DEVNULL, capture_output=True, text=True)
     return ran.stdout, ran.stderr, ran.returncode
@@ -84,7 +85,7 @@ def project(program, name, code):
 def rounds(program, folder):
     """A program whose hives go from thread to thread: what it prints, what it holds, and two that must not be compiled."""
     place = project(program, "rounds", content(os.path.join(TOP, "tests", "hive_crate.rs")))
-    _, why, status = cargo(program, folder, "build", place=place, RUSTFLAGS="")
+    _, why, status = cargo(program, folder, "build", place=place, flags=())
     yield expect("rounds: the build", (why[-600:] if status else "", status), ("", 0))
     held = program.at("held.so")
     # this library tells how many bytes are held, at each line that is printed
@@ -95,8 +96,8 @@ def rounds(program, folder):
     counts = [int(count) for count in re.findall(rb"held=(\d+)", ran.stderr)][5:20]
     # blocks have a few bytes more or less; a hive has thousands
     yield expect("bytes held after rounds", (len(counts), max(counts) - min(counts) < 1_000), (15, True)) and f"held: {counts}"
-    for word, wanted in [("is_copied", "the trait bound `Hive: Clone` is not satisfied"), ("is_shared", "cannot be shared between threads safely")]:
-        _, why, status = cargo(program, folder, "check", place=place, RUSTFLAGS=f"--cfg {word}")
+    for word, wanted in [("is_copied", "Hive: Clone` is not satisfied"), ("is_shared", "cannot be shared between threads safely")]:
+        _, why, status = cargo(program, folder, "check", place=place, flags=("--cfg", word))
         yield expect(word, (status, wanted in why), (101, True))
 
 

@@ -306,7 +306,8 @@ def bindings(prefix, home):
     found = environment(PYTHONPATH=os.path.join(place, "python"), PYTHONDONTWRITEBYTECODE="1", LD_LIBRARY_PATH=lib)
     yield expect("the module of Python", ran(sys.executable, "-c", code, env=found), ("1.2\n", "", 0))
     if are_there("works", "cargo"):
-        given = environment(CARGO_TARGET_DIR=os.path.join(home, "bindings"), RUSTFLAGS="-D warnings", LIBRARY_PATH=lib, LD_LIBRARY_PATH=lib)
+        given = environment(CARGO_TARGET_DIR=os.path.join(home, "bindings"), CARGO_ENCODED_RUSTFLAGS=f"-Dwarnings\x1f-Lnative={lib}",
+                            LD_LIBRARY_PATH=lib)
         words = ["run", "--quiet", "--example", "print", "--offline", "--locked", "--jobs", "1"]
         words += ["--manifest-path", os.path.join(place, "rust/Cargo.toml"), "--", hive]
         told, why, status = ran("cargo", *words, env=given)

@@ -127,7 +127,7 @@ def compiled(program, folder, name, *words):
 def packaged(program, folder):
     """The program of the cargo package; Cargo.lock stays as it is."""
     target = program.at("rust")
-    environment = dict(os.environ, CARGO_TARGET_DIR=target, RUSTFLAGS="-D warnings", LIBRARY_PATH=folder)
+    environment = dict(os.environ, CARGO_TARGET_DIR=target, CARGO_ENCODED_RUSTFLAGS=f"-Dwarnings\x1f-Lnative={folder}")
     ran = subprocess.run(["cargo", "build", "--offline", "--locked", "--jobs", "1"], cwd=os.path.join(EXAMPLES, "hive_edit_rust"),
                          env=environment, stdin=subprocess.DEVNULL, capture_output=True)
     return os.path.join(target, "debug", "hive_edit"), f"cargo: {shown(ran.stderr)}" if ran.returncode else None

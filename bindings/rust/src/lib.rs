@@ -21,8 +21,8 @@
 //!
 //! It prints `Software\Vendor Version Some("1.0")`.
 //!
-//! **Linking.** The crate links `-lregtx`. If the linker doesn't find it by itself, the variable
-//! `LIBRARY_PATH` names its folder, which is `out/c` after `make library`.
+//! **Linking.** The crate links `-lregtx`. If the linker doesn't find it by itself, name its folder
+//! by `RUSTFLAGS="-L native=FOLDER"`. After `make library` it is the whole path of `out/c`.
 //!
 //! **Paths and names** are UTF-16 units, as hives have them. A call takes a `&str`, a [`Name`] or
 //! units. A path is key names with one backslash between each two; the empty one is the root. The
