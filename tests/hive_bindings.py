@@ -112,6 +112,14 @@ def mappings(title, opened, rows):
         yield expect(f"{title}: subkeys of {path}", [key.subkeys[swapped(name)].name for name in names[:50]], names[:50])
 
 
+def snapshots(title, opened):
+    """The values of a walk by their names in another spelling."""
+    for entry in opened.walk():
+        if entry.values:
+            found = [entry.values.get(swapped(name)) for name in entry.values]
+            yield expect(f"{title}: by name in {entry.path}", (found, entry.values.get("none")), (list(entry.values.values()), None))
+
+
 def made(_):
     for title, tree in made_trees().items():
         with Hive.open(hive(tree)[0]) as opened:
@@ -120,6 +128,7 @@ def made(_):
             yield expect(f"{title}: the root", (opened.root.name, opened.root.path), (tree.name, ""))
             if title != "deep":
                 yield from mappings(title, opened, rows)
+                yield from snapshots(title, opened)
             depths = [(entry.depth, entry.subkeys) for entry in opened.walk()]
             counts = [sum(other[0][:-1] == path for other in rows[1:]) for path, _, _ in rows[:MOST_KEYS]]
             yield expect(f"{title}: depths", depths[:MOST_KEYS], [(len(row[0]), count) for row, count in zip(rows, counts)])
