@@ -21,8 +21,9 @@ from hives import flat, tree  # noqa: E402
 sys.path.insert(0, os.path.join(measured.TOP, "tests"))
 from hive_rows import interpreter_with  # noqa: E402
 
-MB, RUNS = 1_000_000, 7
+MB, RUNS = 1_000_000, 5
 HIVES = [("a tree of fan-out 10", tree, [11_494, 57_471]), ("subkeys of one key", flat, [7_000, 70_000])]
+LOADED = " Other work loaded the machine meanwhile: only two rows of one hive compare with each other."
 TOLD = """
 print(opened - begun, time.process_time() - opened, keys, values, size)
 """
@@ -61,11 +62,10 @@ while left:
 """ + TOLD
 
 
-def read_by(words):
-    """Seconds of the opening and of the walk, in the run that took least, and how much was read."""
-    runs = [subprocess.run(words, stdout=subprocess.PIPE, text=True, check=True).stdout.split() for _ in range(RUNS)]
-    opened, walked = min((tuple(map(float, run[:2])) for run in runs), key=sum)
-    return opened, walked, runs[0][2:]
+def ran(words):
+    """Seconds of the opening and of the walk, and how much was read."""
+    opened, walked, *read = subprocess.run(words, stdout=subprocess.PIPE, text=True, check=True).stdout.split()
+    return float(opened), float(walked), list(map(int, read))
 
 
 def measure(interpreter, folder):
@@ -75,17 +75,16 @@ def measure(interpreter, folder):
         for keys in sizes:
             with open(path, "wb") as file:
                 file.write(made(keys))
-            length = os.path.getsize(path)
-            amounts = []
-            for title, code in (("regtx_hive", OURS), ("hivex", THEIRS)):
-                words = [interpreter, "-c", code, path]
-                opened, walked, read = read_by(words)
+            length, programs = os.path.getsize(path), [[interpreter, "-c", code, path] for code in (OURS, THEIRS)]
+            # by turns, so that other work meets both
+            runs = [[ran(words) for words in programs] for _ in range(RUNS)]
+            for title, words, told in zip(("regtx_hive", "hivex"), programs, zip(*runs)):
+                opened, walked, read = min(told, key=lambda run: run[0] + run[1])
+                if any(run[2] != runs[0][0][2] for run in told):
+                    sys.exit(f"{shape}, {keys} keys: {title} read {read}")
                 held = measured.spent_by(peak, 1, words)[1]
-                amounts.append(read)
-                yield (f"| {shape} | {length / MB:.1f} | {int(read[0]):,} | {int(read[1]):,} | {title} | {opened:.3f} | {walked:.3f} "
+                yield (f"| {shape} | {length / MB:.1f} | {read[0]:,} | {read[1]:,} | {title} | {opened:.3f} | {walked:.3f} "
                        f"| {opened + walked:.3f} | {held / length:.2f} |")
-            if amounts[0] != amounts[1]:
-                sys.exit(f"{shape}, {keys} keys: {amounts}")
 
 
 def main():
@@ -101,7 +100,7 @@ def main():
                              check=True).stdout.strip()
     with tempfile.TemporaryDirectory(prefix="bench-") as folder:
         lines = itertools.chain([
-            f"{measured.head('hive_walks')}, by Python {version}.",
+            f"{measured.head('hive_walks')}, by Python {version}.{LOADED if os.getloadavg()[0] > os.cpu_count() else ''}",
             "",
             "| hive | MB | keys | values | module | seconds to open | seconds to walk | together | memory in files |",
             "|---|---|---|---|---|---|---|---|---|",

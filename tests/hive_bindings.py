@@ -117,7 +117,7 @@ def snapshots(title, opened):
     for entry in opened.walk():
         if entry.values:
             found = [entry.values.get(swapped(name)) for name in entry.values]
-            yield expect(f"{title}: by name in {entry.path}", (found, entry.values.get("none")), (list(entry.values.values()), None))
+            yield expect(f"{title}: by name in {entry.path!r}", (found, entry.values.get("none")), (list(entry.values.values()), None))
 
 
 def made(_):
@@ -454,13 +454,14 @@ def resident():
 
 
 def memory():
-    """Openings of a hive that nobody closes, each with a walk that is left halfway, and refused ones."""
+    """Openings of a hive that nobody closes, each with a walk that is left halfway and a cursor, and refused ones."""
     with open(SOFTWARE, "rb") as file:
         content = file.read()
     bad, held = content[:-4_096], 0
     for number in range(OPENINGS):
         opened = Hive.open(content)
         next(opened.walk())
+        Cursor(opened, "software").down()
         opened["software"].values.get("none")
         if number % 10 == 0:
             raised(lambda: Hive.open(bad))
