@@ -15,7 +15,7 @@
 - pages: what the examples of the pages print; mypy, if it is there.
 - rust: the crate's tests, its package, and what its example `print` reads in the same hives; if cargo is there.
 
-The last line is 'N passed, N failed'; status 0 if none failed. What isn't over after 400 seconds ends with status 1.
+The last line is 'N passed, N failed'; status 0 if none failed. What isn't over after 900 seconds ends with status 1.
 """
 import faulthandler
 import glob
@@ -45,7 +45,7 @@ from other_readers import READERS  # noqa: E402
 from regtx_hive import Cursor, Hive, HiveError, Kind, NotFound, Value  # noqa: E402
 from scratch import Program, are_there, expect, finish, limited, noting_library, skip, tell  # noqa: E402
 
-MOST_SECONDS, SEED, TREES, SPOILED, CRATE_SPOILED, OPENINGS, MOST_KEYS = 400, 20_261, 12, 1_500, 40, 10_000, 200
+MOST_SECONDS, SEED, TREES, SPOILED, CRATE_SPOILED, OPENINGS, MOST_KEYS = 900, 20_261, 12, 1_500, 40, 10_000, 200
 SOFTWARE = os.path.join(TOP, "examples", "software.dat")
 OLD = b"what was there before"
 
