@@ -6,7 +6,7 @@
 - made: hives whose trees are known, with names of all kinds of units: a walk, and each mapping.
 - others: hives that other programs wrote or read: the same as the Python module of hivex, hivexml and reglookup read.
 - values: makers of each type beside the bytes that the registry's rules give; what data of other lengths stand for.
-- edits: what is set, created and deleted, as hivexregedit, hivexml and reglookup read it; times.
+- edits: what is set, created and deleted, as hivexregedit, hivexml, reglookup and regfinfo read it; times.
 - refusals: the error of each, with its number, name and text; what isn't there is a KeyError.
 - damage: spoiled copies of hives: each is refused, or read to its end and written.
 - lives: closed hives, and what goes on after them; threads; the memory of 10,000 openings.
@@ -275,6 +275,10 @@ def edits(program):
     if are_there("edits", "hivexregedit"):
         yield expect("by hivexregedit", of_hivexregedit(file), wanted)
     yield from by_readers("edits", file, of_module(opened.walk()))
+    if are_there("edits", "regfinfo"):
+        yield expect("by regfinfo", by_regfinfo(file), sorted(
+            [(0, "ROOT"), *((len(path), path[-1]) for path in wanted if path),
+             *((len(path) + 1, name or "(default)") for path, held in wanted.items() for name in held)]))
     interpreter = interpreter_with("hivex")
     moment = 133_536_384_000_000_000
     if interpreter:
@@ -285,6 +289,13 @@ def edits(program):
     yield expect("a replaced value's name", [name for name in vendor.values if name.lower() == "number"], ["Number"])
     vendor.values.clear()
     yield expect("cleared", (dict(vendor.values), "Number" in vendor.values), ({}, False))
+
+
+def by_regfinfo(file):
+    """The names of keys and values that libregf reads, each with how deep it is."""
+    ran = subprocess.run(["regfinfo", file], stdout=subprocess.PIPE, text=True, check=True, timeout=60)
+    told = (re.fullmatch(r"( *)\((?:key:|value: \d+)\) (.*)", line) for line in ran.stdout.splitlines())
+    return sorted((len(line[1]), line[2]) for line in told if line)
 
 
 def times(opened, moment, when):
