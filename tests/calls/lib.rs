@@ -15,6 +15,8 @@ mod exports;
 #[cfg(test)]
 mod folders;
 #[cfg(test)]
+mod frames;
+#[cfg(test)]
 mod hives;
 #[cfg(test)]
 mod loops;
