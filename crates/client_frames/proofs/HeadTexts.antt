@@ -1,7 +1,8 @@
 -- The texts of heads.
-use Rattle.std.proofs.Common.{◌≡◌, ◌≢◌, ℕ, ◌<◌, ◌≤◌, List, ◌∷◌, ◌++◌, length, get_or, replicate, refl, sym, ◌∙◌, ap, subst, arith}
-use Rattle.std.specs.Prelude.{codes, Option, Some, None, MatchOption}
+use Rattle.std.proofs.Common.{◌≡◌, ◌≢◌, ℕ, ◌<◌, ◌≤◌, ◌==◌, true, List, ◌∷◌, ◌++◌, length, get_or, replicate, refl, sym, ◌∙◌, ap, subst, arith}
+use Rattle.std.specs.Prelude.{codes, not, Option, Some, None, MatchOption}
 use Rattle.std.specs.Fmt.{decimal}
+use Rattle.std.specs.List.{list_all}
 use Rattle.std.proofs.lemmas.Fmt.{length-decimal-le, decimal_injective}
 use Rattle.std.proofs.lemmas.List.{append_assoc, length-append, length-replicate}
 use Rattle.client_frames.specs.Frames.{IsFrame, head_of, payload}
@@ -59,36 +60,29 @@ head_short (More place) is = omega (arith, length-append (codes "more ") (decima
 head_short (End place) is = omega (arith, length-append (codes "end ") (decimal place), short_place place is)
 head_short (Gone place) is = omega (arith, length-append (codes "gone ") (decimal place), short_place place is)
 
+-- the word of a text, and what follows it
+word_of : (text word rest name tail : List ℕ) → Lacks 32 word → list_all (λ b. not (b == 32)) name ≡ true → text ≡ word ++ 32 ∷ rest → text ≡ name ++ 32 ∷ tail → (word ≡ name) × (rest ≡ tail)
+word_of text word rest name tail l plain is e = cut_once 32 word rest name tail l (lacks_by_test 32 name plain) (sym is ∙ e)
+
 -- a text is no head if what follows its word is not what follows the word of one
-pub no_rest : (text word rest : List ℕ) → Lacks 32 word → text ≡ word ++ 32 ∷ rest → (word ≡ codes "data" → IsNoDataHead rest) → (word ≢ codes "data" → (place : ℕ) → place ≤ LAST_PLACE → rest ≡ decimal place → IsOtherWord word) → IsNoHead text
+pub no_rest : (text word rest : List ℕ) → Lacks 32 word → text ≡ word ++ 32 ∷ rest → (word ≡ codes "data" → IsNoDataHead rest) → ((place : ℕ) → place ≤ LAST_PLACE → rest ≡ decimal place → IsOtherWord word) → IsNoHead text
 no_rest text word rest l is none other Ready ok e = lacks_none 32 word rest (subst (Lacks 32) (sym e ∙ is) (lacks_by_test 32 (codes "ready") refl))
-no_rest text word rest l is none other (Open place) ok e =
-    let cut = cut_once 32 word rest (codes "open") (decimal place) l (lacks_by_test 32 (codes "open") refl) (sym is ∙ e) in
-    (other (λ d. differ (sym cut.0 ∙ d)) place ok cut.1).opens cut.0
-  where
-    differ : codes "open" ≡ codes "data" → ⊥
-    differ e = omega (arith, ap (λ (l : List ℕ). get_or l 0 0) e)
+no_rest text word rest l is none other (Open place) ok e = let cut = word_of text word rest (codes "open") (decimal place) l refl is e in (other place ok cut.1).opens cut.0
 no_rest text word rest l is none other (Data place count) ok e =
-    let cut = cut_once 32 word rest (codes "data") (decimal place ++ 32 ∷ decimal count) l (lacks_by_test 32 (codes "data") refl) (sym is ∙ e ∙ data_text place count) in
+    let cut = word_of text word rest (codes "data") (decimal place ++ 32 ∷ decimal count) l refl is (e ∙ data_text place count) in
     none cut.0 place count ok.0 ok.1 cut.1
-no_rest text word rest l is none other (More place) ok e =
-    let cut = cut_once 32 word rest (codes "more") (decimal place) l (lacks_by_test 32 (codes "more") refl) (sym is ∙ e) in
-    (other (λ d. differ (sym cut.0 ∙ d)) place ok cut.1).asks cut.0
-  where
-    differ : codes "more" ≡ codes "data" → ⊥
-    differ e = omega (arith, ap (λ (l : List ℕ). get_or l 0 0) e)
-no_rest text word rest l is none other (End place) ok e =
-    let cut = cut_once 32 word rest (codes "end") (decimal place) l (lacks_by_test 32 (codes "end") refl) (sym is ∙ e) in
-    (other (λ d. differ (sym cut.0 ∙ d)) place ok cut.1).ends cut.0
-  where
-    differ : codes "end" ≡ codes "data" → ⊥
-    differ e = omega (arith, ap (λ (l : List ℕ). get_or l 0 0) e)
-no_rest text word rest l is none other (Gone place) ok e =
-    let cut = cut_once 32 word rest (codes "gone") (decimal place) l (lacks_by_test 32 (codes "gone") refl) (sym is ∙ e) in
-    (other (λ d. differ (sym cut.0 ∙ d)) place ok cut.1).goes cut.0
-  where
-    differ : codes "gone" ≡ codes "data" → ⊥
-    differ e = omega (arith, ap (λ (l : List ℕ). get_or l 0 0) e)
+no_rest text word rest l is none other (More place) ok e = let cut = word_of text word rest (codes "more") (decimal place) l refl is e in (other place ok cut.1).asks cut.0
+no_rest text word rest l is none other (End place) ok e = let cut = word_of text word rest (codes "end") (decimal place) l refl is e in (other place ok cut.1).ends cut.0
+no_rest text word rest l is none other (Gone place) ok e = let cut = word_of text word rest (codes "gone") (decimal place) l refl is e in (other place ok cut.1).goes cut.0
+
+-- the word of a frame of bytes is no other
+data_is_none : (word : List ℕ) → word ≡ codes "data" → IsOtherWord word
+data_is_none word same = record {
+  opens = λ e. omega (arith, ap (λ (l : List ℕ). get_or l 0 0) (sym same ∙ e));
+  asks = λ e. omega (arith, ap (λ (l : List ℕ). get_or l 0 0) (sym same ∙ e));
+  ends = λ e. omega (arith, ap (λ (l : List ℕ). get_or l 0 0) (sym same ∙ e));
+  goes = λ e. omega (arith, ap (λ (l : List ℕ). get_or l 0 0) (sym same ∙ e));
+}
 
 -- a word and a place are the text of their head
 pub word_head : (h : Head) (text word : List ℕ) (place : ℕ) → place ≤ LAST_PLACE → text ≡ word ++ 32 ∷ decimal place → IsHeadOf h word place → IsFrameHead h × (text ≡ head_text h)
@@ -115,14 +109,14 @@ no_numbers text front back l is none place count p c e =
 
 -- what is read of a text by its word and what follows it
 pub data_result : (r : Option Head) (text word rest : List ℕ) → Lacks 32 word → text ≡ word ++ 32 ∷ rest → word ≡ codes "data" → MatchOption r (IsNoDataHead rest) (IsDataHead rest) → MatchOption r (IsNoHead text) (λ h. IsFrameHead h × (text ≡ head_text h))
-data_result None text word rest l is same none = no_rest text word rest l is (λ d. none) (λ d. absurd (d same))
+data_result None text word rest l is same none = no_rest text word rest l is (λ d. none) (λ p fits e. data_is_none word same)
 data_result (Some h) text word rest l is same of = data_word_head h text rest (is ∙ ap (λ (w : List ℕ). w ++ 32 ∷ rest) same) of
 
 pub no_place : (text word rest : List ℕ) → Lacks 32 word → text ≡ word ++ 32 ∷ rest → word ≢ codes "data" → IsNoNumber LAST_PLACE rest → IsNoHead text
-no_place text word rest l is other none = no_rest text word rest l is (λ d. absurd (other d)) (λ d place ok e. absurd (none place ok e))
+no_place text word rest l is other none = no_rest text word rest l is (λ d. absurd (other d)) (λ place ok e. absurd (none place ok e))
 
 pub word_result : (r : Option Head) (text word rest : List ℕ) (place : ℕ) → Lacks 32 word → text ≡ word ++ 32 ∷ rest → word ≢ codes "data" → place ≤ LAST_PLACE → rest ≡ decimal place → MatchOption r (IsOtherWord word) (λ h. IsHeadOf h word place) → MatchOption r (IsNoHead text) (λ h. IsFrameHead h × (text ≡ head_text h))
-word_result None text word rest place l is other ok e none = no_rest text word rest l is (λ d. absurd (other d)) (λ d p fits same. none)
+word_result None text word rest place l is other ok e none = no_rest text word rest l is (λ d. absurd (other d)) (λ p fits same. none)
 word_result (Some h) text word rest place l is other ok e of = word_head h text word place ok (is ∙ ap (λ (w : List ℕ). word ++ 32 ∷ w) e) of
 
 -- a count of 0 is none
