@@ -1,0 +1,77 @@
+#!/usr/bin/env python3
+"""Builds the broker and the client program of server/, and tries them:
+
+    tests/broker.py [PART..]
+
+Both are built without warnings into a folder that goes with this, and once more for the sanitizers of addresses and of undefined
+behaviour; each part is carried out with each build. The program at the broker's other side is played by the tests, frame by frame
+(tests/broker_frames.py, tests/broker_service.py), or is one of tests/framed_programs.py; the server that `regtxc` asks is a part of
+the test too (tests/broker_client.py). The last line is 'broker: N passed, M failed'; status 0 if none failed.
+"""
+import os
+import subprocess
+import sys
+import tempfile
+from concurrent.futures import ProcessPoolExecutor
+
+TOP = os.path.dirname(os.path.dirname(os.path.abspath(__file__)))
+sys.dont_write_bytecode = True
+sys.path.insert(0, os.path.join(TOP, "tests"))
+import broker_client  # noqa: E402
+import broker_frames  # noqa: E402
+import broker_service  # noqa: E402
+from broker_bench import Bench  # noqa: E402
+from scratch import skip, tell  # noqa: E402
+
+SERVER = os.environ.get("REGTXD_SOURCES") or os.path.join(TOP, "server")
+FLAGS = ["-std=c11", "-Wall", "-Wextra", "-Wpedantic", "-Wshadow", "-Werror"]
+SANITIZERS = ["-g", "-O1", "-fsanitize=address,undefined", "-fno-sanitize-recover=all"]
+BUILDS = {"plain": ["-O2"], "sanitized": SANITIZERS}
+PARTS = [*broker_frames.PARTS, *broker_service.PARTS, *broker_client.PARTS]
+# as many at a time; the longest parts come first
+WORKERS, LONGEST = 6, ["wrong_heads", "deaths", "order", "slow", "through", "at_random", "stops"]
+BUILD_SECONDS = 100
+
+
+def build_result(folder, program, name):
+    """What is wrong with a build."""
+    words = ["cc", *FLAGS, *BUILDS[name], "-o", f"{folder}/{program}.{name}", f"{SERVER}/{program}.c"]
+    ran = subprocess.run(words, capture_output=True, text=True, timeout=BUILD_SECONDS)
+    return f"{program}, {name}: {ran.stderr}" if ran.returncode else None
+
+
+def part_results(folder, name, part):
+    """What is wrong in a part with a build."""
+    with tempfile.TemporaryDirectory(prefix=f"{part.__name__}-", dir=folder) as home:
+        os.chmod(home, 0o755)
+        results = []
+        try:
+            results.extend(part(Bench(folder, name, home)))
+        # whatever else is wrong is told as well
+        except Exception as why:  # pylint: disable=broad-except
+            results.append(f"{type(why).__name__}: {why}")
+        return [result and f"{part.__name__}: {result}" for result in results]
+
+
+def main():
+    known = {part.__name__: part for part in PARTS}
+    if any(name not in known for name in sys.argv[1:]):
+        sys.exit(__doc__)
+    parts = [known[name] for name in sys.argv[1:]] or PARTS
+    if os.geteuid() != 0:
+        skip("broker", "places and sockets of other users: this isn't root")
+    with tempfile.TemporaryDirectory(prefix="broker-") as folder, ProcessPoolExecutor(WORKERS) as pool:
+        os.chmod(folder, 0o755)
+        built = [pool.submit(build_result, folder, program, name) for program in ("regtxd", "regtxc") for name in BUILDS]
+        counts = [tell("builds", [each.result() for each in built])]
+        if not counts[0][1]:
+            first = sorted(parts, key=lambda part: part.__name__ not in LONGEST)
+            run = {(name, part): pool.submit(part_results, folder, name, part) for part in first for name in BUILDS}
+            for name in BUILDS:
+                counts.append(tell(name, [result for part in parts for result in run[name, part].result()]))
+    passed, failed = map(sum, zip(*counts))
+    print(f"broker: {passed} passed, {failed} failed")
+    sys.exit(1 if failed else 0)
+
+
+main()

@@ -1,0 +1,156 @@
+"""The client program `regtxc`, over a server that the test plays: a part of tests/broker.py."""
+import os
+import socket
+import subprocess
+import threading
+
+from broker_bench import SECONDS, as_other
+from scratch import NOBODY, expect
+
+MUCH = 5_000_000
+# what the server says, what the client sends, its status, and what is told of it; statuses are those of docs/SCRIPTS.md
+ENDS = [
+    ("no refusal", b"opened 0\nok\nkeys 1 E1\n", b"a\nb\n", 0, ""),
+    ("a refusal", b"opened 0\nE2 NotFound\nok\n", b"a\nb\n", 1, ""),
+    ("a refusal at last", b"opened 0\nok\nE7 Conflict\n", b"a\nb\n", 1, ""),
+    ("a line that is none", b"opened 0\nline 1: not understood\n", b"a\nb\n", 2, ""),
+    ("a refusal, and a line that is none", b"opened 0\nE2 NotFound\nline 2: not understood\n", b"a\nb\nc\n", 2, ""),
+    ("no place", b"E10 NoSeat\n", b"a\n", 1, ""),
+    ("a store that failed", b"E14 Faulted\n", b"a\n", 1, ""),
+    ("a reply that looks like one", b"opened 0\nline : not understood\nEnd\nE\nline 2: not understood, or so\n", b"a\nb\nc\nd\n", 0, ""),
+    ("no lines", b"opened 0\n", b"", 0, ""),
+    ("an end before the replies", b"opened 0\nok\n", b"a\nb\nc\n", 1, "1 of 3"),
+    ("no word at all", b"", b"a\n", 1, "0 of 1"),
+    ("a last line without its end", b"opened 0\nok\n", b"a\nb", 2, "no end (LF)"),
+    ("a line without its end alone", b"opened 0\n", b"b", 2, "no end (LF)"),
+]
+WORDS = [[], ["a", "b"], ["-u", "no-such-user", "a"], ["-u", "", "a"], ["-u", "-1", "a"], ["-x", "a"], ["-u"]]
+
+
+class Server(threading.Thread):
+    """Serves one connection by a function, at a path."""
+
+    def __init__(self, path, serve):
+        super().__init__(daemon=True)
+        self.listener, self.serve, self.path, self.found = socket.socket(socket.AF_UNIX), serve, path, None
+        if os.path.exists(path):
+            os.remove(path)
+        self.listener.bind(path)
+        self.listener.listen()
+        self.listener.settimeout(SECONDS)
+        self.start()
+
+    def run(self):
+        try:
+            with self.listener, self.listener.accept()[0] as client:
+                client.settimeout(SECONDS)
+                self.found = self.serve(client)
+        except OSError as why:
+            self.found = f"failed: {why}"
+
+    def end(self):
+        self.join(SECONDS)
+        return self.found
+
+
+def read_all(client):
+    return b"".join(iter(lambda: client.recv(1 << 18), b""))
+
+
+def saying(reply):
+    """Reads all lines, and then replies."""
+    def serve(client):
+        found = read_all(client)
+        try:
+            client.sendall(reply)
+        except BrokenPipeError:
+            pass
+        return found
+    return serve
+
+
+def statuses(bench):
+    for title, said, sent, status, told in ENDS:
+        server = Server(f"{bench.home}/fake", saying(said))
+        found = bench.run(server.path, input=sent)
+        yield expect(title, (found[:2], told in found[2], bool(found[2]) == bool(told)), ((status, said), True, True))
+        yield expect(f"{title}: what was sent", server.end(), sent)
+    for given in WORDS:
+        found = bench.run(*given, input=b"")
+        yield expect(f"{given}", (found[:2], "usage: regtxc" in found[2]), ((2, b""), True))
+    for path in ("/no/such/socket", "s" * 108):
+        found = bench.run(path, input=b"")
+        yield expect("no service", (found[:2], path in found[2]), ((1, b""), True))
+
+
+def first(client):
+    client.sendall(b"opened 0\n" + b"ok\n" * (MUCH // 3))
+    return len(read_all(client))
+
+
+def some_first(client):
+    client.sendall(b"opened 0\n" + b"ok\n" * 66_663)
+    size = len(read_all(client))
+    client.sendall(b"ok\n" * (MUCH - 66_663))
+    return size
+
+
+def cut_off(client):
+    client.recv(10)
+    client.sendall(b"opened 0\nE6 TooLarge\n")
+
+
+def duplex(bench):
+    """Much is sent and much comes, whoever begins."""
+    server = Server(f"{bench.home}/fake", first)
+    found = bench.run(server.path, input=b"a\n" * (MUCH // 3))
+    yield expect("replies first", (found[0], len(found[1]), server.end()), (0, 9 + MUCH // 3 * 3, MUCH // 3 * 2))
+    server = Server(f"{bench.home}/fake", some_first)
+    with subprocess.Popen([bench.client, server.path], stdin=subprocess.PIPE, stdout=subprocess.PIPE) as client:
+        # nobody reads its output until all lines are sent
+        client.stdin.write(b"a\n" * MUCH)
+        client.stdin.close()
+        size = len(client.stdout.read())
+        yield expect("nobody reads replies yet", (client.wait(SECONDS), size, server.end()), (0, 9 + 3 * MUCH, 2 * MUCH))
+    server = Server(f"{bench.home}/fake", cut_off)
+    found = bench.run(server.path, input=b"a\n" * MUCH)
+    yield expect("a server that reads no more", (found[:2], "of" in found[2]), ((1, b"opened 0\nE6 TooLarge\n"), True))
+    server = Server(f"{bench.home}/fake", saying(b"opened 0\n" + b"ok\n" * MUCH))
+    with open("/dev/full", "wb") as full:
+        ran = subprocess.run([bench.client, server.path], input=b"a\n" * MUCH, stdout=full, stderr=subprocess.PIPE, timeout=SECONDS)
+    yield expect("replies that can't be written", (ran.returncode, b"standard output" in ran.stderr), (1, True))
+    server.end()
+
+
+def asks(bench):
+    """Lines one by one, each after the last reply, as from a terminal."""
+    with bench.program("echo") as broker:
+        with subprocess.Popen([bench.client, broker.path], stdin=subprocess.PIPE, stdout=subprocess.PIPE, bufsize=0) as client:
+            found = [client.stdout.readline()]
+            for number in range(20):
+                client.stdin.write(b"line-%d\n" % number)
+                found.append(client.stdout.readline())
+            client.stdin.close()
+            yield expect("line by line", (found, client.wait(SECONDS)), ([b"opened 0\n", *(b"line-%d\n" % number for number in range(20))], 0))
+
+
+def peers(bench):
+    """It sends nothing to a service of another user, unless it is told which."""
+    if os.geteuid() != 0:
+        return
+    os.makedirs(f"{bench.home}/theirs", exist_ok=True)
+    os.chown(f"{bench.home}/theirs", NOBODY, NOBODY)
+    said = b"opened 0\nok\n"
+    for given, is_trusted in [([], False), (["-u", str(NOBODY)], True), (["-u", "nobody"], True), (["-u", "0"], False), (["-u", "12345"], False)]:
+        with as_other():
+            server = Server(f"{bench.home}/theirs/socket", saying(said))
+        status, printed, told = bench.run(*given, server.path, input=b"secret\n")
+        wanted = (0, said, "", b"secret\n") if is_trusted else (1, b"", f"regtxc: the service belongs to user {NOBODY}: -u {NOBODY} trusts it\n", b"")
+        yield expect(f"a service of another user, {given}", (status, printed, told, server.end()), wanted)
+    for given, is_trusted in [([], True), (["-u", "0"], True), (["-u", "root"], True), (["-u", str(NOBODY)], False)]:
+        server = Server(f"{bench.home}/fake", saying(said))
+        found = bench.run(*given, server.path, input=b"a\n")[0]
+        yield expect(f"a service of root, {given}", (found, server.end()), (0, b"a\n") if is_trusted else (1, b""))
+
+
+PARTS = [statuses, duplex, asks, peers]
