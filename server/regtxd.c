@@ -203,11 +203,11 @@ static void break_off(void)
 /* Ends the service since the program wrote a line that it may not write here. */
 static void refuse_line(const char *line, size_t size, const char *why)
 {
-    char shown[LINE + 1];
-    size = size < LINE ? size : LINE;
-    for (size_t at = 0; at < size; at++)
-        shown[at] = line[at] >= ' ' && line[at] <= '~' ? line[at] : '?';
-    shown[size] = 0;
+    char shown[LINE + 1] = "";
+    memcpy(shown, line, size < LINE ? size : LINE);
+    for (char *at = shown; at < shown + LINE && at < shown + size; at++)
+        if (*at < ' ' || *at > '~')
+            *at = '?';
     say("wrong line of the program: '%s': %s", shown, why);
     break_off();
 }
@@ -286,11 +286,12 @@ static void say_place(int place, const char *what)
    that nobody read would make that end a failure. */
 static void close_connection(int fd)
 {
-    static char unread[CHUNK];
     /* it can send no more from here on, so this ends */
-    if (shutdown(fd, SHUT_RDWR) == 0)
+    if (shutdown(fd, SHUT_RDWR) == 0) {
+        char unread[4096];
         while (recv(fd, unread, sizeof unread, MSG_DONTWAIT) > 0)
             ;
+    }
     close(fd);
 }
 

@@ -239,7 +239,8 @@ def operators(bench):
 
 
 class Player(threading.Thread):
-    """Plays a program that answers what it is sent, but takes nothing more of who sends `hold`; and notes what it is told."""
+    """Plays a program that answers what it is sent, but takes nothing more of who sends `hold`. It notes what it is told, but for `more`
+    and what is asked without pause."""
 
     def __init__(self, puppet):
         super().__init__(daemon=True)
@@ -248,8 +249,9 @@ class Player(threading.Thread):
     def run(self):
         try:
             while frame := self.puppet.next(600):
-                self.noted.append(frame)
                 word, place = frame[:2]
+                if word != "more" and frame[2:] != (b"ask",):
+                    self.noted.append(frame)
                 if word in ("end", "gone"):
                     self.puppet.write(b"end %d\n" % place)
                 elif word == "data" and not frame[2].startswith(b"hold"):
@@ -259,9 +261,9 @@ class Player(threading.Thread):
 
 
 def talk(path, ends):
-    """A client that asks without pause."""
+    """A client that asks again and again."""
     client = Client(path)
-    while not ends.is_set():
+    while not ends.wait(0.001):
         client.send(b"ask")
         client.read(3)
     client.close()
@@ -279,7 +281,7 @@ def order(bench):
         for turn in range(TURNS):
             old = broker.client()
             old.send(b"hold %d" % turn)
-            until(lambda: any(frame[2:] == (b"hold %d" % turn,) for frame in player.noted[-200:]))
+            wrong += not until(lambda: any(frame[2:] == (b"hold %d" % turn,) for frame in player.noted[-20:]))
             if turn % 2:
                 broker.process.send_signal(signal.SIGSTOP)
             old.close()
@@ -292,7 +294,7 @@ def order(bench):
         ends.set()
         for talker in talkers:
             talker.join(SECONDS)
-        yield expect("clients that got no answer", wrong, 0)
+        yield expect("clients that weren't heard or answered", wrong, 0)
         broker.process.send_signal(signal.SIGTERM)
         player.join(SECONDS)
         broker.puppet.leave()
