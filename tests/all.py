@@ -73,6 +73,7 @@ TESTS = [
     Test("versions", "tests/versions.py $regtx", 25),
     Test("runs", "tests/runs.py $regtx", 25),
     Test("progress", "tests/progress.py $regtx", 25),
+    Test("broker", "tests/broker.py", 20),
     Test("values", "tests/values.py $regtx", 20),
     Test("retries", "$trials retries && tools/failalloc.py each $trials retries", 5),
     Test("checks", "tests/checks.py $regtx", 12),
