@@ -15,12 +15,13 @@ from scratch import NOBODY
 # no wait takes longer; and after how long nothing is taken to come
 SECONDS, QUIET = 20, 0.15
 PROGRAMS = os.path.join(os.path.dirname(os.path.abspath(__file__)), "framed_programs.py")
-# hands its standard input and output over, with the names of its environment, and ends with the status that it is told
+# hands its standard input and output over, with the names of its environment and of its files, and ends with the status that it is told
 PUPPET = """
 import os, socket, sys
 master = socket.socket(socket.AF_UNIX)
 master.connect(sys.argv[1])
-socket.send_fds(master, [" ".join(os.environ).encode() or b" "], [0, 1])
+names = " ".join(os.environ) + "\\n" + " ".join(os.listdir("/proc/self/fd"))
+socket.send_fds(master, [names.encode()], [0, 1])
 os.close(0)
 os.close(1)
 told = master.recv(1)
@@ -115,7 +116,7 @@ class Puppet:
         wait_for(listener)
         self.master = listener.accept()[0]
         told, files, _, _ = socket.recv_fds(self.master, 1 << 16, 2)
-        self.environment = told.decode().split()
+        self.environment, self.opened = map(str.split, told.decode().split("\n"))
         self.input, self.output = files
         self.frames, self.is_there = Frames(), True
 
@@ -218,6 +219,15 @@ class Broker:
         """Its resident memory, in kB."""
         with open(f"/proc/{self.process.pid}/status", encoding="ascii") as file:
             return next(int(line.split()[1]) for line in file if line.startswith("VmRSS"))
+
+    def ticks(self, seconds):
+        """What it takes of a processor's time in so many seconds, in hundredths."""
+        def taken():
+            with open(f"/proc/{self.process.pid}/stat", encoding="ascii") as file:
+                return sum(map(int, file.read().rsplit(")", 1)[1].split()[11:13]))
+        before = taken()
+        time.sleep(seconds)
+        return taken() - before
 
     def close(self):
         if self.process.poll() is None:

@@ -80,17 +80,12 @@ def unread(bench):
     """Replies that a client doesn't read."""
     with bench.ready() as broker:
         client, place = broker.met()
-        piece, count = b"r" * MOST, 0
-        while True:
-            broker.puppet.write(b"data %d %d\n" % (place, MOST) + piece)
-            count += 1
-            if not broker.puppet.quiet():
-                break
+        count = fill(broker, place)
         yield expect("what waits for a client", count * MOST < ROOM, True)
         broker.puppet.write(b"end %d\n" % place)
         other, second = broker.met()
         yield expect("another's place, while replies wait", second != place, True)
-        yield expect("all replies come, and then the end", client.read_all(), piece * count)
+        yield expect("all replies come, and then the end", client.read_all(), b"r" * MOST * count)
         # the place is free for the program since its `end`: a `more` would be of no client
         yield expect("`more` after `end`", broker.puppet.quiet(), None)
         other.close()
@@ -100,10 +95,7 @@ def unread(bench):
 def out_of_turn(bench):
     with bench.ready() as broker:
         client, place = broker.met()
-        while True:
-            broker.puppet.write(b"data %d %d\n" % (place, MOST) + b"r" * MOST)
-            if not broker.puppet.quiet():
-                break
+        fill(broker, place)
         broker.puppet.write(b"data %d 1\nx" % place)
         yield from broken(broker, client, f"data {place} 1", "data before `more`")
     for title, before in [("`more` twice", b"more %d\nmore %d\n"), ("`end` twice", b"end %d\nend %d\n")]:
@@ -238,6 +230,52 @@ def operators(bench):
         yield expect("-n 1: the broker's own", broker.met()[1], 0)
 
 
+def fill(broker, place):
+    """Writes replies to a client that doesn't read, until nobody takes more; answers how many pieces of 65,536 bytes."""
+    for count in itertools.count(1):
+        broker.puppet.write(b"data %d %d\n" % (place, MOST) + b"r" * MOST)
+        if not broker.puppet.quiet():
+            return count
+
+
+def rest(bench):
+    """The broker takes no processor's time while nothing can be moved."""
+    with bench.ready() as broker:
+        closed_one, first = broker.met()
+        closed_one.half_close()
+        yield expect("one that sends no more", broker.puppet.next(), ("end", first))
+        _, unread = broker.met()
+        fill(broker, unread)
+        untaken = [broker.met()[0] for _ in range(3)]
+        for client in untaken:
+            client.push()
+        yield expect("ticks of 100 with a program that doesn't read", broker.ticks(1) <= 3, True)
+        for _ in untaken:
+            broker.puppet.next()
+        yield expect("ticks of 100 with clients that wait", broker.ticks(1) <= 3, True)
+
+
+def flood(bench):
+    """A program that reads nothing, and has the broker tell it ever more, is ended before the broker runs out of room."""
+    with bench.ready() as broker:
+        filler, _ = broker.met()
+        asker, place = broker.met()
+        filler.push()
+        rounds = 0
+        try:
+            while rounds < 200:
+                broker.puppet.write(b"data %d 1\nx" % place * 100)
+                if len(asker.read(100)) < 100:
+                    break
+                rounds += 1
+        except BrokenPipeError:
+            pass
+        broker.puppet.leave()
+        status, printed, told = broker.end()
+        yield expect("rounds", 50 < rounds < 200, True)
+        yield expect("its end", (status, printed, "takes no frame" in told), (1, b"", True))
+
+
 class Player(threading.Thread):
     """Plays a program that answers what it is sent, but takes nothing more of who sends `hold`. It notes what it is told, but for `more`
     and what is asked without pause."""
@@ -321,9 +359,9 @@ def slow(bench):
         slow_ones = [broker.client() for _ in range(PLACES - 1)]
         sent = [0] * len(slow_ones)
 
-        def fill(number):
+        def push(number):
             sent[number] = slow_ones[number].push()
-        fillers = [threading.Thread(target=fill, args=(number,)) for number in range(len(slow_ones))]
+        fillers = [threading.Thread(target=push, args=(number,)) for number in range(len(slow_ones))]
         for filler in fillers:
             filler.start()
         for filler in fillers:
@@ -420,4 +458,4 @@ def at_random(bench):
             yield expect(f"seed {seed}: its end", broker.end(), (0, b"", ""))
 
 
-PARTS = [frames, sizes, unread, out_of_turn, wrong_heads, gone, closed, places, operators, order, slow, through, at_random]
+PARTS = [frames, sizes, unread, out_of_turn, wrong_heads, gone, closed, rest, flood, places, operators, order, slow, through, at_random]

@@ -7,7 +7,7 @@ import threading
 import time
 
 from broker_bench import QUIET, SECONDS, Client, as_other, until
-from framed_programs import MOST
+from broker_frames import fill
 from scratch import NOBODY, expect
 
 OPERATORS = 12_345
@@ -28,6 +28,8 @@ def words(bench):
 def begins(bench):
     """Nothing is there before the program is ready; whatever else it says is why it isn't."""
     with bench.begun() as broker:
+        # the program's own are the connection to the test, and the folder that it lists
+        yield expect("the program's files", sorted(broker.puppet.opened), ["0", "1", "2", "3", "4"])
         yield expect("before it is ready", os.path.exists(broker.path), False)
         broker.puppet.write(b"rea")
         time.sleep(QUIET)
@@ -204,11 +206,8 @@ def stops_of_others(bench):
         broker.puppet.leave()
         yield expect("their end", broker.end()[0], 0)
     with bench.ready() as broker:
-        client, place = broker.met()
-        while True:
-            broker.puppet.write(b"data %d %d\n" % (place, MOST) + b"r" * MOST)
-            if not broker.puppet.quiet():
-                break
+        _client, place = broker.met()
+        fill(broker, place)
         began = time.monotonic()
         yield expect("a client that doesn't read", broker.stop(), (0, None))
         yield expect("its time", time.monotonic() - began < STOP_SECONDS, True)
