@@ -22,6 +22,7 @@
 #include <stdio.h>
 #include <stdlib.h>
 #include <string.h>
+#include <sys/resource.h>
 #include <sys/socket.h>
 #include <sys/stat.h>
 #include <sys/un.h>
@@ -44,6 +45,8 @@ enum {
     BACKLOG = 64,
     /* the first descriptor that systemd hands over */
     HANDED = 3,
+    /* descriptors: those of all clients, one that is turned away, and the broker's own */
+    DESCRIPTORS = 48,
     /* milliseconds: what clients have to read their last replies, and a pause after a failed accept */
     LINGER = 1000,
     PAUSE = 200,
@@ -1027,6 +1030,18 @@ static void hold_standard_files(void)
             exit(EXIT_FAILURE);
 }
 
+/* With fewer descriptors poll refuses all that are looked at. */
+static void check_limit(void)
+{
+    struct rlimit limit;
+    if (getrlimit(RLIMIT_NOFILE, &limit) != 0)
+        give_up("getrlimit");
+    if (limit.rlim_cur >= DESCRIPTORS)
+        return;
+    say("%d descriptors are needed: ulimit -n", DESCRIPTORS);
+    exit(EXIT_FAILURE);
+}
+
 static bool read_number(const char *text, unsigned long most, int base, unsigned long *number)
 {
     char *behind;
@@ -1149,6 +1164,7 @@ int main(int count, char **words)
     }
     for (int place = 0; place < PLACES; place++)
         clients[place].fd = -1;
+    check_limit();
     take_environment();
     if (!door.is_handed && !is_folder_safe())
         return EXIT_FAILURE;

@@ -6,9 +6,10 @@
 Both are built without warnings into a folder that goes with this, and once more for the sanitizers of addresses and of undefined
 behaviour; each part is carried out with each build. The program at the broker's other side is played by the tests, frame by frame
 (tests/broker_frames.py, tests/broker_service.py), or is one of tests/framed_programs.py; the server that `regtxc` asks is a part of
-the test too (tests/broker_client.py). The last line is 'broker: N passed, M failed'; status 0 if none failed.
+the test too (tests/broker_client.py). REGTXD_SOURCES is another folder with the two sources, such as spoiled ones. The last line is 'broker: N passed, M failed'; status 0 if none failed.
 """
 import os
+import signal
 import subprocess
 import sys
 import tempfile
@@ -20,7 +21,7 @@ sys.path.insert(0, os.path.join(TOP, "tests"))
 import broker_client  # noqa: E402
 import broker_frames  # noqa: E402
 import broker_service  # noqa: E402
-from broker_bench import Bench  # noqa: E402
+from broker_bench import Bench, Late  # noqa: E402
 from scratch import skip, tell  # noqa: E402
 
 SERVER = os.environ.get("REGTXD_SOURCES") or os.path.join(TOP, "server")
@@ -30,7 +31,7 @@ BUILDS = {"plain": ["-O2"], "sanitized": SANITIZERS}
 PARTS = [*broker_frames.PARTS, *broker_service.PARTS, *broker_client.PARTS]
 # as many at a time; the longest parts come first
 WORKERS, LONGEST = 6, ["wrong_heads", "deaths", "order", "slow", "through", "at_random", "stops"]
-BUILD_SECONDS = 100
+BUILD_SECONDS, PART_SECONDS = 100, 50
 
 
 def build_result(folder, program, name):
@@ -40,8 +41,14 @@ def build_result(folder, program, name):
     return f"{program}, {name}: {ran.stderr}" if ran.returncode else None
 
 
+def give_up(*_):
+    raise Late(f"it took {PART_SECONDS} seconds")
+
+
 def part_results(folder, name, part):
-    """What is wrong in a part with a build."""
+    """What is wrong in a part with a build. One that takes too long is given up."""
+    signal.signal(signal.SIGALRM, give_up)
+    signal.alarm(PART_SECONDS)
     with tempfile.TemporaryDirectory(prefix=f"{part.__name__}-", dir=folder) as home:
         os.chmod(home, 0o755)
         results = []
@@ -50,6 +57,7 @@ def part_results(folder, name, part):
         # whatever else is wrong is told as well
         except Exception as why:  # pylint: disable=broad-except
             results.append(f"{type(why).__name__}: {why}")
+        signal.alarm(0)
         return [result and f"{part.__name__}: {result}" for result in results]
 
 

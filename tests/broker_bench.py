@@ -139,6 +139,13 @@ class Puppet:
         except Late:
             return None
 
+    def soon(self):
+        """The next frame that is here already, or None."""
+        try:
+            return self.next(0)
+        except Late:
+            return None
+
     def write(self, content):
         while content:
             content = content[os.write(self.output, content):]

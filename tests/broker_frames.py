@@ -4,12 +4,12 @@ import hashlib
 import itertools
 import os
 import random
+import resource
 import select
 import signal
 import threading
-import time
 
-from broker_bench import SECONDS, Client, as_other, until
+from broker_bench import SECONDS, Client, Late, as_other, until
 from framed_programs import MOST
 from scratch import expect
 
@@ -41,7 +41,7 @@ def frames(bench):
         yield expect("a reply", client.read(7), b"reply 1")
         yield expect("`more` of a reply", puppet.next(), ("more", place))
         puppet.write(b"data %d 3\na" % place)
-        time.sleep(0.02)
+        yield expect("`more` amid a frame", puppet.quiet(), None)
         puppet.write(b"bcmore %d\ndat" % place)
         yield expect("a reply in two pieces", (client.read(3), puppet.next()), (b"abc", ("more", place)))
         puppet.write(b"a %d 1\nd" % place)
@@ -214,6 +214,33 @@ def seated(broker):
         client.close()
 
 
+def descriptors(bench):
+    """Without a descriptor for one more client the broker waits, without haste, until another client has gone."""
+    with bench.begun(preexec_fn=lambda: resource.setrlimit(resource.RLIMIT_NOFILE, (47, 47)), is_met=False) as broker:
+        yield expect("47 descriptors", broker.end()[:2], (1, b""))
+    with bench.ready() as broker:
+        resource.prlimit(broker.process.pid, resource.RLIMIT_NOFILE, (36, 36))
+        seats = [broker.met()]
+        try:
+            while len(seats) < PLACES:
+                late = broker.client()
+                seats.append((late, broker.puppet.next(0.5)[1]))
+        except Late:
+            pass
+        yield expect("clients", 1 < len(seats) < PLACES, True)
+        yield expect("ticks of 100", broker.ticks(1) <= 5, True)
+        client, place = seats[0]
+        client.close()
+        yield expect("one goes", broker.puppet.next(), ("gone", place))
+        broker.puppet.write(b"end %d\n" % place)
+        yield expect("the next one", broker.puppet.next()[0], "open")
+        broker.process.send_signal(signal.SIGTERM)
+        yield expect("the input's end", broker.puppet.next(), None)
+        broker.puppet.leave()
+        status, _, told = broker.end()
+        yield expect("its end", (status, "accept: " in told), (0, True))
+
+
 def operators(bench):
     """Place 0 is for the broker's own user, who gets it last."""
     if os.geteuid() != 0:
@@ -350,6 +377,24 @@ def is_in_order(noted, turn):
     return left < came
 
 
+def reused(bench):
+    """A client that gets the place of one whose session ends as it goes, all at once: it isn't taken for that one."""
+    with bench.ready() as broker:
+        old, place = broker.met()
+        broker.process.send_signal(signal.SIGSTOP)
+        broker.puppet.write(b"end %d\n" % place)
+        old.close()
+        new = broker.client()
+        new.send(b"new")
+        broker.process.send_signal(signal.SIGCONT)
+        told = [broker.puppet.next(), broker.puppet.next()]
+        # a broker that finds the old one's end before it has read the program's may tell that, too
+        if told[0] == ("gone", place):
+            told = [told[1], broker.puppet.next()]
+        yield expect("the new one", told, [("open", place), ("data", place, b"new")])
+        yield expect("it stays", broker.puppet.quiet(), None)
+
+
 def slow(bench):
     """31 clients that read nothing: what waits is bounded, and another is served."""
     with bench.program("echo") as broker:
@@ -458,4 +503,4 @@ def at_random(bench):
             yield expect(f"seed {seed}: its end", broker.end(), (0, b"", ""))
 
 
-PARTS = [frames, sizes, unread, out_of_turn, wrong_heads, gone, closed, rest, flood, places, operators, order, slow, through, at_random]
+PARTS = [frames, sizes, unread, out_of_turn, wrong_heads, gone, closed, rest, flood, places, descriptors, operators, order, reused, slow, through, at_random]

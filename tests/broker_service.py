@@ -3,7 +3,6 @@ import os
 import signal
 import socket
 import stat
-import threading
 import time
 
 from broker_bench import QUIET, SECONDS, Client, as_other, until
@@ -224,28 +223,24 @@ def stops_of_others(bench):
 
 
 def idle(bench):
-    """-t ends connections that move nothing, and no others."""
+    """-t ends connections that move nothing, and neither those that send nor those that are sent something."""
     with bench.ready("-t", "1") as broker:
-        began = time.monotonic()
-        silent, place = broker.met()
-        busy, second = broker.met()
-        ends = threading.Event()
-
-        def talk():
-            while not ends.wait(0.2):
-                busy.send(b"x")
-        talker = threading.Thread(target=talk)
-        talker.start()
-        told = []
-        while not told or told[-1][0] != "gone":
-            told.append(broker.puppet.next())
-            if told[-1][0] == "data":
-                broker.puppet.write(b"more %d\n" % second)
-        took = time.monotonic() - began
-        ends.set()
-        talker.join()
-        yield expect("who is ended", (told[-1], silent.read_all()), (("gone", place), b""))
-        yield expect("after a second", 0.9 < took < SECONDS / 4, True)
+        began, gone_at = time.monotonic(), {}
+        (silent, first), (asker, second), (reader, third) = (broker.met() for _ in range(3))
+        while time.monotonic() - began < 2.2:
+            if second not in gone_at and third not in gone_at:
+                asker.send(b"x")
+                broker.puppet.write(b"data %d 1\nx" % third)
+                reader.read(1)
+            time.sleep(0.1)
+            while frame := broker.puppet.soon():
+                if frame[0] == "data":
+                    broker.puppet.write(b"more %d\n" % second)
+                elif frame[0] == "gone":
+                    gone_at[frame[1]] = time.monotonic() - began
+        yield expect("who is ended", list(gone_at), [first])
+        yield expect("after a second", 0.9 < gone_at.get(first, 0) < 2.2, True)
+        yield expect("its connection", silent.read_all(), b"")
 
 
 def handed(listener, *more):
