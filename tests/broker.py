@@ -57,7 +57,8 @@ def part_results(folder, name, part):
         # whatever else is wrong is told as well
         except Exception as why:  # pylint: disable=broad-except
             results.append(f"{type(why).__name__}: {why}")
-        signal.alarm(0)
+        finally:
+            signal.alarm(0)
         return [result and f"{part.__name__}: {result}" for result in results]
 
 

@@ -3,6 +3,7 @@ import os
 import socket
 import subprocess
 import threading
+import time
 
 from broker_bench import SECONDS, as_other
 from scratch import NOBODY, expect
@@ -89,7 +90,10 @@ def first(client):
 
 
 def some_first(client):
-    client.sendall(b"opened 0\n" + b"ok\n" * 66_663)
+    client.sendall(b"opened 0\n")
+    # a part of the pipe is full by then, and has no room for as much as the client may have read
+    time.sleep(0.2)
+    client.sendall(b"ok\n" * 66_663)
     size = len(read_all(client))
     client.sendall(b"ok\n" * (MUCH - 66_663))
     return size

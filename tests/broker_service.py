@@ -3,6 +3,7 @@ import os
 import signal
 import socket
 import stat
+import subprocess
 import time
 
 from broker_bench import QUIET, SECONDS, Client, as_other, until
@@ -11,6 +12,24 @@ from scratch import NOBODY, expect
 
 OPERATORS = 12_345
 STOP_SECONDS = 5
+CHMOD = b"""
+#define _GNU_SOURCE
+#include <stdio.h>
+#include <stdlib.h>
+#include <sys/stat.h>
+#include <sys/syscall.h>
+#include <unistd.h>
+int chmod(const char *path, mode_t mode)
+{
+    struct stat found;
+    FILE *noted = fopen(getenv("NOTED"), "a");
+    if (!noted || stat(path, &found) != 0)
+        abort();
+    fprintf(noted, "%o %u\\n", found.st_mode & 0777, found.st_gid);
+    fclose(noted);
+    return (int)syscall(SYS_fchmodat, -100, path, mode);
+}
+"""
 # words that are none, and what is told of them beside the usage
 WORDS = [[], ["s"], ["-n", "0", "s", "true"], ["-n", "32", "s", "true"], ["-n", "x", "s", "true"], ["-n", "", "s", "true"],
          ["-n", "3x", "s", "true"], ["-t", "0", "s", "true"], ["-t", "-1", "s", "true"], ["-m", "888", "s", "true"],
@@ -109,6 +128,27 @@ def doors(bench):
         other.listen()
         yield from refused(broker, "a socket of another service")
     yield from doors_of_root(bench)
+
+
+def noting(bench):
+    """What has a broker note how its socket's file is as its mode is set: the mode and the group. Nothing if it is sanitized, whose
+    runtime has to come first."""
+    if bench.is_sanitized:
+        return None
+    subprocess.run(["cc", "-shared", "-fPIC", "-x", "c", "-", "-o", f"{bench.home}/noting.so"], input=CHMOD, check=True)
+    return {"environment": {"LD_PRELOAD": f"{bench.home}/noting.so", "NOTED": f"{bench.home}/noted"}}
+
+
+def opened_last(bench):
+    """The socket's file is for its owner alone until it has its group."""
+    given = noting(bench)
+    if not given:
+        return
+    group = OPERATORS if os.geteuid() == 0 else os.getegid()
+    with bench.ready("-m", "0666", "-g", str(group), preexec_fn=lambda: os.umask(0), **given) as broker:
+        with open(f"{bench.home}/noted", encoding="ascii") as file:
+            yield expect("before its mode is set", file.read(), f"600 {group}\n")
+        yield expect("then", stat.S_IMODE(os.stat(broker.path).st_mode), 0o666)
 
 
 def doors_of_root(bench):
@@ -294,4 +334,4 @@ def log(bench):
         yield expect("-v", broker.end(), (0, b"", "".join(f"regtxd: {line}\n" for line in told)))
 
 
-PARTS = [words, begins, doors, deaths, stops, idle, systemd, log]
+PARTS = [words, begins, doors, opened_last, deaths, stops, idle, systemd, log]
