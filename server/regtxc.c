@@ -100,7 +100,8 @@ static bool is_wrong_line(const char *line, size_t size)
         return false;
     while (at < size && line[at] >= '0' && line[at] <= '9')
         at++;
-    return at > sizeof before - 1 && size - at == sizeof after - 1 && begins(line + at, size - at, after);
+    return at > sizeof before - 1 && size - at == sizeof after - 1
+           && begins(line + at, size - at, after);
 }
 
 static void judge_reply(void)
@@ -187,7 +188,8 @@ static void read_answers(void)
 static void print_answers(void)
 {
     size_t size = answers.len - answers.at;
-    ssize_t put = write(STDOUT_FILENO, answers.bytes + answers.at, size < PIPE_BUF ? size : PIPE_BUF);
+    ssize_t put =
+        write(STDOUT_FILENO, answers.bytes + answers.at, size < PIPE_BUF ? size : PIPE_BUF);
     if (put >= 0)
         answers.at += (size_t)put;
     else if (errno != EINTR && errno != EAGAIN)
@@ -198,7 +200,8 @@ static void fill(struct pollfd *polled)
 {
     bool has_lines = !is_empty(&lines), has_answers = !is_empty(&answers);
     int events = (has_answers ? 0 : POLLIN) | (has_lines ? POLLOUT : 0);
-    polled[INPUT] = (struct pollfd){.fd = has_input && !has_lines && !is_over ? STDIN_FILENO : -1, .events = POLLIN};
+    polled[INPUT] = (struct pollfd){.fd = has_input && !has_lines && !is_over ? STDIN_FILENO : -1,
+                                    .events = POLLIN};
     polled[SERVER] = (struct pollfd){.fd = events ? server : -1, .events = (short)events};
     polled[OUTPUT] = (struct pollfd){.fd = has_answers ? STDOUT_FILENO : -1, .events = POLLOUT};
 }
@@ -237,7 +240,8 @@ static bool read_user(const char *text, uid_t *user)
     char *behind;
     errno = 0;
     unsigned long number = strtoul(text, &behind, 10);
-    bool is_number = text[0] >= '0' && text[0] <= '9' && *behind == 0 && errno == 0 && number < UINT_MAX;
+    bool is_number =
+        text[0] >= '0' && text[0] <= '9' && *behind == 0 && errno == 0 && number < UINT_MAX;
     *user = found ? found->pw_uid : (uid_t)number;
     return found || is_number;
 }

@@ -47,7 +47,7 @@ enum {
     HANDED = 3,
     /* descriptors: those of all clients, one that is turned away, and the broker's own */
     DESCRIPTORS = 48,
-    /* milliseconds: what clients have to read their last replies, and a pause after a failed accept */
+    /* milliseconds: for clients to read their last replies, and a pause after a failed accept */
     LINGER = 1000,
     PAUSE = 200,
 };
@@ -100,7 +100,7 @@ struct door {
     int listener;
     bool is_handed;
     dev_t device;
-    ino_t file; /* 0: there is no file that is to be removed */
+    ino_t file;    /* 0: there is no file that is to be removed */
     int64_t opens; /* no accept before */
 };
 
@@ -134,7 +134,8 @@ static void say_errno(const char *what)
 /* Prints a line of the program, or of its readiness, for whoever started the broker. */
 static void print_line(const char *line, size_t size)
 {
-    if (fwrite(line, 1, size, stdout) != size || fputc('\n', stdout) == EOF || fflush(stdout) == EOF)
+    if (fwrite(line, 1, size, stdout) != size || fputc('\n', stdout) == EOF
+        || fflush(stdout) == EOF)
         say_errno("standard output");
 }
 
@@ -172,7 +173,8 @@ static void notify(const char *state)
         return;
     int fd = socket(AF_UNIX, SOCK_DGRAM | SOCK_CLOEXEC, 0);
     if (fd < 0
-        || sendto(fd, state, strlen(state), MSG_NOSIGNAL, (struct sockaddr *)&notified, notified_size)
+        || sendto(fd, state, strlen(state), MSG_NOSIGNAL, (struct sockaddr *)&notified,
+                  notified_size)
                < 0)
         say_errno("NOTIFY_SOCKET");
     if (fd >= 0)
@@ -263,7 +265,7 @@ static void tell(const char *word, int place)
         queue.at = 0;
     }
     if (queue.len + size > sizeof queue.bytes) {
-        say("the program takes no frame, and ends places that it wasn't told of");
+        say("the program takes no frames, and their room is used up");
         break_off();
         return;
     }
@@ -307,7 +309,7 @@ static void close_client(int place)
     client->at = client->len = 0;
 }
 
-/* A client has gone, or is cut off. Its place stays taken until the program has ended its session. */
+/* A client has gone, or is cut off. Its place stays taken until the program ends its session. */
 static void drop_client(int place, const char *why)
 {
     struct client *client = &clients[place];
@@ -324,8 +326,8 @@ static void send_replies(int place)
 {
     struct client *client = &clients[place];
     while (client->at < client->len) {
-        ssize_t sent = send(client->fd, client->replies + client->at, client->len - client->at,
-                            MSG_NOSIGNAL);
+        ssize_t sent =
+            send(client->fd, client->replies + client->at, client->len - client->at, MSG_NOSIGNAL);
         if (sent < 0 && errno == EINTR)
             continue;
         if (sent < 0 && errno == EAGAIN)
@@ -374,8 +376,8 @@ static void read_client(int place)
 
 static bool may_read(const struct client *client)
 {
-    return client->fd >= 0 && client->is_taken && !client->is_sent && !client->has_ended && !is_stopping
-           && is_queue_empty();
+    return client->fd >= 0 && client->is_taken && !client->is_sent && !client->has_ended
+           && !is_stopping && is_queue_empty();
 }
 
 /* Who has gone is told before who has come: whoever comes and asks what was done of another's work
@@ -467,7 +469,7 @@ static int accept_client(void)
 /* Whoever may write the folder may put a socket of his own in the place of this one. */
 static bool is_folder_safe(void)
 {
-    char folder[sizeof ((struct sockaddr_un *)0)->sun_path];
+    char folder[sizeof notified.sun_path];
     snprintf(folder, sizeof folder, "%s", options.path);
     char *slash = strrchr(folder, '/');
     if (!slash)
@@ -580,7 +582,8 @@ static bool take_word(const char **at, const char *end, const char *word)
 {
     size_t size = strlen(word);
     const char *behind = *at + size;
-    if ((size_t)(end - *at) < size || memcmp(*at, word, size) != 0 || (behind < end && *behind != ' '))
+    if ((size_t)(end - *at) < size || memcmp(*at, word, size) != 0
+        || (behind < end && *behind != ' '))
         return false;
     *at = behind;
     return true;
@@ -733,7 +736,8 @@ static void take_frames(void)
 
 static void read_program(void)
 {
-    ssize_t got = read(program.output, program.bytes + program.len, sizeof program.bytes - program.len);
+    ssize_t got =
+        read(program.output, program.bytes + program.len, sizeof program.bytes - program.len);
     if (got < 0 && (errno == EINTR || errno == EAGAIN))
         return;
     if (got < 0)
@@ -972,8 +976,8 @@ static int spawn_by(posix_spawn_file_actions_t *actions, posix_spawnattr_t *how)
     sigemptyset(&none);
     sigemptyset(&defaults);
     sigaddset(&defaults, SIGPIPE);
-    int failed = posix_spawnattr_setflags(
-        how, POSIX_SPAWN_SETPGROUP | POSIX_SPAWN_SETSIGDEF | POSIX_SPAWN_SETSIGMASK);
+    int failed = posix_spawnattr_setflags(how, POSIX_SPAWN_SETPGROUP | POSIX_SPAWN_SETSIGDEF
+                                                   | POSIX_SPAWN_SETSIGMASK);
     if (failed == 0)
         failed = posix_spawnattr_setpgroup(how, 0);
     if (failed == 0)
@@ -981,7 +985,8 @@ static int spawn_by(posix_spawn_file_actions_t *actions, posix_spawnattr_t *how)
     if (failed == 0)
         failed = posix_spawnattr_setsigmask(how, &none);
     if (failed == 0)
-        failed = posix_spawnp(&program.pid, options.command[0], actions, how, options.command, environ);
+        failed =
+            posix_spawnp(&program.pid, options.command[0], actions, how, options.command, environ);
     return failed;
 }
 
@@ -1018,7 +1023,8 @@ static void start_program(void)
     close(output[1]);
     program.input = input[1];
     program.output = output[0];
-    if (fcntl(program.input, F_SETFL, O_NONBLOCK) != 0 || fcntl(program.output, F_SETFL, O_NONBLOCK) != 0)
+    if (fcntl(program.input, F_SETFL, O_NONBLOCK) != 0
+        || fcntl(program.output, F_SETFL, O_NONBLOCK) != 0)
         give_up("fcntl");
 }
 
@@ -1086,7 +1092,8 @@ static void take_handed(void)
 /* What systemd tells this process isn't for the program. */
 static void take_environment(void)
 {
-    static const char *const names[] = {"LISTEN_PID", "LISTEN_FDS", "LISTEN_FDNAMES", "NOTIFY_SOCKET"};
+    static const char *const names[] = {"LISTEN_PID", "LISTEN_FDS", "LISTEN_FDNAMES",
+                                        "NOTIFY_SOCKET"};
     const char *path = getenv("NOTIFY_SOCKET");
     size_t size = path ? strlen(path) : 0;
     take_handed();
@@ -1148,9 +1155,10 @@ static bool take_words(int count, char **words)
         return false;
     options.path = words[optind];
     options.command = words + optind + 1;
-    if (strlen(options.path) > 0 && strlen(options.path) < sizeof ((struct sockaddr_un *)0)->sun_path)
+    if (strlen(options.path) > 0
+        && strlen(options.path) < sizeof notified.sun_path)
         return true;
-    say("the path of a socket has 1 to %zu bytes", sizeof ((struct sockaddr_un *)0)->sun_path - 1);
+    say("the path of a socket has 1 to %zu bytes", sizeof notified.sun_path - 1);
     return false;
 }
 
@@ -1158,8 +1166,9 @@ int main(int count, char **words)
 {
     hold_standard_files();
     if (!take_words(count, words)) {
-        fputs("usage: regtxd [-m MODE] [-g GROUP] [-n CLIENTS] [-t SECONDS] [-v] SOCKET COMMAND ..\n",
-              stderr);
+        fputs(
+            "usage: regtxd [-m MODE] [-g GROUP] [-n CLIENTS] [-t SECONDS] [-v] SOCKET COMMAND ..\n",
+            stderr);
         return 2;
     }
     for (int place = 0; place < PLACES; place++)

@@ -6,7 +6,8 @@
 Both are built without warnings into a folder that goes with this, and once more for the sanitizers of addresses and of undefined
 behaviour; each part is carried out with each build. The program at the broker's other side is played by the tests, frame by frame
 (tests/broker_frames.py, tests/broker_service.py), or is one of tests/framed_programs.py; the server that `regtxc` asks is a part of
-the test too (tests/broker_client.py). REGTXD_SOURCES is another folder with the two sources, such as spoiled ones. The last line is 'broker: N passed, M failed'; status 0 if none failed.
+the test too (tests/broker_client.py). REGTXD_SOURCES is another folder with the two sources, such as spoiled ones. The last line is
+'broker: N passed, M failed'; status 0 if none failed.
 """
 import os
 import signal
@@ -34,11 +35,10 @@ WORKERS, LONGEST = 6, ["wrong_heads", "deaths", "order", "slow", "through", "at_
 BUILD_SECONDS, PART_SECONDS = 100, 50
 
 
-def build_result(folder, program, name):
+def build_result(source, target, flags):
     """What is wrong with a build."""
-    words = ["cc", *FLAGS, *BUILDS[name], "-o", f"{folder}/{program}.{name}", f"{SERVER}/{program}.c"]
-    ran = subprocess.run(words, capture_output=True, text=True, timeout=BUILD_SECONDS)
-    return f"{program}, {name}: {ran.stderr}" if ran.returncode else None
+    ran = subprocess.run(["cc", *FLAGS, *flags, "-o", target, source], capture_output=True, text=True, timeout=BUILD_SECONDS)
+    return f"{target}: {ran.stderr}" if ran.returncode else None
 
 
 def give_up(*_):
@@ -71,7 +71,9 @@ def main():
         skip("broker", "places and sockets of other users: this isn't root")
     with tempfile.TemporaryDirectory(prefix="broker-") as folder, ProcessPoolExecutor(WORKERS) as pool:
         os.chmod(folder, 0o755)
-        built = [pool.submit(build_result, folder, program, name) for program in ("regtxd", "regtxc") for name in BUILDS]
+        built = [pool.submit(build_result, f"{SERVER}/{program}.c", f"{folder}/{program}.{name}", flags)
+                 for program in ("regtxd", "regtxc") for name, flags in BUILDS.items()]
+        built.append(pool.submit(build_result, os.path.join(TOP, "tests", "broker_puppet.c"), f"{folder}/puppet", ["-O1"]))
         counts = [tell("builds", [each.result() for each in built])]
         if not counts[0][1]:
             first = sorted(parts, key=lambda part: part.__name__ not in LONGEST)

@@ -15,18 +15,6 @@ from scratch import NOBODY
 # no wait takes longer; and after how long nothing is taken to come
 SECONDS, QUIET = 20, 0.15
 PROGRAMS = os.path.join(os.path.dirname(os.path.abspath(__file__)), "framed_programs.py")
-# hands its standard input and output over, with the names of its environment and of its files, and ends with the status that it is told
-PUPPET = """
-import os, socket, sys
-master = socket.socket(socket.AF_UNIX)
-master.connect(sys.argv[1])
-names = " ".join(os.environ) + "\\n" + " ".join(os.listdir("/proc/self/fd"))
-socket.send_fds(master, [names.encode()], [0, 1])
-os.close(0)
-os.close(1)
-told = master.recv(1)
-os._exit(told[0] if told else 0)
-"""
 PYTHON = [sys.executable, "-I", "-S"]
 SANITIZER_STATUS = 99
 
@@ -179,7 +167,7 @@ class Broker:
             self.puppets = socket.socket(socket.AF_UNIX)
             self.puppets.bind(f"{bench.home}/{os.path.basename(self.home)}.puppets")
             self.puppets.listen()
-            command = [*PYTHON, "-c", PUPPET, self.puppets.getsockname()]
+            command = [bench.puppet, self.puppets.getsockname()]
         before, is_met = given.pop("before", []), given.pop("is_met", True)
         environment = dict(os.environ, ASAN_OPTIONS=f"exitcode={SANITIZER_STATUS}", **given.pop("environment", {}))
         self.process = subprocess.Popen([*before, bench.broker, *options, self.path, *command], stdin=subprocess.DEVNULL,
@@ -254,6 +242,7 @@ class Bench:
     def __init__(self, folder, name, home):
         self.name, self.home = name, home
         self.broker, self.client = f"{folder}/regtxd.{name}", f"{folder}/regtxc.{name}"
+        self.puppet = f"{folder}/puppet"
 
     @property
     def is_sanitized(self):

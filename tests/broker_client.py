@@ -130,12 +130,12 @@ def asks(bench):
     """Lines one by one, each after the last reply, as from a terminal."""
     with bench.program("echo") as broker:
         with subprocess.Popen([bench.client, broker.path], stdin=subprocess.PIPE, stdout=subprocess.PIPE, bufsize=0) as client:
-            found = [client.stdout.readline()]
-            for number in range(20):
-                client.stdin.write(b"line-%d\n" % number)
+            found, lines = [client.stdout.readline()], [b"line-%d\n" % number for number in range(20)]
+            for line in lines:
+                client.stdin.write(line)
                 found.append(client.stdout.readline())
             client.stdin.close()
-            yield expect("line by line", (found, client.wait(SECONDS)), ([b"opened 0\n", *(b"line-%d\n" % number for number in range(20))], 0))
+            yield expect("line by line", (found, client.wait(SECONDS)), ([b"opened 0\n", *lines], 0))
 
 
 def peers(bench):
@@ -144,12 +144,13 @@ def peers(bench):
         return
     os.makedirs(f"{bench.home}/theirs", exist_ok=True)
     os.chown(f"{bench.home}/theirs", NOBODY, NOBODY)
-    said = b"opened 0\nok\n"
-    for given, is_trusted in [([], False), (["-u", str(NOBODY)], True), (["-u", "nobody"], True), (["-u", "0"], False), (["-u", "12345"], False)]:
+    said, refusal = b"opened 0\nok\n", f"regtxc: the service belongs to user {NOBODY}: -u {NOBODY} trusts it\n"
+    for given, is_trusted in [([], False), (["-u", str(NOBODY)], True), (["-u", "nobody"], True), (["-u", "0"], False),
+                              (["-u", "12345"], False)]:
         with as_other():
             server = Server(f"{bench.home}/theirs/socket", saying(said))
         status, printed, told = bench.run(*given, server.path, input=b"secret\n")
-        wanted = (0, said, "", b"secret\n") if is_trusted else (1, b"", f"regtxc: the service belongs to user {NOBODY}: -u {NOBODY} trusts it\n", b"")
+        wanted = (0, said, "", b"secret\n") if is_trusted else (1, b"", refusal, b"")
         yield expect(f"a service of another user, {given}", (status, printed, told, server.end()), wanted)
     for given, is_trusted in [([], True), (["-u", "0"], True), (["-u", "root"], True), (["-u", str(NOBODY)], False)]:
         server = Server(f"{bench.home}/fake", saying(said))

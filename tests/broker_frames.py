@@ -503,4 +503,5 @@ def at_random(bench):
             yield expect(f"seed {seed}: its end", broker.end(), (0, b"", ""))
 
 
-PARTS = [frames, sizes, unread, out_of_turn, wrong_heads, gone, closed, rest, flood, places, descriptors, operators, order, reused, slow, through, at_random]
+PARTS = [frames, sizes, unread, out_of_turn, wrong_heads, gone, closed, rest, flood, places, descriptors, operators, order, reused,
+         slow, through, at_random]

@@ -174,8 +174,8 @@ def may_connect(path):
 
 def deaths(bench):
     """The program ends unasked, at each point: the clients get what was sent, and the status is 1."""
-    for title, last in [("with a client", b""), ("amid a head", b"dat"), ("amid a frame", b"data %d 10\nhello"), ("after a session", b"end %d\n"),
-                        ("amid two frames", b"data %d 2\nok"), ("after its last line", b"E13 DiskFault\n")]:
+    for title, last in [("with a client", b""), ("amid a head", b"dat"), ("amid a frame", b"data %d 10\nhello"),
+                        ("after a session", b"end %d\n"), ("after a frame", b"data %d 2\nok"), ("after its last line", b"E13 DiskFault\n")]:
         for is_killed in (False, True):
             with bench.ready() as broker:
                 client, place = broker.met()
