@@ -3,9 +3,9 @@
        regtxd [-m MODE] [-g GROUP] [-n CLIENTS] [-t SECONDS] [-v] SOCKET COMMAND ..
 
    README.md of this folder has the options, the statuses and the protocol between the broker and
-   its program. The broker reads no line of a client. It never waits for one client or for the
-   program: what can't be written yet is kept, and of whom no more is read. So it holds at most
-   CHUNK bytes of replies for each client, and one frame for the program. */
+   its program. The broker reads no line of a client. It waits neither for a client nor for the
+   program alone: what can't be written yet is kept, and nothing more of its kind is taken before. So
+   it holds at most CHUNK bytes of replies for each client, and one frame for the program. */
 #define _GNU_SOURCE /* accept4, pipe2, struct ucred */
 
 #include <errno.h>
@@ -760,8 +760,7 @@ static void on_signal(int number)
 {
     int before = errno;
     char told = number == SIGCHLD ? 'c' : 's';
-    /* if the pipe is full a signal waits there already; of a stop there is one byte at least, since
-       it is emptied at once */
+    /* each turn empties the pipe, so it isn't full */
     ssize_t put = write(wake[1], &told, 1);
     (void)put;
     errno = before;
