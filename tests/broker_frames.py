@@ -7,6 +7,7 @@ import random
 import resource
 import select
 import signal
+import subprocess
 import threading
 
 from broker_bench import SECONDS, Client, Late, as_other, until
@@ -109,15 +110,28 @@ def out_of_turn(bench):
         client, place = broker.met()
         broker.puppet.write(b"end %d\ndata %d 1\nx" % (place, place))
         yield from broken(broker, client, f"data {place} 1", "data after `end`")
+    with bench.ready() as broker:
+        client, place = broker.met()
+        broker.puppet.write(b"data %d 3\nabcdef\n" % place)
+        yield expect("as much as was announced", client.read(3), b"abc")
+        yield from broken(broker, client, "def", "more than was announced")
+    with bench.ready() as broker:
+        client, place = broker.met()
+        other, _ = broker.met()
+        client.close()
+        broker.puppet.next()
+        broker.puppet.write(b"data %d 1\nxdata %d 1\nx" % (place, place))
+        yield from broken(broker, other, f"data {place} 1", "more than one reply to who has gone")
 
 
 def broken(broker, client, line, title):
     """What is wrong with the end of a broker whose program wrote a wrong line."""
     client.read_all()
-    last = broker.puppet.next()
+    before = list(iter(broker.puppet.next, None))
     broker.puppet.leave()
     status, printed, told = broker.end()
-    yield expect(f"{title}: the input's end, status and output", (last, status, printed), (None, 1, b""))
+    yield expect(f"{title}: words before the input's end", [word for word, *_ in before if word != "more"], [])
+    yield expect(f"{title}: status and output", (status, printed), (1, b""))
     yield None if f"wrong line of the program: '{line}': " in told else f"{title}: it is told {told!r}"
     yield expect(f"{title}: the socket's file", os.path.exists(broker.path), False)
 
@@ -158,6 +172,18 @@ def gone(bench):
         yield expect("and goes then", broker.puppet.next(), ("gone", second))
         broker.puppet.write(b"end %d\n" % second)
         yield expect("a stop", broker.stop(), (0, None))
+    yield from killed(bench)
+
+
+def killed(bench):
+    """A client's process is killed amid a line."""
+    with bench.ready() as broker, subprocess.Popen([bench.client, broker.path], stdin=subprocess.PIPE) as client:
+        _, place = broker.puppet.next()
+        client.stdin.write(b"create 0:A\ncreate 0:Ha")
+        client.stdin.flush()
+        yield expect("what it sent", broker.puppet.next(), ("data", place, b"create 0:A\ncreate 0:Ha"))
+        client.kill()
+        yield expect("it is killed", broker.puppet.next(), ("gone", place))
 
 
 def opened(broker, wanted):
