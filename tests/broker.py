@@ -31,7 +31,7 @@ SANITIZERS = ["-g", "-O1", "-fsanitize=address,undefined", "-fno-sanitize-recove
 BUILDS = {"plain": ["-O2"], "sanitized": SANITIZERS}
 PARTS = [*broker_frames.PARTS, *broker_service.PARTS, *broker_client.PARTS]
 # as many at a time; the longest parts come first
-WORKERS, LONGEST = 6, ["wrong_heads", "deaths", "order", "slow", "through", "at_random", "stops"]
+WORKERS, LONGEST = 10, ["wrong_heads", "deaths", "noise", "stops", "order", "slow", "through", "at_random", "rest", "idle"]
 BUILD_SECONDS, PART_SECONDS = 100, 50
 
 
@@ -71,15 +71,17 @@ def main():
         skip("broker", "places and sockets of other users: this isn't root")
     with tempfile.TemporaryDirectory(prefix="broker-") as folder, ProcessPoolExecutor(WORKERS) as pool:
         os.chmod(folder, 0o755)
-        built = [pool.submit(build_result, f"{SERVER}/{program}.c", f"{folder}/{program}.{name}", flags)
-                 for program in ("regtxd", "regtxc") for name, flags in BUILDS.items()]
-        built.append(pool.submit(build_result, os.path.join(TOP, "tests", "broker_puppet.c"), f"{folder}/puppet", ["-O1"]))
-        counts = [tell("builds", [each.result() for each in built])]
-        if not counts[0][1]:
-            first = sorted(parts, key=lambda part: part.__name__ not in LONGEST)
-            run = {(name, part): pool.submit(part_results, folder, name, part) for part in first for name in BUILDS}
-            for name in BUILDS:
-                counts.append(tell(name, [result for part in parts for result in run[name, part].result()]))
+        puppet = pool.submit(build_result, os.path.join(TOP, "tests", "broker_puppet.c"), f"{folder}/puppet", ["-O1"])
+        built = {name: [pool.submit(build_result, f"{SERVER}/{program}.c", f"{folder}/{program}.{name}", flags)
+                        for program in ("regtxd", "regtxc")] for name, flags in BUILDS.items()}
+        first, run = sorted(parts, key=lambda part: part.__name__ not in LONGEST), {}
+        for name, programs in built.items():
+            # those of one build run while the next one is made
+            if not any(each.result() for each in [puppet, *programs]):
+                run |= {(name, part): pool.submit(part_results, folder, name, part) for part in first}
+        counts = [tell("builds", [each.result() for each in [puppet, *(program for programs in built.values() for program in programs)]])]
+        for name in BUILDS:
+            counts.append(tell(name, [result for part in parts if (name, part) in run for result in run[name, part].result()]))
     passed, failed = map(sum, zip(*counts))
     print(f"broker: {passed} passed, {failed} failed")
     sys.exit(1 if failed else 0)

@@ -17,7 +17,7 @@ from scratch import expect
 # a client's socket keeps some 200 kB that nobody reads
 ROOM = 4 * MOST + 1_000_000
 PLACES = 31
-TURNS = 200
+TURNS, NOISES = 200, 20
 SEED = 4_242
 # what no program may write while place P has a client and Q none, and nothing was sent
 WRONG = ["", "hello", "open P", "gone P", "ready", "ready P", "data", "data P", "data P 0", "data P 65537", "data P -5", "data P +5",
@@ -149,6 +149,33 @@ def wrong_heads(bench):
         client, _ = broker.met()
         broker.puppet.write(b"d" * 600)
         yield from broken(broker, client, "d" * 512, "a line without end")
+
+
+def noise(bench):
+    """A program that writes frames, right and wrong ones, at random: whatever it is, the broker ends as at a wrong line."""
+    for seed in range(NOISES):
+        chance = random.Random(seed)
+        with bench.ready() as broker:
+            seats = [broker.met() for _ in range(3)]
+            for client, _ in seats:
+                client.send(chance.randbytes(100))
+            try:
+                for _ in range(300):
+                    broker.puppet.write(noisy(chance, [place for _, place in seats]))
+            except BrokenPipeError:
+                pass
+            for client, _ in seats:
+                client.close()
+            broker.puppet.leave()
+            yield expect(f"seed {seed}", broker.end()[:2], (1, b""))
+
+
+def noisy(chance, taken):
+    """A frame that may be a wrong one."""
+    place, size = chance.choice(taken * 4 + [31, 99]), chance.choice([1, 2, 500, MOST] * 8 + [0, MOST + 1])
+    data = b"data %d %d\n" % (place, size) + chance.randbytes(size)
+    words = [b"more %d\n" % place, b"end %d\n" % place, b"data %d 1\n" % place, chance.randbytes(20).replace(b"\n", b"") + b"\n"]
+    return data if chance.random() < 0.8 else chance.choice(words)
 
 
 def gone(bench):
@@ -529,5 +556,5 @@ def at_random(bench):
             yield expect(f"seed {seed}: its end", broker.end(), (0, b"", ""))
 
 
-PARTS = [frames, sizes, unread, out_of_turn, wrong_heads, gone, closed, rest, flood, places, descriptors, operators, order, reused,
-         slow, through, at_random]
+PARTS = [frames, sizes, unread, out_of_turn, wrong_heads, noise, gone, closed, rest, flood, places, descriptors, operators, order,
+         reused, slow, through, at_random]
