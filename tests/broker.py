@@ -6,7 +6,7 @@
 Both are built without warnings into a folder that goes with this, and once more for the sanitizers of addresses and of undefined
 behaviour; each part is carried out with each build. The program at the broker's other side is played by the tests, frame by frame
 (tests/broker_frames.py, tests/broker_service.py), or is one of tests/framed_programs.py; the server that `regtxc` asks is a part of
-the test too (tests/broker_client.py). REGTXD_SOURCES is another folder with the two sources, such as spoiled ones. The last line is
+the test too (tests/broker_client.py). REGTXD_SOURCES is another folder with the sources, such as spoiled ones. The last line is
 'broker: N passed, M failed'; status 0 if none failed.
 """
 import os
@@ -27,6 +27,8 @@ from scratch import skip, tell  # noqa: E402
 
 SERVER = os.environ.get("REGTXD_SOURCES") or os.path.join(TOP, "server")
 FLAGS = ["-std=c11", "-Wall", "-Wextra", "-Wpedantic", "-Wshadow", "-Werror"]
+SOURCES = {"regtxd": ["regtxd", "broker", "clients", "frames", "listener", "messages", "options", "program", "systemd"],
+           "regtxc": ["regtxc"]}
 SANITIZERS = ["-g", "-O1", "-fsanitize=address,undefined", "-fno-sanitize-recover=all"]
 BUILDS = {"plain": ["-O2"], "sanitized": SANITIZERS}
 PARTS = [*broker_frames.PARTS, *broker_service.PARTS, *broker_client.PARTS]
@@ -35,9 +37,9 @@ WORKERS, LONGEST = 10, ["wrong_heads", "deaths", "noise", "stops", "order", "slo
 BUILD_SECONDS, PART_SECONDS = 100, 50
 
 
-def build_result(source, target, flags):
+def build_result(sources, target, flags):
     """What is wrong with a build."""
-    ran = subprocess.run(["cc", *FLAGS, *flags, "-o", target, source], capture_output=True, text=True, timeout=BUILD_SECONDS)
+    ran = subprocess.run(["cc", *FLAGS, *flags, "-o", target, *sources], capture_output=True, text=True, timeout=BUILD_SECONDS)
     return f"{target}: {ran.stderr}" if ran.returncode else None
 
 
@@ -71,9 +73,9 @@ def main():
         skip("broker", "places and sockets of other users: this isn't root")
     with tempfile.TemporaryDirectory(prefix="broker-") as folder, ProcessPoolExecutor(WORKERS) as pool:
         os.chmod(folder, 0o755)
-        puppet = pool.submit(build_result, os.path.join(TOP, "tests", "broker_puppet.c"), f"{folder}/puppet", ["-O1"])
-        built = {name: [pool.submit(build_result, f"{SERVER}/{program}.c", f"{folder}/{program}.{name}", flags)
-                        for program in ("regtxd", "regtxc")] for name, flags in BUILDS.items()}
+        puppet = pool.submit(build_result, [os.path.join(TOP, "tests", "broker_puppet.c")], f"{folder}/puppet", ["-O1"])
+        built = {name: [pool.submit(build_result, [f"{SERVER}/{source}.c" for source in sources], f"{folder}/{program}.{name}", flags)
+                        for program, sources in SOURCES.items()] for name, flags in BUILDS.items()}
         first, run = sorted(parts, key=lambda part: part.__name__ not in LONGEST), {}
         for name, programs in built.items():
             # those of one build run while the next one is made
