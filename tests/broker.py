@@ -6,10 +6,14 @@
 Both are built without warnings into a folder that goes with this, and once more for the sanitizers of addresses and of undefined
 behaviour; each part is carried out with each build. The program at the broker's other side is played by the tests, frame by frame
 (tests/broker_frames.py, tests/broker_service.py), or is one of tests/framed_programs.py; the server that `regtxc` asks is a part of
-the test too (tests/broker_client.py). REGTXD_SOURCES is another folder with the sources, such as spoiled ones. The last line is
-'broker: N passed, M failed'; status 0 if none failed.
+the test too (tests/broker_client.py). REGTXD_SOURCES is another folder with the sources, such as spoiled ones.
+
+Each part is given up after PART_SECONDS, and all of this after WHOLE_SECONDS. The last line is 'broker: N passed, M failed'; status 0
+if none failed.
 """
+import multiprocessing
 import os
+import shutil
 import signal
 import subprocess
 import sys
@@ -22,7 +26,7 @@ sys.path.insert(0, os.path.join(TOP, "tests"))
 import broker_client  # noqa: E402
 import broker_frames  # noqa: E402
 import broker_service  # noqa: E402
-from broker_bench import Bench, Late  # noqa: E402
+from broker_bench import Bench  # noqa: E402
 from scratch import skip, tell  # noqa: E402
 
 SERVER = os.environ.get("REGTXD_SOURCES") or os.path.join(TOP, "server")
@@ -32,9 +36,31 @@ SOURCES = {"regtxd": ["regtxd", "broker", "clients", "frames", "listener", "mess
 SANITIZERS = ["-g", "-O1", "-fsanitize=address,undefined", "-fno-sanitize-recover=all"]
 BUILDS = {"plain": ["-O2"], "sanitized": SANITIZERS}
 PARTS = [*broker_frames.PARTS, *broker_service.PARTS, *broker_client.PARTS]
-# as many at a time; the longest parts come first
-WORKERS, LONGEST = 10, ["wrong_heads", "deaths", "noise", "stops", "order", "slow", "through", "at_random", "rest", "idle"]
-BUILD_SECONDS, PART_SECONDS = 100, 50
+# as many at a time, since parts wait more than they work
+WORKERS = min(10, 2 + 2 * (os.cpu_count() or 1))
+# these come first
+LONGEST = ["wrong_heads", "deaths", "noise", "stops", "order", "slow", "through", "at_random", "rest", "idle"]
+# no build, no part, and not the whole may take longer: far more than they take on a machine that does much else
+BUILD_SECONDS, PART_SECONDS, WHOLE_SECONDS = 300, 300, 1_200
+PROBES, PROBE_SECONDS = 20, 30
+# the path of a socket has 107 bytes at most: a longer path of temporary folders has no room for those of this
+LONGEST_FOLDER = 40
+
+
+class Overdue(Exception):
+    """A part took too long. Nothing in a part may take it for something that merely didn't come."""
+
+
+def are_sanitizers_there(folder):
+    """Whether programs that are built for the sanitizers begin here, time after time. Some systems place libraries where these
+    sanitizers have their own memory, now and then."""
+    target, source = f"{folder}/probe", b"int main(void) { return 0; }\n"
+    built = subprocess.run(["cc", *SANITIZERS, "-x", "c", "-o", target, "-"], input=source, capture_output=True, timeout=BUILD_SECONDS)
+    try:
+        return built.returncode == 0 and not any(
+            subprocess.run([target], capture_output=True, timeout=PROBE_SECONDS).returncode for _ in range(PROBES))
+    except subprocess.TimeoutExpired:
+        return False
 
 
 def build_result(sources, target, flags):
@@ -44,13 +70,23 @@ def build_result(sources, target, flags):
 
 
 def give_up(*_):
-    raise Late(f"it took {PART_SECONDS} seconds")
+    raise Overdue(f"it took {PART_SECONDS} seconds")
+
+
+def end_all(folder):
+    """Ends all of this, if a part can't even be given up."""
+    for worker in multiprocessing.active_children():
+        worker.kill()
+    shutil.rmtree(folder, ignore_errors=True)
+    print(f"broker: it took {WHOLE_SECONDS} seconds\nbroker: 0 passed, 1 failed", flush=True)
+    os._exit(1)
 
 
 def part_results(folder, name, part):
     """What is wrong in a part with a build. One that takes too long is given up."""
     signal.signal(signal.SIGALRM, give_up)
-    signal.alarm(PART_SECONDS)
+    # and again, if the end of a part waits, too
+    signal.setitimer(signal.ITIMER_REAL, PART_SECONDS, PART_SECONDS / 10)
     with tempfile.TemporaryDirectory(prefix=f"{part.__name__}-", dir=folder) as home:
         os.chmod(home, 0o755)
         results = []
@@ -60,7 +96,7 @@ def part_results(folder, name, part):
         except Exception as why:  # pylint: disable=broad-except
             results.append(f"{type(why).__name__}: {why}")
         finally:
-            signal.alarm(0)
+            signal.setitimer(signal.ITIMER_REAL, 0)
         return [result and f"{part.__name__}: {result}" for result in results]
 
 
@@ -71,18 +107,25 @@ def main():
     parts = [known[name] for name in sys.argv[1:]] or PARTS
     if os.geteuid() != 0:
         skip("broker", "places and sockets of other users: this isn't root")
-    with tempfile.TemporaryDirectory(prefix="broker-") as folder, ProcessPoolExecutor(WORKERS) as pool:
+    short = None if len(tempfile.gettempdir()) <= LONGEST_FOLDER else "/tmp"
+    with tempfile.TemporaryDirectory(prefix="broker-", dir=short) as folder, ProcessPoolExecutor(WORKERS) as pool:
         os.chmod(folder, 0o755)
+        signal.signal(signal.SIGALRM, lambda *_: end_all(folder))
+        signal.alarm(WHOLE_SECONDS)
+        builds = dict(BUILDS)
+        if not are_sanitizers_there(folder):
+            del builds["sanitized"]
+            skip("broker", "the build for the sanitizers: programs of theirs can't be built, or don't begin each time")
         puppet = pool.submit(build_result, [os.path.join(TOP, "tests", "broker_puppet.c")], f"{folder}/puppet", ["-O1"])
         built = {name: [pool.submit(build_result, [f"{SERVER}/{source}.c" for source in sources], f"{folder}/{program}.{name}", flags)
-                        for program, sources in SOURCES.items()] for name, flags in BUILDS.items()}
+                        for program, sources in SOURCES.items()] for name, flags in builds.items()}
         first, run = sorted(parts, key=lambda part: part.__name__ not in LONGEST), {}
         for name, programs in built.items():
             # those of one build run while the next one is made
             if not any(each.result() for each in [puppet, *programs]):
                 run |= {(name, part): pool.submit(part_results, folder, name, part) for part in first}
         counts = [tell("builds", [each.result() for each in [puppet, *(program for programs in built.values() for program in programs)]])]
-        for name in BUILDS:
+        for name in builds:
             counts.append(tell(name, [result for part in parts if (name, part) in run for result in run[name, part].result()]))
     passed, failed = map(sum, zip(*counts))
     print(f"broker: {passed} passed, {failed} failed")

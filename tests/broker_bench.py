@@ -1,19 +1,24 @@
 """A broker under test, the program that a test plays for it, and clients: what the parts of tests/broker.py share."""
+import array
+import fcntl
 import os
 import select
 import signal
 import socket
+import struct
 import subprocess
 import sys
 import tempfile
+import termios
 import time
 from contextlib import contextmanager
 
 from framed_programs import Frames
 from scratch import NOBODY
 
-# no wait takes longer; and after how long nothing is taken to come
-SECONDS, QUIET = 20, 0.15
+# no wait takes longer, also on a machine that does much else; and after how long nothing is taken to come. What a part rests on never
+# follows of QUIET alone
+SECONDS, QUIET = 100, 0.15
 PROGRAMS = os.path.join(os.path.dirname(os.path.abspath(__file__)), "framed_programs.py")
 PYTHON = [sys.executable, "-I", "-S"]
 SANITIZER_STATUS = 99
@@ -36,6 +41,16 @@ def until(condition, seconds=SECONDS):
             return False
         time.sleep(0.005)
     return True
+
+
+@contextmanager
+def child(words, **given):
+    """A program that runs; it is killed at the end, if it hasn't ended by then."""
+    with subprocess.Popen(words, **given) as process:
+        try:
+            yield process
+        finally:
+            process.kill()
 
 
 class Client:
@@ -103,6 +118,7 @@ class Puppet:
     def __init__(self, listener):
         wait_for(listener)
         self.master = listener.accept()[0]
+        self.pid = struct.unpack("3i", self.master.getsockopt(socket.SOL_SOCKET, socket.SO_PEERCRED, struct.calcsize("3i")))[0]
         told, files, _, _ = socket.recv_fds(self.master, 1 << 16, 2)
         self.environment, self.opened = map(str.split, told.decode().split("\n"))
         self.input, self.output = files
@@ -138,6 +154,12 @@ class Puppet:
         while content:
             content = content[os.write(self.output, content):]
 
+    def is_read(self):
+        """Whether the broker has read all that was written."""
+        unread = array.array("i", [0])
+        fcntl.ioctl(self.output, termios.FIONREAD, unread)
+        return unread[0] == 0
+
     def close_files(self):
         if self.is_there:
             os.close(self.input)
@@ -172,7 +194,12 @@ class Broker:
         environment = dict(os.environ, ASAN_OPTIONS=f"exitcode={SANITIZER_STATUS}", **given.pop("environment", {}))
         self.process = subprocess.Popen([*before, bench.broker, *options, self.path, *command], stdin=subprocess.DEVNULL,
                                         stdout=subprocess.PIPE, stderr=subprocess.PIPE, env=environment, **given)
-        self.puppet = Puppet(self.puppets) if self.puppets and is_met else None
+        self.puppet = None
+        try:
+            self.puppet = Puppet(self.puppets) if self.puppets and is_met else None
+        except BaseException:
+            self.close()
+            raise
 
     def line(self):
         """The next line of its output."""
@@ -215,11 +242,32 @@ class Broker:
         with open(f"/proc/{self.process.pid}/status", encoding="ascii") as file:
             return next(int(line.split()[1]) for line in file if line.startswith("VmRSS"))
 
+    def stat(self):
+        """What the system tells of its process: the state first."""
+        with open(f"/proc/{self.process.pid}/stat", encoding="ascii") as file:
+            return file.read().rsplit(")", 1)[1].split()
+
+    def is_at_rest(self):
+        """Whether it has read all that its program wrote, and waits for more."""
+        return self.puppet.is_read() and self.stat()[0] == "S"
+
+    def next_or_rest(self):
+        """The next frame, or None if the broker waits and none has come."""
+        found = []
+
+        def has_answer():
+            is_at_rest = self.is_at_rest()
+            found.append(self.puppet.soon())
+            return found[-1] or is_at_rest
+        if not until(has_answer):
+            raise Late("the broker neither told anything nor rested")
+        return found[-1]
+
     def ticks(self, seconds):
-        """What it takes of a processor's time in so many seconds, in hundredths."""
+        """What it takes of a processor's time in so many seconds after it has come to rest, in hundredths."""
         def taken():
-            with open(f"/proc/{self.process.pid}/stat", encoding="ascii") as file:
-                return sum(map(int, file.read().rsplit(")", 1)[1].split()[11:13]))
+            return sum(map(int, self.stat()[11:13]))
+        until(self.is_at_rest)
         before = taken()
         time.sleep(seconds)
         return taken() - before

@@ -5,7 +5,7 @@ import subprocess
 import threading
 import time
 
-from broker_bench import SECONDS, as_other
+from broker_bench import SECONDS, as_other, child
 from scratch import NOBODY, expect
 
 MUCH = 5_000_000
@@ -110,7 +110,7 @@ def duplex(bench):
     found = bench.run(server.path, input=b"a\n" * (MUCH // 3))
     yield expect("replies first", (found[0], len(found[1]), server.end()), (0, 9 + MUCH // 3 * 3, MUCH // 3 * 2))
     server = Server(f"{bench.home}/fake", some_first)
-    with subprocess.Popen([bench.client, server.path], stdin=subprocess.PIPE, stdout=subprocess.PIPE) as client:
+    with child([bench.client, server.path], stdin=subprocess.PIPE, stdout=subprocess.PIPE) as client:
         # nobody reads its output until all lines are sent
         client.stdin.write(b"a\n" * MUCH)
         client.stdin.close()
@@ -129,7 +129,7 @@ def duplex(bench):
 def asks(bench):
     """Lines one by one, each after the last reply, as from a terminal."""
     with bench.program("echo") as broker:
-        with subprocess.Popen([bench.client, broker.path], stdin=subprocess.PIPE, stdout=subprocess.PIPE, bufsize=0) as client:
+        with child([bench.client, broker.path], stdin=subprocess.PIPE, stdout=subprocess.PIPE, bufsize=0) as client:
             found, lines = [client.stdout.readline()], [b"line-%d\n" % number for number in range(20)]
             for line in lines:
                 client.stdin.write(line)

@@ -7,15 +7,14 @@ import random
 import resource
 import select
 import signal
+import socket
 import subprocess
 import threading
 
-from broker_bench import SECONDS, Client, Late, as_other, until
+from broker_bench import SECONDS, Client, as_other, child, until
 from framed_programs import MOST
 from scratch import expect
 
-# a client's socket keeps some 200 kB that nobody reads
-ROOM = 4 * MOST + 1_000_000
 PLACES = 31
 TURNS, NOISES = 200, 20
 SEED = 4_242
@@ -82,7 +81,7 @@ def unread(bench):
     with bench.ready() as broker:
         client, place = broker.met()
         count = fill(broker, place)
-        yield expect("what waits for a client", count * MOST < ROOM, True)
+        yield expect("what waits for a client", count * MOST < room(client), True)
         broker.puppet.write(b"end %d\n" % place)
         other, second = broker.met()
         yield expect("another's place, while replies wait", second != place, True)
@@ -204,7 +203,7 @@ def gone(bench):
 
 def killed(bench):
     """A client's process is killed amid a line."""
-    with bench.ready() as broker, subprocess.Popen([bench.client, broker.path], stdin=subprocess.PIPE) as client:
+    with bench.ready() as broker, child([bench.client, broker.path], stdin=subprocess.PIPE) as client:
         _, place = broker.puppet.next()
         client.stdin.write(b"create 0:A\ncreate 0:Ha")
         client.stdin.flush()
@@ -273,14 +272,14 @@ def descriptors(bench):
         yield expect("47 descriptors", broker.end()[:2], (1, b""))
     with bench.ready() as broker:
         resource.prlimit(broker.process.pid, resource.RLIMIT_NOFILE, (36, 36))
-        seats = [broker.met()]
-        try:
-            while len(seats) < PLACES:
-                late = broker.client()
-                seats.append((late, broker.puppet.next(0.5)[1]))
-        except Late:
-            pass
-        yield expect("clients", 1 < len(seats) < PLACES, True)
+        seats, waiting = [], []
+        while len(seats) < PLACES:
+            waiting.append(broker.client())
+            # it says nothing but that it can't accept
+            if broker.puppet.input not in select.select([broker.process.stderr, broker.puppet.input], [], [], SECONDS)[0]:
+                break
+            seats.append((waiting.pop(), broker.puppet.next()[1]))
+        yield expect("clients", (1 < len(seats) < PLACES, len(waiting)), (True, 1))
         yield expect("ticks of 100", broker.ticks(1) <= 5, True)
         client, place = seats[0]
         client.close()
@@ -314,8 +313,14 @@ def fill(broker, place):
     """Writes replies to a client that doesn't read, until nobody takes more; answers how many pieces of 65,536 bytes."""
     for count in itertools.count(1):
         broker.puppet.write(b"data %d %d\n" % (place, MOST) + b"r" * MOST)
-        if not broker.puppet.quiet():
+        if not broker.next_or_rest():
             return count
+
+
+def room(client):
+    """More bytes than may wait for a client that doesn't read: those of the broker, of a program that echoes, and of the system's
+    buffers, by default 212,992 bytes at each side."""
+    return 8 * MOST + 4 * client.socket.getsockopt(socket.SOL_SOCKET, socket.SO_SNDBUF)
 
 
 def rest(bench):
@@ -464,7 +469,7 @@ def slow(bench):
             filler.start()
         for filler in fillers:
             filler.join(SECONDS)
-        yield expect("what is taken of one that doesn't read", max(sent) < ROOM, True)
+        yield expect("what is taken of one that doesn't read", max(sent) < room(other), True)
         for number in range(300):
             other.send(b"%d\n" % number)
             if other.read(len(str(number)) + 1) != b"%d\n" % number:

@@ -11,7 +11,10 @@ from broker_frames import fill
 from scratch import NOBODY, expect
 
 OPERATORS = 12_345
-STOP_SECONDS = 5
+# a stop waits a second for clients that don't read; what hangs takes longer than this
+STOP_SECONDS = 30
+# what `-t` is given, and until when an idle connection has to be ended
+IDLE_SECONDS, IDLE_LATEST = 5, 35
 CHMOD = b"""
 #define _GNU_SOURCE
 #include <stdio.h>
@@ -135,7 +138,8 @@ def noting(bench):
     runtime has to come first."""
     if bench.is_sanitized:
         return None
-    subprocess.run(["cc", "-shared", "-fPIC", "-x", "c", "-", "-o", f"{bench.home}/noting.so"], input=CHMOD, check=True)
+    subprocess.run(["cc", "-shared", "-fPIC", "-x", "c", "-", "-o", f"{bench.home}/noting.so"], input=CHMOD, check=True,
+                   timeout=SECONDS)
     return {"environment": {"LD_PRELOAD": f"{bench.home}/noting.so", "NOTED": f"{bench.home}/noted"}}
 
 
@@ -182,7 +186,7 @@ def deaths(bench):
                 broker.puppet.write(last % place if b"%d" in last else last)
                 if is_killed:
                     # its files are open still, as those of a program that it started would be
-                    os.kill(int(children(broker)), signal.SIGKILL)
+                    os.kill(broker.puppet.pid, signal.SIGKILL)
                 else:
                     broker.puppet.leave(0)
                 title_of = f"{title}, {'killed' if is_killed else 'status 0'}"
@@ -199,11 +203,6 @@ def deaths(bench):
         broker.puppet.input = os.open("/dev/null", os.O_RDONLY)
         broker.puppet.leave()
         yield expect("its end", (client.read_all(), broker.end()[0]), (b"", 1))
-
-
-def children(broker):
-    with open(f"/proc/{broker.process.pid}/task/{broker.process.pid}/children", encoding="ascii") as file:
-        return file.read()
 
 
 def stops(bench):
@@ -264,10 +263,10 @@ def stops_of_others(bench):
 
 def idle(bench):
     """-t ends connections that move nothing, and neither those that send nor those that are sent something."""
-    with bench.ready("-t", "1") as broker:
+    with bench.ready("-t", str(IDLE_SECONDS)) as broker:
         began, gone_at = time.monotonic(), {}
         (silent, first), (asker, second), (reader, third) = (broker.met() for _ in range(3))
-        while time.monotonic() - began < 2.2:
+        while time.monotonic() - began < (IDLE_SECONDS * 1.5 if gone_at else IDLE_LATEST):
             if second not in gone_at and third not in gone_at:
                 asker.send(b"x")
                 broker.puppet.write(b"data %d 1\nx" % third)
@@ -279,7 +278,7 @@ def idle(bench):
                 elif frame[0] == "gone":
                     gone_at[frame[1]] = time.monotonic() - began
         yield expect("who is ended", list(gone_at), [first])
-        yield expect("after a second", 0.9 < gone_at.get(first, 0) < 2.2, True)
+        yield expect("when", IDLE_SECONDS - 0.1 < gone_at.get(first, 0) < IDLE_LATEST, True)
         yield expect("its connection", silent.read_all(), b"")
 
 
