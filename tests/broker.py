@@ -107,6 +107,8 @@ def main():
     parts = [known[name] for name in sys.argv[1:]] or PARTS
     if os.geteuid() != 0:
         skip("broker", "places and sockets of other users: this isn't root")
+    # a shell that runs this in the background lets it ignore SIGINT, which a broker would then ignore too
+    signal.signal(signal.SIGINT, signal.default_int_handler)
     short = None if len(tempfile.gettempdir()) <= LONGEST_FOLDER else "/tmp"
     with tempfile.TemporaryDirectory(prefix="broker-", dir=short) as folder, ProcessPoolExecutor(WORKERS) as pool:
         os.chmod(folder, 0o755)
