@@ -1,1 +1,1 @@
-mod Stops
+pub mod Stops

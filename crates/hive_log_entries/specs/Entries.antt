@@ -2,8 +2,8 @@
 use Rattle.std.specs.Prelude.{◌≡◌, ◌≤◌, ℕ, ◌+◌, ◌%◌, ◌==◌, nat_le, nat_lt, not, Bool, ◌&&◌, if◌then◌else◌, List, length, take, drop, Option, Some, None, Result, Ok, Err}
 use Rattle.base_block.specs.Layout.{number_at}
 use Rattle.marvin32.specs.Marvin32.{hash_of}
-use Rattle.hive_log_entries.specs.Pages.{bins_size_of, page_count, has_pages}
-use Rattle.hive_log_entries.specs.declared.entry.LogEntry.{LogEntry}
+use Rattle.hive_log_entries.specs.Pages.{bins_size_of, has_pages}
+use Rattle.base_block.specs.declared.fields.SequenceNumber.{SequenceNumber}
 use Rattle.hive_log_entries.specs.declared.entry_end.EntryEnd.{EntryEnd}
 use Rattle.hive_log_entries.specs.declared.entry_end.EntryEnd.TheVariants.{NoLetters, WrongSize, Cut, WrongSecondHash, WrongFirstHash, WrongBinsSize, WrongPage}
 
@@ -57,18 +57,18 @@ fault_of bytes =
     else (if not (has_pages bytes) then Some WrongPage
     else None)))
 
--- the fields of the entry that stands at a place and has these bytes
-abbrev pub entry_of : ℕ → ℕ → List ℕ → LogEntry
-entry_of at size bytes = record { at = at; size = size; number = record { 0 = number_at 12 4 bytes }; bins_size = bins_size_of bytes; pages = page_count bytes }
+-- the number of an entry that has these bytes
+abbrev pub number_of : List ℕ → SequenceNumber
+number_of bytes = record { 0 = number_at 12 4 bytes }
 
--- the entry of which these are all bytes, or the first test that they fail
-abbrev pub judged_entry : ℕ → ℕ → List ℕ → Result LogEntry EntryEnd
-judged_entry at size bytes = elim (fault_of bytes) as (λ _. Result LogEntry EntryEnd) [ None ↦ Ok (entry_of at size bytes) | Some why ↦ Err why ]
+-- these bytes, if an entry has them, or the first test that they fail
+abbrev pub judged_entry : List ℕ → Result (List ℕ) EntryEnd
+judged_entry bytes = elim (fault_of bytes) as (λ _. Result (List ℕ) EntryEnd) [ None ↦ Ok bytes | Some why ↦ Err why ]
 
--- the entry that stands at a place of a log, or the first test that fails there
-unfoldable pub entry_at : List ℕ → ℕ → Result LogEntry EntryEnd
-entry_at log at = elim (size_at_front (drop at log)) as (λ _. Result LogEntry EntryEnd) [ Err why ↦ Err why | Ok size ↦ judged_entry at size (take size (drop at log)) ]
+-- the bytes of the entry that stands at a place of a log, or the first test that fails there
+unfoldable pub entry_at : List ℕ → ℕ → Result (List ℕ) EntryEnd
+entry_at log at = elim (size_at_front (drop at log)) as (λ _. Result (List ℕ) EntryEnd) [ Err why ↦ Err why | Ok size ↦ judged_entry (take size (drop at log)) ]
 
 -- an entry that stands at a place is within the log
-abbrev pub IsWithinLog : List ℕ → ℕ → LogEntry → Type 0
-IsWithinLog log at entry = (entry.at ≡ at) × (512 ≤ entry.size) × (at + entry.size ≤ length log)
+abbrev pub IsWithinLog : List ℕ → ℕ → List ℕ → Type 0
+IsWithinLog log at entry = (512 ≤ length entry) × (at + length entry ≤ length log)

@@ -1,48 +1,35 @@
 //! An entry of a log.
-ghost use Rattle.std.specs.Prelude.{◌≡◌, ◌≤◌, ◌+◌, length, take, drop, IfOk};
-ghost use Rattle.hive_log_entries.specs.Entries.{entry_at, entry_of, size_at_front, fault_of, hash_at, same_hash, has_second_hash, has_first_hash, has_bins_size, IsWithinLog};
+ghost use Rattle.std.specs.Prelude.{◌≡◌, ◌≤◌, ◌<◌, ◌+◌, suc, length, take, drop, IfOk};
+ghost use Rattle.hive_log_entries.specs.Pages.{bins_size_of, page_count, reference_at, page_start, page_bytes};
+ghost use Rattle.hive_log_entries.specs.Entries.{entry_at, number_of, IsWithinLog};
 
 use crate::entry_end::EntryEnd;
-use crate::pages::{are_pages_within, u32_at};
+use crate::entry_tests::{bytes_from, entry_size, fault, first_bytes};
+use crate::pages::{PageReference, reference, u32_at};
 use base_block::SequenceNumber;
-use marvin32::marvin32;
+use std::marker::Model;
 
-/// The seed of the hashes.
-const SEED: (u32, u32) = (0x884d_ef82, 0xc555_4e7a);
+/// An entry of a log: what one write of the hive changed. Contracts see it as its bytes.
+#[derive(Drop)]
+pub struct LogEntry<'a> {
+    bytes: &'a [u8],
+}
 
-// the letters `HvLE`, the first in the lowest byte
-const LETTERS: u32 = 0x454c_7648;
+impl<'a> Model for LogEntry<'a> {
+    ghost use Rattle.std.specs.Prelude.{ℕ, List, length, true, ◌≡◌, ◌≤◌};
+    ghost use Rattle.hive_log_entries.specs.Pages.{has_pages};
 
-const _: () = prove!(LETTERS == 0x454c_7648);
+    ghost Value = { List ℕ };
 
-// what the size of an entry is a multiple of
-const SECTOR_BYTES: u32 = 512;
+    ghost view = { λ inside. inside.bytes.now };
 
-const _: () = prove!(SECTOR_BYTES == 512);
-
-// what the size of bins data is a multiple of
-const BIN_BYTES: u32 = 4096;
-
-const _: () = prove!(BIN_BYTES == 4096);
-
-/// An entry of a log: what one write of the hive changed.
-#[derive(Clone, Copy)]
-pub struct LogEntry {
-    /// Where it begins in the log.
-    pub at: usize,
-    /// Its bytes, padding included: a multiple of 512.
-    pub size: u32,
-    /// Its number.
-    pub number: SequenceNumber,
-    /// The bytes of bins data after it.
-    pub bins_size: u32,
-    /// How many pages it has.
-    pub pages: u32,
+    ghost invariant = { λ inside. (512 ≤ length inside.bytes.now)
+        × (has_pages inside.bytes.now ≡ true) };
 }
 
 #[tactic(auto, unfolding(crate::specs::Entries::entry_at))]
 /// The entry that stands at a place of a log, or the first test that fails there. Takes no memory.
-pub fn read_entry(log: &[u8], at: usize) -> Result<LogEntry, EntryEnd>
+pub fn read_entry(log: &[u8], at: usize) -> Result<LogEntry<'_>, EntryEnd>
     ensures reading { result ≡ entry_at log.now at }
     ensures within { IfOk result (IsWithinLog log.now at) }
 {
@@ -51,115 +38,72 @@ pub fn read_entry(log: &[u8], at: usize) -> Result<LogEntry, EntryEnd>
     let bytes = first_bytes(rest, size as usize);
     match fault(bytes) {
         Some(why) => Err(why),
-        None => Ok(fields_of(bytes, at, size)),
+        None => Ok(LogEntry { bytes }),
     }
 }
 
-// the bytes from a place on
-fn bytes_from(log: &[u8], at: usize) -> &[u8]
-    ensures { result.now ≡ drop at log.now }
-{
-    if at > log.len() {
-        return &[];
+impl<'a> LogEntry<'a> {
+    /// The same entry once more.
+    pub fn again(&self) -> LogEntry<'a>
+        ensures { result ≡ self.now }
+    {
+        LogEntry { bytes: self.bytes }
     }
-    &log[at..]
-}
 
-// the first bytes
-fn first_bytes(rest: &[u8], size: usize) -> &[u8]
-    requires { size ≤ length rest.now }
-    ensures bytes { result.now ≡ take size rest.now }
-    ensures long { length result.now ≡ size }
-{
-    &rest[..size]
-}
+    /// Its bytes, padding included.
+    pub fn size(&self) -> usize
+        ensures { result ≡ length self.now }
+    {
+        self.bytes.len()
+    }
 
-#[tactic(auto, unfolding(crate::specs::Entries::size_at_front))]
-// the size of the entry that these bytes begin with, if its letters are there and it is there whole
-fn entry_size(rest: &[u8]) -> Result<u32, EntryEnd>
-    ensures reading { result ≡ size_at_front rest.now }
-    ensures within { IfOk result (λ size. (512 ≤ size) × (size ≤ length rest.now)) }
-{
-    if rest.len() < 4 || u32_at(rest, 0) != LETTERS {
-        return Err(EntryEnd::NoLetters);
+    /// Its number.
+    pub fn number(&self) -> SequenceNumber
+        ensures { result ≡ number_of self.now }
+    {
+        SequenceNumber(u32_at(self.bytes, 12))
     }
-    if rest.len() < 8 {
-        return Err(EntryEnd::Cut);
-    }
-    let size = u32_at(rest, 4);
-    if !size.is_multiple_of(SECTOR_BYTES) || size < SECTOR_BYTES {
-        return Err(EntryEnd::WrongSize);
-    }
-    if rest.len() < size as usize {
-        return Err(EntryEnd::Cut);
-    }
-    Ok(size)
-}
 
-#[tactic(auto, unfolding(crate::specs::Entries::fault_of))]
-// the first test that the bytes of an entry fail, after those of its size
-fn fault(bytes: &[u8]) -> Option<EntryEnd>
-    requires { 512 ≤ length bytes.now }
-    ensures { result ≡ fault_of bytes.now }
-{
-    if !is_second_hash_right(bytes) {
-        return Some(EntryEnd::WrongSecondHash);
+    /// The bytes of bins data after it.
+    pub fn bins_size(&self) -> u32
+        ensures { result ≡ bins_size_of self.now }
+    {
+        u32_at(self.bytes, 16)
     }
-    if !is_first_hash_right(bytes) {
-        return Some(EntryEnd::WrongFirstHash);
+
+    /// How many pages it has.
+    pub fn page_count(&self) -> u32
+        ensures { result ≡ page_count self.now }
+    {
+        u32_at(self.bytes, 20)
     }
-    if !is_bins_size_right(bytes) {
-        return Some(EntryEnd::WrongBinsSize);
+
+    #[tactic(auto, using(crate::proofs::Stops::reference_there))]
+    /// Where the page of an index goes.
+    pub fn reference(&self, index: usize) -> PageReference
+        requires { index < page_count self.now }
+        ensures { result ≡ reference_at self.now index }
+    {
+        reference(self.bytes, index)
     }
-    if !are_pages_within(bytes) {
-        return Some(EntryEnd::WrongPage);
+
+    #[tactic(auto, using(crate::proofs::Stops::reference_there, crate::proofs::Stops::bytes_there))]
+    /// The bytes of the page of an index, which begin at a place in the entry: behind the references, or where those of
+    /// the page before end.
+    pub fn page(&self, index: usize, start: usize) -> &'a [u8]
+        requires inside { index < page_count self.now }
+        requires start { start ≡ page_start self.now index }
+        ensures bytes { result.now ≡ page_bytes self.now index }
+        ensures end { start + length result.now ≡ page_start self.now (suc index) }
+    {
+        let size = reference(self.bytes, index).size as usize;
+        first_bytes(bytes_from(self.bytes, start), size)
     }
-    None
-}
 
-#[tactic(auto, unfolding(crate::specs::Entries::has_second_hash))]
-fn is_second_hash_right(bytes: &[u8]) -> bool
-    requires { 512 ≤ length bytes.now }
-    ensures { result ≡ has_second_hash bytes.now }
-{
-    is_hash_at(bytes, 32, marvin32(SEED, first_bytes(bytes, 32)))
-}
-
-#[tactic(auto, unfolding(crate::specs::Entries::has_first_hash))]
-fn is_first_hash_right(bytes: &[u8]) -> bool
-    requires { 512 ≤ length bytes.now }
-    ensures { result ≡ has_first_hash bytes.now }
-{
-    is_hash_at(bytes, 24, marvin32(SEED, bytes_from(bytes, 40)))
-}
-
-// whether a hash stands at an offset, the low half first
-fn is_hash_at(bytes: &[u8], offset: usize, hash: (u32, u32)) -> bool
-    requires { offset + 8 ≤ length bytes.now }
-    ensures { result ≡ same_hash (hash_at offset bytes.now) hash }
-{
-    u32_at(bytes, offset) == hash.0 && u32_at(bytes, offset + 4) == hash.1
-}
-
-#[tactic(auto, unfolding(crate::specs::Entries::has_bins_size))]
-fn is_bins_size_right(bytes: &[u8]) -> bool
-    requires { 512 ≤ length bytes.now }
-    ensures { result ≡ has_bins_size bytes.now }
-{
-    let bins_size = u32_at(bytes, 16);
-    bins_size.is_multiple_of(BIN_BYTES) && bins_size != 0
-}
-
-// the fields of the entry that stands at a place and has these bytes
-fn fields_of(bytes: &[u8], at: usize, size: u32) -> LogEntry
-    requires { 512 ≤ length bytes.now }
-    ensures { result ≡ entry_of at size bytes.now }
-{
-    LogEntry {
-        at,
-        size,
-        number: SequenceNumber(u32_at(bytes, 12)),
-        bins_size: u32_at(bytes, 16),
-        pages: u32_at(bytes, 20),
+    /// Where the bytes of the first page begin.
+    pub fn first_page_at(&self) -> usize
+        ensures { result ≡ page_start self.now 0 }
+    {
+        40 + 8 * self.page_count() as usize
     }
 }

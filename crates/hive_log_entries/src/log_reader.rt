@@ -15,9 +15,9 @@ const _: () = prove!(FIRST_ENTRY_AT == 512);
 
 /// The entries of a log, and how they end.
 #[derive(Drop)]
-pub struct LogEntries {
+pub struct LogEntries<'a> {
     /// The entries, from the first on.
-    pub entries: Vec<LogEntry>,
+    pub entries: Vec<LogEntry<'a>>,
     /// Where they end.
     pub ended_at: usize,
     /// Why they end there.
@@ -26,7 +26,7 @@ pub struct LogEntries {
 
 /// The entries of a log from the first on, as long as each stands and has the number after that of the one before.
 /// What follows is left unread. It fails only for want of memory.
-pub fn entries(alloc: Global, log: &[u8]) -> Result<LogEntries, AllocError>
+pub fn entries(alloc: Global, log: &[u8]) -> Result<LogEntries<'_>, AllocError>
     ensures { IfOk result (λ found. EntriesAre log.now found.entries.items found.ended_at found.end) }
 {
     let mut entries = Vec::new(alloc);
@@ -35,9 +35,9 @@ pub fn entries(alloc: Global, log: &[u8]) -> Result<LogEntries, AllocError>
     'entries: loop {
         match next_entry(log, at, before) {
             Ok(entry) => {
+                at += entry.size();
+                before = Some(entry.number());
                 entries.push(entry)?;
-                at += entry.size as usize;
-                before = Some(entry.number);
             }
             Err(end) => {
                 return Ok(LogEntries {
@@ -52,7 +52,7 @@ pub fn entries(alloc: Global, log: &[u8]) -> Result<LogEntries, AllocError>
 
 #[tactic(auto, unfolding(crate::specs::Logs::next_at))]
 // the entry at a place, if its number follows that of the one before
-fn next_entry(log: &[u8], at: usize, before: Option<SequenceNumber>) -> Result<LogEntry, LogEnd>
+fn next_entry(log: &[u8], at: usize, before: Option<SequenceNumber>) -> Result<LogEntry<'_>, LogEnd>
     ensures reading { result ≡ next_at log.now at before }
     ensures within { IfOk result (IsWithinLog log.now at) }
 {
@@ -61,8 +61,8 @@ fn next_entry(log: &[u8], at: usize, before: Option<SequenceNumber>) -> Result<L
         Err(why) => return Err(LogEnd::NoEntry(why)),
     };
     match before {
-        Some(before) if before.next() != entry.number => Err(LogEnd::OutOfTurn {
-            found: entry.number,
+        Some(before) if before.next() != entry.number() => Err(LogEnd::OutOfTurn {
+            found: entry.number(),
             before,
         }),
         _ => Ok(entry),
