@@ -1,5 +1,5 @@
 //! An entry of a log.
-ghost use Rattle.std.specs.Prelude.{◌≡◌, ◌≤◌, ◌<◌, ◌+◌, suc, length, take, drop, IfOk};
+ghost use Rattle.std.specs.Prelude.{◌≡◌, ◌≤◌, ◌<◌, ◌+◌, ◌^◌, suc, length, take, drop, IfOk};
 ghost use Rattle.hive_log_entries.specs.Pages.{bins_size_of, page_count, reference_at, page_start, page_bytes};
 ghost use Rattle.hive_log_entries.specs.Entries.{entry_at, number_of, IsWithinLog};
 
@@ -95,6 +95,7 @@ impl<'a> LogEntry<'a> {
         requires start { start ≡ page_start self.now index }
         ensures bytes { result.now ≡ page_bytes self.now index }
         ensures end { start + length result.now ≡ page_start self.now (suc index) }
+        ensures fits { start + length result.now < 2 ^ 64 }
     {
         let size = reference(self.bytes, index).size as usize;
         first_bytes(bytes_from(self.bytes, start), size)
