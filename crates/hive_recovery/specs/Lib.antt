@@ -1,1 +1,4 @@
 pub mod Laid
+pub mod Logs
+pub mod Sectors
+pub mod Sequences

@@ -1,6 +1,17 @@
 //! Recovery of a hive that wasn't closed cleanly, from transaction logs of Windows 8.1 and later.
+//!
+//! [`read_log`] reads a log. [`plan`] chooses the entries that are applied, by numbers alone. [`carry_out`] makes the file
+//! that has them. Files and logs are in memory.
 #![tactic(auto)]
 
 mod bins;
 
+mod log;
+
+mod sector;
+mod sequence;
+
 pub use bins::recovered_bins;
+
+pub use log::{Log, LogHead, read_log};
+

@@ -1,0 +1,43 @@
+//! The first sector of a recovered hive.
+ghost use Rattle.std.specs.Prelude.{◌≡◌, ◌≤◌, length};
+ghost use Rattle.base_block.specs.Layout.{put_at};
+ghost use Rattle.byteorder.specs.Endian.{little_bytes};
+ghost use Rattle.hive_recovery.specs.Sectors.{recovered_sector, recovered_body};
+
+use base_block::{SequenceNumber, sum};
+use byteorder::{ByteOrder, LittleEndian};
+
+#[tactic(auto, unfolding(crate::specs::Sectors::recovered_sector))]
+/// A sector as the first of a recovered hive: clean, of the type of a primary file, with a number and a size of bins data.
+/// All else stays.
+pub(crate) fn recovered(sector: &[u8; 512], number: SequenceNumber, bins_size: u32) -> [u8; 512]
+    ensures { result ≡ recovered_sector sector.now number.0 bins_size }
+{
+    let mut made = *sector;
+    put_fields(&mut made, number, bins_size);
+    let mut prefix = [0; 508];
+    prefix.copy_from_slice(&made[..508]);
+    let its_sum = sum(&prefix);
+    put_u32(&mut made, 508, its_sum);
+    made
+}
+
+#[tactic(auto, unfolding(crate::specs::Sectors::recovered_body))]
+// puts the fields that change, but for the sum
+fn put_fields(made: &mut [u8; 512], number: SequenceNumber, bins_size: u32)
+    ensures { made.new ≡ recovered_body made.old number.0 bins_size }
+{
+    put_u32(made, 4, number.0);
+    put_u32(made, 8, number.0);
+    put_u32(made, 28, 0);
+    put_u32(made, 40, bins_size);
+}
+
+#[tactic(auto, unfolding(base_block::specs::Layout::put_at))]
+// writes a number of 32 bits at an offset
+fn put_u32(made: &mut [u8; 512], offset: usize, number: u32)
+    requires { offset ≤ 508 }
+    ensures { made.new ≡ put_at offset (little_bytes 4 number) made.old }
+{
+    LittleEndian::write_u32(&mut made[offset..offset + 4], number);
+}
