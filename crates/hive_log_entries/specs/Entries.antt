@@ -72,3 +72,11 @@ entry_at log at = elim (size_at_front (drop at log)) as (λ _. Result (List ℕ)
 -- an entry that stands at a place is within the log
 abbrev pub IsWithinLog : List ℕ → ℕ → List ℕ → Type 0
 IsWithinLog log at entry = (512 ≤ length entry) × (at + length entry ≤ length log)
+
+-- this entry stands at a place of a log
+abbrev pub EntryAt : List ℕ → ℕ → List ℕ → Type 0
+EntryAt log at entry = entry_at log at ≡ Ok entry
+
+-- no entry stands there: this test is the first that fails
+abbrev pub NoEntryAt : List ℕ → ℕ → EntryEnd → Type 0
+NoEntryAt log at why = entry_at log at ≡ Err why

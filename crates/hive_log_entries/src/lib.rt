@@ -8,6 +8,7 @@
 mod entry;
 mod entry_end;
 mod entry_tests;
+pub mod laws;
 mod log_reader;
 mod pages;
 

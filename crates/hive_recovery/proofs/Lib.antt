@@ -1,2 +1,4 @@
 pub mod Parts
 pub mod Firsts
+pub mod Orders
+pub mod Planned

@@ -2,3 +2,5 @@ pub mod Laid
 pub mod Logs
 pub mod Sectors
 pub mod Sequences
+pub mod Plans
+pub mod Recovered

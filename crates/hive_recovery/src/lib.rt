@@ -5,13 +5,13 @@
 #![tactic(auto)]
 
 mod bins;
-
+mod carrying;
 mod log;
-
+mod planning;
 mod sector;
 mod sequence;
 
 pub use bins::recovered_bins;
-
+pub use carrying::carry_out;
 pub use log::{Log, LogHead, read_log};
-
+pub use planning::{RecoveryPlan, plan};

@@ -1,5 +1,5 @@
 //! A log, as it is read.
-ghost use Rattle.std.specs.Prelude.{◌≡◌, ◌↔◌, IsTrue, IfOk, IfErr};
+ghost use Rattle.std.specs.Prelude.{◌≡◌, IfOk, IfErr, take};
 ghost use Rattle.refusals.specs.declared.refusal.Refusal.TheVariants.{NoMemory};
 ghost use Rattle.hive_recovery.specs.Logs.{log_head, head_of_block, is_blank, is_read_version, HasEntries};
 
@@ -97,8 +97,17 @@ fn head_of(bytes: &[u8]) -> LogHead
 fn is_zeros(bytes: &[u8]) -> bool
     ensures { result ≡ is_blank bytes.now }
 {
-    let count = bytes.len().min(SECTOR_BYTES);
-    bytes[..count].iter().all(|byte| *byte == 0)
+    front(bytes).iter().all(|byte| *byte == 0)
+}
+
+// the first sector, or what there is of it
+fn front(bytes: &[u8]) -> &[u8]
+    ensures { result.now ≡ take 512 bytes.now }
+{
+    if bytes.len() < SECTOR_BYTES {
+        return bytes;
+    }
+    &bytes[..SECTOR_BYTES]
 }
 
 // what the block of a log says

@@ -1,5 +1,5 @@
 //! The first sector of a recovered hive.
-ghost use Rattle.std.specs.Prelude.{◌≡◌, ◌≤◌, length};
+ghost use Rattle.std.specs.Prelude.{◌≡◌, ◌≤◌, take};
 ghost use Rattle.base_block.specs.Layout.{put_at};
 ghost use Rattle.byteorder.specs.Endian.{little_bytes};
 ghost use Rattle.hive_recovery.specs.Sectors.{recovered_sector, recovered_body};
@@ -15,11 +15,18 @@ pub(crate) fn recovered(sector: &[u8; 512], number: SequenceNumber, bins_size: u
 {
     let mut made = *sector;
     put_fields(&mut made, number, bins_size);
-    let mut prefix = [0; 508];
-    prefix.copy_from_slice(&made[..508]);
-    let its_sum = sum(&prefix);
+    let its_sum = sum(&summed(&made));
     put_u32(&mut made, 508, its_sum);
     made
+}
+
+// the bytes that are summed
+fn summed(made: &[u8; 512]) -> [u8; 508]
+    ensures { result ≡ take 508 made.now }
+{
+    let mut bytes = [0; 508];
+    bytes.copy_from_slice(&made[..508]);
+    bytes
 }
 
 #[tactic(auto, unfolding(crate::specs::Sectors::recovered_body))]

@@ -1,0 +1,220 @@
+//! Which entries are applied.
+ghost use Rattle.std.specs.Prelude.{◌≡◌, ◌⊎◌, ◌<◌, ◌≤◌, ◌-◌, [], slice_index_or, Ok, Err, None, length, take, IfOk, IfErr, IfSome, IfNone, option_map};
+ghost use Rattle.refusals.specs.declared.refusal.Refusal.TheVariants.{NoMemory};
+ghost use Rattle.base_block.specs.Judgements.{IsPrimary};
+ghost use Rattle.base_block.specs.Layout.{block_at};
+ghost use Rattle.hive_recovery.specs.declared.log.Log.{Log};
+ghost use Rattle.hive_recovery.specs.Plans.{seen, is_torn_block, plan_of, plan_by_block, replayed, torn_plan, unclean_plan, newest_of, is_newer, no_log, log_replayed, NothingChosen, IsPlanRefused};
+
+use crate::log::Log;
+use crate::sector::recovered;
+use crate::sequence::{append, is_below, number_after, sequence_from};
+use base_block::{BaseBlock, SequenceNumber, Signature};
+use hive_log_entries::LogEntry;
+use refusals::{Cause, Refusal};
+use std::alloc::Global;
+
+/// What the recovered hive is made of.
+#[derive(Drop)]
+pub struct RecoveryPlan<'a> {
+    /// Its first sector.
+    pub sector: [u8; 512],
+    /// The entries that are applied, one after the other; none if the hive is clean.
+    pub entries: Vec<LogEntry<'a>>,
+    /// Its bytes of bins data.
+    pub bins_size: u32,
+}
+
+/// Chooses the entries that are applied to a hive's file.
+///
+/// Refused with `HiveDamaged` of hive 0: `Truncated` if the file has no first sector; `BadLog` if no log fits; `BadBase` if none
+/// does and the file doesn't begin with `regf`. Refused as a primary file's base block is if the file's own isn't torn, or if
+/// that of the recovered hive is refused. Otherwise refused for want of memory alone.
+pub fn plan<'a>(alloc: Global, file: &[u8], logs: &[Log<'a>]) -> Result<RecoveryPlan<'a>, Refusal>
+    ensures chosen { IfOk result (λ plan. plan_of file.now logs.now ≡ Ok (seen plan)) }
+    ensures judged { IfOk result (λ plan. IsPrimary (block_at plan.sector)) }
+    ensures refused { IfErr result (IsPlanRefused file.now logs.now) }
+{
+    let chosen = match choose(alloc, file, logs) {
+        Ok(chosen) => chosen,
+        Err(why) => return Err(why),
+    };
+    match BaseBlock::read(&chosen.sector).judge_primary() {
+        Ok(()) => Ok(chosen),
+        Err(why) => Err(why),
+    }
+}
+
+#[tactic(auto, unfolding(crate::specs::Plans::plan_of))]
+// chooses, and leaves the new base block unjudged
+fn choose<'a>(alloc: Global, file: &[u8], logs: &[Log<'a>]) -> Result<RecoveryPlan<'a>, Refusal>
+    ensures chosen { IfOk result (λ plan. plan_of file.now logs.now ≡ Ok (seen plan)) }
+    ensures refused { IfErr result (NothingChosen file.now logs.now) }
+{
+    let Some(sector) = first_sector(file) else {
+        return Err(Refusal::from(Cause::Truncated));
+    };
+    let block = BaseBlock::read(&sector);
+    if !is_torn(&block) {
+        match block.judge_primary() {
+            Ok(()) => {}
+            Err(why) => return Err(why),
+        }
+    }
+    choose_by_block(alloc, sector, &block, logs)
+}
+
+#[tactic(auto, unfolding(crate::specs::Plans::plan_by_block))]
+// chooses by the block of the first sector
+fn choose_by_block<'a>(
+    alloc: Global,
+    sector: [u8; 512],
+    block: &BaseBlock,
+    logs: &[Log<'a>],
+) -> Result<RecoveryPlan<'a>, Refusal>
+    ensures chosen { IfOk result (λ plan. plan_by_block sector block.now logs.now ≡ Ok (seen plan)) }
+    ensures refused { IfErr result (λ why. (why ≡ NoMemory) ⊎ (plan_by_block sector block.now logs.now ≡ Err why)) }
+{
+    if is_torn(block) {
+        return choose_newest(alloc, block, logs);
+    }
+    if block.is_clean() {
+        return Ok(RecoveryPlan {
+            sector,
+            entries: Vec::new(alloc),
+            bins_size: block.bins_size,
+        });
+    }
+    choose_in_sequence(alloc, &sector, block.secondary, logs)
+}
+
+// whether a block is torn
+fn is_torn(block: &BaseBlock) -> bool
+    ensures { result ≡ is_torn_block block.now }
+{
+    !(block.signature == Signature::REGF && block.sum_is_right)
+}
+
+// the first sector of a file
+fn first_sector(file: &[u8]) -> Option<[u8; 512]>
+    ensures some { IfSome result (λ sector. (sector ≡ take 512 file.now) × (512 ≤ length file.now)) }
+    ensures none { IfNone result (length file.now < 512) }
+{
+    if file.len() < 512 {
+        return None;
+    }
+    let mut sector = [0; 512];
+    sector.copy_from_slice(&file[..512]);
+    Some(sector)
+}
+
+#[tactic(auto, unfolding(crate::specs::Plans::unclean_plan))]
+// the entries from a number on
+fn choose_in_sequence<'a>(
+    alloc: Global,
+    sector: &[u8; 512],
+    from: SequenceNumber,
+    logs: &[Log<'a>],
+) -> Result<RecoveryPlan<'a>, Refusal>
+    ensures chosen { IfOk result (λ plan. unclean_plan sector.now from.0 logs.now ≡ Ok (seen plan)) }
+    ensures refused { IfErr result (λ why. (why ≡ NoMemory) ⊎ (unclean_plan sector.now from.0 logs.now ≡ Err why)) }
+{
+    let entries = sequence_from(alloc, logs, from)?;
+    replay(sector, entries)
+}
+
+#[tactic(auto, unfolding(crate::specs::Plans::torn_plan))]
+// all entries of the newest log
+fn choose_newest<'a>(
+    alloc: Global,
+    block: &BaseBlock,
+    logs: &[Log<'a>],
+) -> Result<RecoveryPlan<'a>, Refusal>
+    ensures chosen { IfOk result (λ plan. torn_plan block.now logs.now ≡ Ok (seen plan)) }
+    ensures refused { IfErr result (λ why. (why ≡ NoMemory) ⊎ (torn_plan block.now logs.now ≡ Err why)) }
+{
+    match newest(logs) {
+        Some(log) => choose_log(alloc, log),
+        None => Err(why_no_log(block)),
+    }
+}
+
+// why nothing is chosen if no log fits a torn block
+fn why_no_log(block: &BaseBlock) -> Refusal
+    ensures { result ≡ no_log block.now }
+{
+    if block.signature == Signature::REGF {
+        Refusal::from(Cause::BadLog)
+    } else {
+        Refusal::from(Cause::BadBase)
+    }
+}
+
+// all entries of a log
+fn choose_log<'a>(alloc: Global, log: &Log<'a>) -> Result<RecoveryPlan<'a>, Refusal>
+    ensures chosen { IfOk result (λ plan. log_replayed log.now ≡ Ok (seen plan)) }
+    ensures refused { IfErr result (λ why. (why ≡ NoMemory) ⊎ (log_replayed log.now ≡ Err why)) }
+{
+    let Some(sector) = first_sector(log.bytes) else {
+        return Err(Refusal::from(Cause::BadLog));
+    };
+    let mut entries = Vec::new(alloc);
+    append(&mut entries, &log.entries)?;
+    replay(&sector, entries)
+}
+
+// the log whose last entry has the greatest number
+fn newest<'l, 'a>(logs: &'l [Log<'a>]) -> Option<&'l Log<'a>>
+    ensures { option_map (λ log. log.now) result ≡ newest_of None logs.now }
+{
+    let mut best = None;
+    'logs: for index in 0..logs.len() {
+        let log = &logs[index];
+        if is_ahead(best, log) {
+            best = Some(log);
+        }
+    }
+    best
+}
+
+// whether a log is newer than the newest before it
+fn is_ahead(best: Option<&Log<'_>>, log: &Log<'_>) -> bool
+    ensures { result ≡ is_newer (option_map (λ other. other.now) best.entry) log.now }
+{
+    if log.entries.is_empty() {
+        return false;
+    }
+    let zero = SequenceNumber(0);
+    match best {
+        None => true,
+        Some(best) => is_below(number_after(&best.entries, zero), number_after(&log.entries, zero)),
+    }
+}
+
+#[tactic(auto, unfolding(crate::specs::Plans::replayed))]
+// entries over a hive with a first sector
+fn replay<'a>(sector: &[u8; 512], entries: Vec<LogEntry<'a>>) -> Result<RecoveryPlan<'a>, Refusal>
+    ensures chosen { IfOk result (λ plan. replayed sector.now entries.entry.items ≡ Ok (seen plan)) }
+    ensures refused { IfErr result (λ why. replayed sector.now entries.entry.items ≡ Err why) }
+{
+    if entries.is_empty() {
+        return Err(Refusal::from(Cause::BadLog));
+    }
+    let last = last_of(&entries);
+    let number = last.number();
+    let bins_size = last.bins_size();
+    Ok(RecoveryPlan {
+        sector: recovered(sector, number, bins_size),
+        entries,
+        bins_size,
+    })
+}
+
+#[tactic(auto, using(crate::proofs::Planned::any_default))]
+// the last entry
+fn last_of<'l, 'a>(entries: &'l [LogEntry<'a>]) -> &'l LogEntry<'a>
+    requires { 0 < length entries.now }
+    ensures { result.now ≡ slice_index_or entries.now (length entries.now - 1) [] }
+{
+    &entries[entries.len() - 1]
+}
