@@ -76,9 +76,9 @@ fn run<R: Print + Eprint + Files + Env + AllocGlobal>(rt: &R) -> Result<(), Faul
     }
     let words: Vec<&str> = given.iter().map(|word| word.as_str()).collect(alloc)?;
     match words.as_slice() {
-        ["hash", low, high, runs @ ..] => hash(rt, (number(low)?, number(high)?), runs),
-        ["entries", file] => tell_entries(rt, file),
-        ["recover", hive, out, logs @ ..] => recover(rt, hive, out, logs),
+        [_, "hash", low, high, runs @ ..] => hash(rt, (number(low)?, number(high)?), runs),
+        [_, "entries", file] => tell_entries(rt, file),
+        [_, "recover", hive, out, logs @ ..] => recover(rt, hive, out, logs),
         _ => Err(Fault::NotUnderstood),
     }
 }
