@@ -47,7 +47,7 @@ class Test:
 
     @property
     def programs(self):
-        return [name for name in ("regtx", "calls", "trials", "regtx_bench", "library") if f"${name}" in self.command]
+        return [name for name in ("regtx", "calls", "trials", "regtx_bench", "recoveries", "library") if f"${name}" in self.command]
 
 
 TESTS = [
@@ -75,6 +75,7 @@ TESTS = [
     Test("progress", "tests/progress.py $regtx", 25),
     Test("broker", "tests/broker.py", 20),
     Test("values", "tests/values.py $regtx", 20),
+    Test("log_machines", "tests/log_machines.py $recoveries", 20),
     Test("retries", "$trials retries && tools/failalloc.py each $trials retries", 5),
     Test("checks", "tests/checks.py $regtx", 12),
     Test("python_client", "tests/python_client.py $regtx", 10),
@@ -86,6 +87,7 @@ TESTS = [
     Test("looks", "tests/looks.py $trials", 6),
     Test("reads", "$trials reads", 4),
     Test("style", "tests/style.py", 4),
+    Test("hashes", "tests/hashes.py $recoveries", 3),
     Test("hints", "tests/hints.py $regtx", 3),
     Test("words", "tests/words $regtx", 3),
     Test("sweeps", "tests/sweeps.py $regtx", 3),

@@ -200,7 +200,28 @@ def spoiled(runs):
             yield from up_to(runs, machine, f"without {at}", [machine.log(left)], at) if at else []
     # the first is missing: what follows begins later
     yield runs.is_refused("without 0", machine.primary(0, 0), [machine.log(entries[1:])], BAD_LOG)
+    yield from told(runs, machine)
     yield from cut(runs, machine, log, begins)
+
+
+def told(runs, machine):
+    """What is told of logs, with the number that one lacks."""
+    first, second, third = machine.entries
+    ends = [f"{places(part)[-1]:x}" for part in ([first], [second], [third], [second, third])]
+    cases = [
+        ("a number is missing", 0, [[second, third]], [f"entries 101 to 102, then no letters at 0x{ends[3]}, 100 is missing"], BAD_LOG),
+        ("a gap", 0, [[first], [third]], [f"entries 100 to 100, then no letters at 0x{ends[0]}",
+                                          f"entries 102 to 102, then no letters at 0x{ends[2]}, 101 is missing"], "recovered 100"),
+        ("older entries", 2, [[third], [first]], [f"entries 102 to 102, then no letters at 0x{ends[2]}",
+                                                  f"entries 100 to 100, then no letters at 0x{ends[0]}"], "recovered 102"),
+        ("a log twice", 2, [[third], [third]], [f"entries 102 to 102, then no letters at 0x{ends[2]}"] * 2, "recovered 102"),
+        ("no entries", 0, [[first], []], [f"entries 100 to 100, then no letters at 0x{ends[0]}", "no letters at 0x200"], "recovered 100"),
+    ]
+    for title, kept, parts, lines, last in cases:
+        found, _ = runs.recover(machine.primary(kept, kept), *map(machine.log, parts))
+        yield expect(title, found, [f"log {at}: {line}" for at, line in enumerate(lines, 1)] + [last])
+    clean = block(5, 5, len(machine.states[0])) + machine.rest + machine.states[0]
+    yield expect("clean", runs.recover(clean)[0], ["clean 5"])
 
 
 def cut(runs, machine, log, begins):

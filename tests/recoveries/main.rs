@@ -9,8 +9,8 @@
 //! The status is 0 if all came as it should, 1 if a hive was refused, and 2 if a word or a file isn't understood.
 #![tactic(auto)]
 
-use hive_log_entries::{EntryEnd, LogEnd};
-use hive_recovery::{Log, LogHead, carry_out, plan, read_log};
+use base_block::{BaseBlock, SequenceNumber};
+use hive_recovery::{Log, carry_out, missing_number, plan, read_log};
 use marvin32::marvin32;
 use refusals::Refusal;
 use std::alloc::{AllocError, AllocFailed, Global};
@@ -114,49 +114,11 @@ fn tell_entries<R: Print + Files + AllocGlobal>(rt: &R, file: &str) -> Result<()
         let pages = entry.page_count();
         println!(rt; "{number} {size} {bins_size} {pages}")?;
     }
-    tell_end(rt, &log)
-}
-
-// prints how the entries of a log end
-fn tell_end<R: Print>(rt: &R, log: &Log<'_>) -> Result<(), Fault> {
-    let at = log.ended_at;
-    match log.head {
-        LogHead::Empty => println!(rt; "empty")?,
-        LogHead::NoLetters => println!(rt; "no log: letters")?,
-        LogHead::WrongSum => println!(rt; "no log: sum")?,
-        LogHead::OtherType(kind) => {
-            let kind = kind.0;
-            println!(rt; "no log: type {kind}")?;
-        }
-        LogHead::OtherVersion => println!(rt; "no log: version")?,
-        LogHead::Entries => match log.end {
-            LogEnd::OutOfTurn { found, before } => {
-                let one = found.0;
-                let other = before.0;
-                println!(rt; "number {one} after {other} at 0x{at:x}")?;
-            }
-            LogEnd::NoEntry(why) => {
-                let text = text_of(why);
-                println!(rt; "{text} at 0x{at:x}")?;
-            }
-        },
-    }
+    println!(rt; "{}", log.ending())?;
     Ok(())
 }
 
-fn text_of(why: EntryEnd) -> &'static str {
-    match why {
-        EntryEnd::NoLetters => "no letters",
-        EntryEnd::WrongSize => "wrong size",
-        EntryEnd::Cut => "is cut",
-        EntryEnd::WrongSecondHash => "hash-2 is wrong",
-        EntryEnd::WrongFirstHash => "hash-1 is wrong",
-        EntryEnd::WrongBinsSize => "wrong bins size",
-        EntryEnd::WrongPage => "wrong page",
-    }
-}
-
-// recovers a hive by logs
+// recovers a hive by logs, and tells how each ended
 fn recover<R: Print + Files + AllocGlobal>(
     rt: &R,
     hive: &str,
@@ -173,22 +135,46 @@ fn recover<R: Print + Files + AllocGlobal>(
     for bytes in &contents {
         logs.push(read_log(alloc, bytes)?)?;
     }
-    for log in &logs {
-        tell_end(rt, log)?;
+    let planned = plan(alloc, &file, &logs);
+    let from = match BaseBlock::read_first(&file) {
+        Some(block) => block.secondary,
+        None => SequenceNumber(0),
+    };
+    let next = match &planned {
+        Ok(chosen) => match chosen.entries.last() {
+            Some(last) => last.number().next(),
+            None => from,
+        },
+        Err(_) => from,
+    };
+    for (index, log) in logs.iter().enumerate() {
+        tell_log(rt, index + 1, log, missing_number(log, from, next))?;
     }
-    let chosen = plan(alloc, &file, &logs)?;
+    let chosen = planned?;
     let bytes = carry_out(alloc, &file, &chosen)?;
     fs::write(rt, out, &bytes)?;
     match chosen.entries.last() {
-        None => println!(rt; "clean")?,
-        Some(last) => {
-            let first = match chosen.entries.first() {
-                Some(first) => first.number().0,
-                None => 0,
-            };
-            let last = last.number().0;
-            println!(rt; "applied {first} to {last}")?;
-        }
+        None => println!(rt; "clean {}", from.0)?,
+        Some(last) => println!(rt; "recovered {}", last.number().0)?,
+    }
+    Ok(())
+}
+
+// prints a log's line
+fn tell_log<R: Print>(
+    rt: &R,
+    number: usize,
+    log: &Log<'_>,
+    missing: Option<SequenceNumber>,
+) -> Result<(), Fault> {
+    print!(rt; "log {number}: ")?;
+    if let (Some(first), Some(last)) = (log.entries.first(), log.entries.last()) {
+        print!(rt; "entries {} to {}, then ", first.number().0, last.number().0)?;
+    }
+    print!(rt; "{}", log.ending())?;
+    match missing {
+        Some(lacking) => println!(rt; ", {} is missing", lacking.0)?,
+        None => println!(rt; "")?,
     }
     Ok(())
 }

@@ -2,3 +2,5 @@ pub mod Parts
 pub mod Firsts
 pub mod Orders
 pub mod Planned
+pub mod States
+pub mod Swapped

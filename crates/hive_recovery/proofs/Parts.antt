@@ -4,13 +4,13 @@ use Rattle.std.proofs.lemmas.Bool.{cases_lt, lt-ltb, le-ltb}
 use Rattle.hive_recovery.specs.Laid.{part_laid, overlaid, HoldsImage}
 
 -- before the offset, in the part, and behind it
-part_before : (image : ℕ → Option ℕ) (offset count : ℕ) (bytes : List ℕ) (place : ℕ) → place < offset → part_laid image offset count bytes place ≡ image place
+pub part_before : (image : ℕ → Option ℕ) (offset count : ℕ) (bytes : List ℕ) (place : ℕ) → place < offset → part_laid image offset count bytes place ≡ image place
 part_before image offset count bytes place less = rw (lt-ltb place offset less) refl
 
-part_within : (image : ℕ → Option ℕ) (offset count : ℕ) (bytes : List ℕ) (place : ℕ) → offset ≤ place → place < offset + count → part_laid image offset count bytes place ≡ Some (slice_index bytes (place - offset))
+pub part_within : (image : ℕ → Option ℕ) (offset count : ℕ) (bytes : List ℕ) (place : ℕ) → offset ≤ place → place < offset + count → part_laid image offset count bytes place ≡ Some (slice_index bytes (place - offset))
 part_within image offset count bytes place least less = rw (le-ltb place offset least) (rw (lt-ltb place (offset + count) less) refl)
 
-part_behind : (image : ℕ → Option ℕ) (offset count : ℕ) (bytes : List ℕ) (place : ℕ) → offset ≤ place → offset + count ≤ place → part_laid image offset count bytes place ≡ image place
+pub part_behind : (image : ℕ → Option ℕ) (offset count : ℕ) (bytes : List ℕ) (place : ℕ) → offset ≤ place → offset + count ≤ place → part_laid image offset count bytes place ≡ image place
 part_behind image offset count bytes place least past = rw (le-ltb place offset least) (rw (le-ltb place (offset + count) past) refl)
 
 -- another number of bytes changes no place outside of both parts, and none inside of both

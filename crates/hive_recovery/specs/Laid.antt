@@ -1,5 +1,5 @@
 -- What bins data are after the pages of entries were laid over them. An image gives the byte at each place, or none.
-use Rattle.std.specs.Prelude.{◌≡◌, ◌<◌, ℕ, zero, suc, ◌+◌, ◌-◌, nat_lt, if◌then◌else◌, List, [], ◌∷◌, ◌++◌, length, slice_index, slice_index_or, slice_get, Option, Some, None, fold}
+use Rattle.std.specs.Prelude.{◌≡◌, ◌⊎◌, ◌<◌, ℕ, zero, suc, ◌+◌, ◌-◌, nat_lt, if◌then◌else◌, List, [], ◌∷◌, ◌++◌, length, slice_index, slice_index_or, slice_get, Option, Some, None, fold}
 use Rattle.refusals.specs.declared.refusal.Refusal.{Refusal}
 use Rattle.refusals.specs.declared.refusal.Refusal.TheVariants.{HiveDamaged}
 use Rattle.refusals.specs.declared.refusal.Cause.TheVariants.{BadLog}
@@ -50,3 +50,8 @@ HoldsImage cells image = (place : ℕ) → place < length cells → slice_index_
 -- the refusal of logs that leave a byte out
 abbrev pub lacks_bytes : Refusal
 lacks_bytes = HiveDamaged 0 BadLog
+
+-- a byte is one of those that a place has before entries, between two of them, or behind them
+abbrev pub IsByteOfState : (ℕ → Option ℕ) → List (List ℕ) → ℕ → Option ℕ → Type 0
+IsByteOfState image [] place byte = byte ≡ image place
+IsByteOfState image (entry ∷ rest) place byte = (byte ≡ image place) ⊎ IsByteOfState (entry_laid image entry) rest place byte

@@ -4,3 +4,4 @@ pub mod Sectors
 pub mod Sequences
 pub mod Plans
 pub mod Recovered
+pub mod Endings

@@ -6,8 +6,10 @@
 
 mod bins;
 mod carrying;
+pub mod laws;
 mod log;
 mod planning;
+mod report;
 mod sector;
 mod sequence;
 
@@ -15,3 +17,5 @@ pub use bins::recovered_bins;
 pub use carrying::carry_out;
 pub use log::{Log, LogHead, read_log};
 pub use planning::{RecoveryPlan, plan};
+pub use report::LogEnding;
+pub use sequence::missing_number;

@@ -1,6 +1,6 @@
 //! Entries in the order of their numbers.
-ghost use Rattle.std.specs.Prelude.{◌≡◌, ◌++◌, List, ℕ, length, map, IfOk, OnOk};
-ghost use Rattle.hive_recovery.specs.Sequences.{is_older, left_from, begins, number_behind, first_with, in_sequence, entries_of};
+ghost use Rattle.std.specs.Prelude.{◌≡◌, ◌++◌, List, ℕ, length, map, option_map, IfOk, OnOk};
+ghost use Rattle.hive_recovery.specs.Sequences.{is_older, left_from, begins, number_behind, first_with, in_sequence, entries_of, missing_of};
 
 use crate::log::Log;
 use base_block::SequenceNumber;
@@ -94,4 +94,20 @@ pub(crate) fn append<'a>(
         entries.push(entry.again())?;
     }
     Ok(())
+}
+
+/// The number for want of which a log isn't gone on with: the next number behind what is applied, if all that the log has from
+/// the old number on is behind that.
+pub fn missing_number(
+    log: &Log<'_>,
+    from: SequenceNumber,
+    next: SequenceNumber,
+) -> Option<SequenceNumber>
+    ensures { option_map (λ number. number.0) result ≡ missing_of next.0 (left_from from.0 (entries_of log.now)) }
+{
+    let left = entries_left(&log.entries, from);
+    if left.is_empty() || !is_below(next, left[0].number()) {
+        return None;
+    }
+    Some(next)
 }
