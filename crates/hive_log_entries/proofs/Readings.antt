@@ -1,26 +1,26 @@
 -- A log is read one way.
-use Rattle.std.proofs.Common.{◌≡◌, ◌⊎◌, ℕ, ◌+◌, List, [], ◌∷◌, length, Option, Some, None, Result, Ok, Err, refl, sym, ◌∙◌, ap, inl, inr, subst}
+use Rattle.std.proofs.Common.{◌≡◌, ◌⊎◌, ℕ, ◌+◌, List, [], ◌∷◌, length, Option, Some, Result, Ok, Err, refl, sym, ◌∙◌, ap, inl, inr, subst}
 use Rattle.base_block.specs.declared.fields.SequenceNumber.{SequenceNumber}
 use Rattle.hive_log_entries.specs.Entries.{EntryAt, NoEntryAt, entry_at, number_of}
-use Rattle.hive_log_entries.specs.Logs.{EntriesFrom, EntriesAre, next_at}
+use Rattle.hive_log_entries.specs.Logs.{EntriesFrom, next_at}
 use Rattle.hive_log_entries.specs.declared.entry_end.EntryEnd.{EntryEnd}
 use Rattle.hive_log_entries.specs.declared.entry_end.LogEnd.{LogEnd}
 
 -- an answer is one of the two
-ok_or_err : {T E : Type 0} (answer : Result T E) → ((x : T) × (answer ≡ Ok x)) ⊎ ((why : E) × (answer ≡ Err why))
+pub ok_or_err : {T E : Type 0} (answer : Result T E) → ((x : T) × (answer ≡ Ok x)) ⊎ ((why : E) × (answer ≡ Err why))
 ok_or_err (Ok x) = inl (x, refl)
 ok_or_err (Err why) = inr (why, refl)
 
 pub some_reading : (log : List ℕ) (at : ℕ) → ((entry : List ℕ) × EntryAt log at entry) ⊎ ((why : EntryEnd) × NoEntryAt log at why)
 some_reading log at = ok_or_err (entry_at log at)
 
-same_ok : {T E : Type 0} (answer : Result T E) (x y : T) → answer ≡ Ok x → answer ≡ Ok y → x ≡ y
+pub same_ok : {T E : Type 0} (answer : Result T E) (x y : T) → answer ≡ Ok x → answer ≡ Ok y → x ≡ y
 same_ok answer x y one other = cc
 
 same_err : {T E : Type 0} (answer : Result T E) (x y : E) → answer ≡ Err x → answer ≡ Err y → x ≡ y
 same_err answer x y one other = cc
 
-not_both : {T E : Type 0} (answer : Result T E) (x : T) (y : E) → answer ≡ Ok x → answer ≡ Err y → ⊥
+pub not_both : {T E : Type 0} (answer : Result T E) (x : T) (y : E) → answer ≡ Ok x → answer ≡ Err y → ⊥
 not_both answer x y one other = cc
 
 pub one_entry : (log : List ℕ) (at : ℕ) (entry other : List ℕ) → EntryAt log at entry → EntryAt log at other → entry ≡ other

@@ -1,5 +1,5 @@
 -- Pages stand exactly if each of them does.
-use Rattle.std.proofs.Common.{◌≡◌, ◌≤◌, ◌<◌, ℕ, zero, suc, ◌+◌, ◌*◌, ◌∙◌, Bool, true, false, ◌&&◌, nat_le, List, length, refl, subst, sym, inl, inr, arith}
+use Rattle.std.proofs.Common.{◌≡◌, ◌≤◌, ◌<◌, ℕ, zero, suc, ◌+◌, ◌*◌, ◌∙◌, Bool, true, false, ◌&&◌, List, length, refl, subst, sym, inl, inr, arith}
 use Rattle.std.proofs.lemmas.Bool.{cases_lt, true≢false, false≢true, true_from_ne_false, leb-true}
 use Rattle.hive_log_entries.specs.Pages.{page_stands, pages_stand, page_count, page_start, has_pages}
 
@@ -15,8 +15,8 @@ pub pages_stop : (bytes : List ℕ) (n index : ℕ) → index < n → page_stand
 pages_stop bytes zero index lt e = absurd (omega (arith, lt))
 pages_stop bytes (suc n) index lt e =
     elim (cases_lt index n) [
-      inl less ↦ no_and _ _ (pages_stop bytes n index less e)
-    | inr least ↦ let same : index ≡ n = omega (arith, lt, least) in and_no _ _ (subst (λ k. page_stands bytes k ≡ false) same e)
+      | inl less ↦ no_and _ _ (pages_stop bytes n index less e)
+      | inr least ↦ let same : index ≡ n = omega (arith, lt, least) in and_no _ _ (subst (λ k. page_stands bytes k ≡ false) same e)
     ]
 
 pub has_pages_stops : (bytes : List ℕ) (index : ℕ) → index < page_count bytes → page_stands bytes index ≡ false → has_pages bytes ≡ false

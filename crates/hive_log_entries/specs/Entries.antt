@@ -65,9 +65,14 @@ number_of bytes = record { 0 = number_at 12 4 bytes }
 abbrev pub judged_entry : List ℕ → Result (List ℕ) EntryEnd
 judged_entry bytes = elim (fault_of bytes) as (λ _. Result (List ℕ) EntryEnd) [ None ↦ Ok bytes | Some why ↦ Err why ]
 
+-- the entry that these bytes begin with, if it has a size
+abbrev pub first_entry : Result ℕ EntryEnd → List ℕ → Result (List ℕ) EntryEnd
+first_entry (Err why) bytes = Err why
+first_entry (Ok size) bytes = judged_entry (take size bytes)
+
 -- the bytes of the entry that stands at a place of a log, or the first test that fails there
 unfoldable pub entry_at : List ℕ → ℕ → Result (List ℕ) EntryEnd
-entry_at log at = elim (size_at_front (drop at log)) as (λ _. Result (List ℕ) EntryEnd) [ Err why ↦ Err why | Ok size ↦ judged_entry (take size (drop at log)) ]
+entry_at log at = first_entry (size_at_front (drop at log)) (drop at log)
 
 -- an entry that stands at a place is within the log
 abbrev pub IsWithinLog : List ℕ → ℕ → List ℕ → Type 0

@@ -12,9 +12,14 @@ abbrev pub in_turn : Option SequenceNumber → List ℕ → Result (List ℕ) Lo
 in_turn None entry = Ok entry
 in_turn (Some before) entry = if number_after before.0 == (number_of entry).0 then Ok entry else Err (OutOfTurn (number_of entry) before)
 
+-- the same of what stands at a place
+abbrev pub next_in : Option SequenceNumber → Result (List ℕ) EntryEnd → Result (List ℕ) LogEnd
+next_in before (Err why) = Err (NoEntry why)
+next_in before (Ok entry) = in_turn before entry
+
 -- the entry at a place that follows the one of a number, or why none does
 unfoldable pub next_at : List ℕ → ℕ → Option SequenceNumber → Result (List ℕ) LogEnd
-next_at log at before = elim (entry_at log at) as (λ _. Result (List ℕ) LogEnd) [ Err why ↦ Err (NoEntry why) | Ok entry ↦ in_turn before entry ]
+next_at log at before = next_in before (entry_at log at)
 
 -- these entries stand from a place on, one behind the other, each in turn; and at their end there is none, for this cause
 abbrev pub EntriesFrom : List ℕ → ℕ → Option SequenceNumber → List (List ℕ) → ℕ → LogEnd → Type 0

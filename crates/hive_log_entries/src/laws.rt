@@ -1,5 +1,5 @@
 //! What the definitions say, as contracts of functions without effect.
-ghost use Rattle.std.specs.Prelude.{◌≡◌, ◌⊎◌, List, ℕ};
+ghost use Rattle.std.specs.Prelude.{◌≡◌, ◌⊎◌, ◌++◌, List, ℕ};
 ghost use Rattle.hive_log_entries.specs.Entries.{EntryAt, NoEntryAt};
 ghost use Rattle.hive_log_entries.specs.Logs.{EntriesAre};
 ghost use Rattle.hive_log_entries.specs.declared.entry_end.EntryEnd.{EntryEnd};
@@ -22,4 +22,12 @@ pub fn entries_have_one_reading()
     ensures { (log : List ℕ) (entries others : List (List ℕ)) (ended_at other_at : ℕ) (end other : LogEnd) →
         EntriesAre log entries ended_at end → EntriesAre log others other_at other →
         (entries ≡ others) × (ended_at ≡ other_at) × (end ≡ other) }
+{}
+
+/// A log behind which more bytes stand has the entries that it had, and perhaps more. So the entries of a log that is cut are
+/// the first of those of the whole log, and what follows the last entry that stands takes none away.
+pub fn cut_logs_keep_first_entries()
+    ensures { (log more : List ℕ) (entries others : List (List ℕ)) (ended_at other_at : ℕ) (end other : LogEnd) →
+        EntriesAre log entries ended_at end → EntriesAre (log ++ more) others other_at other →
+        (rest : List (List ℕ)) × (others ≡ entries ++ rest) }
 {}

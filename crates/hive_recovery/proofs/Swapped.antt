@@ -1,5 +1,5 @@
 -- Logs that change places.
-use Rattle.std.proofs.Common.{◌≡◌, ℕ, zero, suc, ◌+◌, Bool, true, false, if◌then◌else◌, List, [], ◌∷◌, ◌++◌, length, map, refl, sym, ◌∙◌, ap, arith, length-append}
+use Rattle.std.proofs.Common.{◌≡◌, ℕ, zero, suc, Bool, true, false, if◌then◌else◌, List, [], ◌∷◌, ◌++◌, length, map, refl, ◌∙◌, ap}
 use Rattle.std.proofs.lemmas.Bool.{true≢false}
 use Rattle.hive_recovery.specs.Plans.{unclean_plan, replayed}
 use Rattle.hive_recovery.specs.Sequences.{begins, left_from, first_with, in_sequence, number_behind, entries_of, BeginApart}

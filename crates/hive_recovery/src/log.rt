@@ -3,7 +3,9 @@ ghost use Rattle.std.specs.Prelude.{◌≡◌, IfOk, IfErr, take};
 ghost use Rattle.refusals.specs.declared.refusal.Refusal.TheVariants.{NoMemory};
 ghost use Rattle.hive_recovery.specs.Logs.{log_head, head_of_block, is_blank, is_read_version, HasEntries};
 
-use base_block::{BaseBlock, FILE_FORMAT, FileType, MAJOR_VERSION, MINOR_VERSION, OLDEST_MINOR_VERSION, Signature};
+use base_block::{
+    BaseBlock, FILE_FORMAT, FileType, MAJOR_VERSION, MINOR_VERSION, OLDEST_MINOR_VERSION, Signature,
+};
 use hive_log_entries::{EntryEnd, LogEnd, LogEntry, entries};
 use refusals::Refusal;
 use std::alloc::Global;

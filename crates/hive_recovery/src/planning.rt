@@ -187,7 +187,10 @@ fn is_ahead(best: Option<&Log<'_>>, log: &Log<'_>) -> bool
     let zero = SequenceNumber(0);
     match best {
         None => true,
-        Some(best) => is_below(number_after(&best.entries, zero), number_after(&log.entries, zero)),
+        Some(best) => is_below(
+            number_after(&best.entries, zero),
+            number_after(&log.entries, zero),
+        ),
     }
 }
 

@@ -1,4 +1,4 @@
-use Rattle.std.proofs.Common.{◌≡◌, ◌++◌, [], List, ℕ, refl, sym, subst}
+use Rattle.std.proofs.Common.{[], List, ℕ, refl, sym, subst}
 use Rattle.std.proofs.lemmas.List.{append-nil}
 use Rattle.hive_log_entries.specs.Logs.{EntriesAre}
 use Rattle.hive_log_entries.proofs.log_reader.entries.Goals as goal

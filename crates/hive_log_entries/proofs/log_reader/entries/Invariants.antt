@@ -1,4 +1,4 @@
-use Rattle.std.proofs.Common.{◌≤◌, length, List, ℕ, ◌+◌, ◌-◌, ◌++◌}
+use Rattle.std.proofs.Common.{length, List, ℕ, ◌-◌, ◌++◌}
 use Rattle.hive_log_entries.specs.Logs.{EntriesFrom, EntriesAre}
 use Rattle.hive_log_entries.specs.declared.entry_end.LogEnd.{LogEnd}
 use Rattle.hive_log_entries.proofs.log_reader.entries.Given as goal

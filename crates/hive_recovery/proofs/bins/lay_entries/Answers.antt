@@ -1,4 +1,4 @@
-use Rattle.std.proofs.Common.{◌∙◌, ℕ, Option, List, ap, sym, take, arith}
+use Rattle.std.proofs.Common.{◌∙◌, ℕ, Option, ap, sym, take}
 use Rattle.std.proofs.lemmas.List.Sums.{fold_more}
 use Rattle.std.proofs.lemmas.List.{take_all}
 use Rattle.hive_recovery.specs.Laid.{laid, entry_laid}

@@ -1,4 +1,4 @@
-use Rattle.std.proofs.Common.{◌≡◌, ℕ, Option, None, length, get_or}
+use Rattle.std.proofs.Common.{None, get_or}
 use Rattle.hive_recovery.specs.Laid.{HoldsImage, part_laid}
 use Rattle.hive_recovery.proofs.bins.lay_page.Given as goal
 

@@ -1,4 +1,4 @@
-use Rattle.std.proofs.Common.{◌≡◌, ◌∙◌, ◌+◌, ℕ, suc, Some, None, length, subst, sym, inl, arith}
+use Rattle.std.proofs.Common.{◌≡◌, ◌∙◌, ℕ, suc, Some, length, subst, sym, inl, arith}
 use Rattle.hive_recovery.specs.Laid.{first_bytes}
 use Rattle.hive_recovery.proofs.Firsts.{lacking_stays, lacking_one}
 use Rattle.hive_recovery.proofs.bins.whole_bytes.Goals as goal

@@ -1,5 +1,5 @@
 use Rattle.std.proofs.Common.{ℕ, List, ◌<◌, ◌≡◌, ◌-◌, length, subst, sym, arith, length-drop}
-use Rattle.hive_log_entries.specs.Pages.{page_count, page_start, reference_at}
+use Rattle.hive_log_entries.specs.Pages.{page_count, page_start}
 use Rattle.hive_log_entries.proofs.Stops.{reference_there, bytes_there}
 use Rattle.hive_log_entries.proofs.entry.LogEntry.page.Goals as goal
 
