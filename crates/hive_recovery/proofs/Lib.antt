@@ -4,3 +4,4 @@ pub mod Orders
 pub mod Planned
 pub mod States
 pub mod Swapped
+pub mod Clean

@@ -1,8 +1,8 @@
 //! Which entries are applied.
-ghost use Rattle.std.specs.Prelude.{◌≡◌, ◌⊎◌, ◌<◌, ◌≤◌, ◌-◌, [], slice_index_or, Ok, Err, None, length, take, IfOk, IfErr, IfSome, IfNone, option_map};
+ghost use Rattle.std.specs.Prelude.{◌≡◌, ◌⊎◌, ◌<◌, ◌≤◌, ◌-◌, true, [], slice_index_or, Ok, Err, None, length, take, IfOk, IfErr, IfSome, IfNone, option_map};
 ghost use Rattle.refusals.specs.declared.refusal.Refusal.TheVariants.{NoMemory};
 ghost use Rattle.base_block.specs.Judgements.{IsPrimary};
-ghost use Rattle.base_block.specs.Layout.{block_at};
+ghost use Rattle.base_block.specs.Layout.{block_at, is_clean_block};
 ghost use Rattle.hive_recovery.specs.declared.log.Log.{Log};
 ghost use Rattle.hive_recovery.specs.Plans.{seen, is_torn_block, plan_of, plan_by_block, replayed, torn_plan, unclean_plan, newest_of, is_newer, no_log, log_replayed, NothingChosen, IsPlanRefused};
 
@@ -32,6 +32,7 @@ pub struct RecoveryPlan<'a> {
 /// that of the recovered hive is refused. Otherwise refused for want of memory alone.
 pub fn plan<'a>(alloc: Global, file: &[u8], logs: &[Log<'a>]) -> Result<RecoveryPlan<'a>, Refusal>
     ensures chosen { IfOk result (λ plan. plan_of file.now logs.now ≡ Ok (seen plan)) }
+    ensures clean { IfOk result (λ plan. is_clean_block (block_at plan.sector) ≡ true) }
     ensures judged { IfOk result (λ plan. IsPrimary (block_at plan.sector)) }
     ensures refused { IfErr result (IsPlanRefused file.now logs.now) }
 {
@@ -49,6 +50,7 @@ pub fn plan<'a>(alloc: Global, file: &[u8], logs: &[Log<'a>]) -> Result<Recovery
 // chooses, and leaves the new base block unjudged
 fn choose<'a>(alloc: Global, file: &[u8], logs: &[Log<'a>]) -> Result<RecoveryPlan<'a>, Refusal>
     ensures chosen { IfOk result (λ plan. plan_of file.now logs.now ≡ Ok (seen plan)) }
+    ensures clean { IfOk result (λ plan. is_clean_block (block_at plan.sector) ≡ true) }
     ensures refused { IfErr result (NothingChosen file.now logs.now) }
 {
     let Some(sector) = first_sector(file) else {
@@ -72,7 +74,9 @@ fn choose_by_block<'a>(
     block: &BaseBlock,
     logs: &[Log<'a>],
 ) -> Result<RecoveryPlan<'a>, Refusal>
+    requires { block.now ≡ block_at sector }
     ensures chosen { IfOk result (λ plan. plan_by_block sector block.now logs.now ≡ Ok (seen plan)) }
+    ensures clean { IfOk result (λ plan. is_clean_block (block_at plan.sector) ≡ true) }
     ensures refused { IfErr result (λ why. (why ≡ NoMemory) ⊎ (plan_by_block sector block.now logs.now ≡ Err why)) }
 {
     if is_torn(block) {
@@ -117,6 +121,7 @@ fn choose_in_sequence<'a>(
     logs: &[Log<'a>],
 ) -> Result<RecoveryPlan<'a>, Refusal>
     ensures chosen { IfOk result (λ plan. unclean_plan sector.now from.0 logs.now ≡ Ok (seen plan)) }
+    ensures clean { IfOk result (λ plan. is_clean_block (block_at plan.sector) ≡ true) }
     ensures refused { IfErr result (λ why. (why ≡ NoMemory) ⊎ (unclean_plan sector.now from.0 logs.now ≡ Err why)) }
 {
     let entries = sequence_from(alloc, logs, from)?;
@@ -131,6 +136,7 @@ fn choose_newest<'a>(
     logs: &[Log<'a>],
 ) -> Result<RecoveryPlan<'a>, Refusal>
     ensures chosen { IfOk result (λ plan. torn_plan block.now logs.now ≡ Ok (seen plan)) }
+    ensures clean { IfOk result (λ plan. is_clean_block (block_at plan.sector) ≡ true) }
     ensures refused { IfErr result (λ why. (why ≡ NoMemory) ⊎ (torn_plan block.now logs.now ≡ Err why)) }
 {
     match newest(logs) {
@@ -153,6 +159,7 @@ fn why_no_log(block: &BaseBlock) -> Refusal
 // all entries of a log
 fn choose_log<'a>(alloc: Global, log: &Log<'a>) -> Result<RecoveryPlan<'a>, Refusal>
     ensures chosen { IfOk result (λ plan. log_replayed log.now ≡ Ok (seen plan)) }
+    ensures clean { IfOk result (λ plan. is_clean_block (block_at plan.sector) ≡ true) }
     ensures refused { IfErr result (λ why. (why ≡ NoMemory) ⊎ (log_replayed log.now ≡ Err why)) }
 {
     let Some(sector) = first_sector(log.bytes) else {
@@ -198,6 +205,7 @@ fn is_ahead(best: Option<&Log<'_>>, log: &Log<'_>) -> bool
 // entries over a hive with a first sector
 fn replay<'a>(sector: &[u8; 512], entries: Vec<LogEntry<'a>>) -> Result<RecoveryPlan<'a>, Refusal>
     ensures chosen { IfOk result (λ plan. replayed sector.now entries.entry.items ≡ Ok (seen plan)) }
+    ensures clean { IfOk result (λ plan. is_clean_block (block_at plan.sector) ≡ true) }
     ensures refused { IfErr result (λ why. replayed sector.now entries.entry.items ≡ Err why) }
 {
     if entries.is_empty() {

@@ -1,6 +1,6 @@
 //! The first sector of a recovered hive.
-ghost use Rattle.std.specs.Prelude.{◌≡◌, ◌≤◌, take};
-ghost use Rattle.base_block.specs.Layout.{put_at};
+ghost use Rattle.std.specs.Prelude.{◌≡◌, ◌≤◌, ◌<◌, ◌^◌, true, take};
+ghost use Rattle.base_block.specs.Layout.{block_at, is_clean_block, put_at};
 ghost use Rattle.byteorder.specs.Endian.{little_bytes};
 ghost use Rattle.hive_recovery.specs.Sectors.{recovered_sector, recovered_body};
 
@@ -11,7 +11,8 @@ use byteorder::{ByteOrder, LittleEndian};
 /// A sector as the first of a recovered hive: clean, of the type of a primary file, with a number and a size of bins data.
 /// All else stays.
 pub(crate) fn recovered(sector: &[u8; 512], number: SequenceNumber, bins_size: u32) -> [u8; 512]
-    ensures { result ≡ recovered_sector sector.now number.0 bins_size }
+    ensures made { result ≡ recovered_sector sector.now number.0 bins_size }
+    ensures clean { is_clean_block (block_at result) ≡ true }
 {
     let mut made = *sector;
     put_fields(&mut made, number, bins_size);
@@ -32,7 +33,8 @@ fn summed(made: &[u8; 512]) -> [u8; 508]
 #[tactic(auto, unfolding(crate::specs::Sectors::recovered_body))]
 // puts the fields that change, but for the sum
 fn put_fields(made: &mut [u8; 512], number: SequenceNumber, bins_size: u32)
-    ensures { made.new ≡ recovered_body made.old number.0 bins_size }
+    ensures put { made.new ≡ recovered_body made.old number.0 bins_size }
+    ensures fits { number.0 < 2 ^ 32 }
 {
     put_u32(made, 4, number.0);
     put_u32(made, 8, number.0);
@@ -44,7 +46,8 @@ fn put_fields(made: &mut [u8; 512], number: SequenceNumber, bins_size: u32)
 // writes a number of 32 bits at an offset
 fn put_u32(made: &mut [u8; 512], offset: usize, number: u32)
     requires { offset ≤ 508 }
-    ensures { made.new ≡ put_at offset (little_bytes 4 number) made.old }
+    ensures put { made.new ≡ put_at offset (little_bytes 4 number) made.old }
+    ensures fits { number < 2 ^ 32 }
 {
     LittleEndian::write_u32(&mut made[offset..offset + 4], number);
 }
