@@ -9,9 +9,10 @@ reader. The last line is 'N passed, N failed', and the status is 0 if none faile
 
 - whole: one log or two, in either order, at each state that the primary file may have kept, numbers that wrap, versions, remnants.
 - spoiled: a bit of each field of each entry, each length of the log, an entry left out.
-- false: entries with right hashes whose contents are wrong.
+- false_contents: entries with right hashes whose contents are wrong.
 - torn: base blocks of which the sum, the letters or all is wrong.
 - heads: logs whose first sector is none, and old logs. Files that are cut.
+- memory: each allocation refused in turn.
 """
 import os
 import random
@@ -21,7 +22,7 @@ import sys
 sys.dont_write_bytecode = True
 sys.path.insert(0, os.path.dirname(os.path.abspath(__file__)))
 from marvin import BIN, PAGE, SECTOR, entry, signed  # noqa: E402
-from scratch import expect, finish, program_at, tell  # noqa: E402
+from scratch import expect, finish, program_at, refusal_shim, tell  # noqa: E402
 
 HEAD = 4_096
 TOP_NUMBER = 2**32
@@ -103,13 +104,13 @@ class Runs:
     def __init__(self, program):
         self.program = program
 
-    def recover(self, primary, *logs):
+    def recover(self, primary, *logs, **given):
         """The lines that it printed, and the file that it wrote, or None."""
         names = [self.program.put(f"log{at}", log) for at, log in enumerate(logs)]
         out = self.program.at("out")
         if os.path.exists(out):
             os.remove(out)
-        told, _ = self.program.run("recover", self.program.put("hive", primary), "out", *names)
+        told, _ = self.program.run("recover", self.program.put("hive", primary), "out", *names, **given)
         if not os.path.exists(out):
             return told.decode().splitlines(), None
         with open(out, "rb") as file:
@@ -323,12 +324,30 @@ def heads(runs):
     yield runs.is_refused("bins data over the limit", primary, [machine.log([large])], "E6 TooLarge")
 
 
+def memory(runs):
+    """Recoveries in which each allocation in turn is refused."""
+    machine, shim, report = Machine(90), refusal_shim(), runs.program.at("report")
+    primary, last = machine.primary(0, len(machine.entries)), len(machine.entries) - 1
+    logs = [machine.log(machine.entries[:2]), machine.log(machine.entries[2:])]
+    for number in range(1, 1_000):
+        given = {"LD_PRELOAD": shim, "FAILALLOC_AT": str(number), "FAILALLOC_REPORT": report}
+        lines, found = runs.recover(primary, *logs, environment=given)
+        with open(report, encoding="ascii") as file:
+            if "refused=0" in file.read():
+                yield expect("no allocation refused", found, machine.wanted(primary, 0, last))
+                return
+        # the library reads a file of which it can't reserve all in smaller parts
+        if found != machine.wanted(primary, 0, last):
+            yield expect(f"allocation {number}", (lines[-1:], found), (["E1 NoMemory"], None))
+    yield "each allocation was refused"
+
+
 def main():
     if len(sys.argv) != 2:
         sys.exit(__doc__)
     with program_at(sys.argv[1], "machines-") as program:
         runs = Runs(program)
-        finish([tell(part.__name__, list(part(runs))) for part in (whole, spoiled, false_contents, torn, heads)])
+        finish([tell(part.__name__, list(part(runs))) for part in (whole, spoiled, false_contents, torn, heads, memory)])
 
 
 if __name__ == "__main__":

@@ -14,36 +14,37 @@ use hive_recovery::{Log, carry_out, missing_number, plan, read_log};
 use marvin32::marvin32;
 use refusals::Refusal;
 use std::alloc::{AllocError, AllocFailed, Global};
-use std::env;
-use std::fs;
-use std::io;
 use std::io::Eprint;
 use std::process::ExitCode;
 use std::rt::{Env, Files};
+use std::{env, fs, io};
 
 /// Why a run ends early.
 enum Fault {
-    /// A word or a file isn't understood, or there is no memory.
+    /// A word or a file isn't understood.
     NotUnderstood,
-    /// The hive was refused.
+    /// The hive was refused, or there is no memory.
     Refused(Refusal),
 }
 
 impl From<AllocError> for Fault {
     fn from(_error: AllocError) -> Fault {
-        Fault::NotUnderstood
+        Fault::Refused(Refusal::NoMemory)
     }
 }
 
 impl<T: Drop> From<AllocFailed<T>> for Fault {
     fn from(_error: AllocFailed<T>) -> Fault {
-        Fault::NotUnderstood
+        Fault::Refused(Refusal::NoMemory)
     }
 }
 
 impl From<io::Error> for Fault {
-    fn from(_error: io::Error) -> Fault {
-        Fault::NotUnderstood
+    fn from(error: io::Error) -> Fault {
+        match error.kind() {
+            io::ErrorKind::OutOfMemory => Fault::Refused(Refusal::NoMemory),
+            _ => Fault::NotUnderstood,
+        }
     }
 }
 
@@ -169,7 +170,11 @@ fn tell_log<R: Print>(
 ) -> Result<(), Fault> {
     print!(rt; "log {number}: ")?;
     if let (Some(first), Some(last)) = (log.entries.first(), log.entries.last()) {
-        print!(rt; "entries {} to {}, then ", first.number().0, last.number().0)?;
+        print!(rt;
+            "entries {} to {}, then ",
+            first.number().0,
+            last.number().0
+        )?;
     }
     print!(rt; "{}", log.ending())?;
     match missing {
