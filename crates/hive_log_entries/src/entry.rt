@@ -5,9 +5,16 @@ ghost use Rattle.hive_log_entries.specs.Entries.{entry_at, number_of, IsWithinLo
 
 use crate::entry_end::EntryEnd;
 use crate::entry_tests::{bytes_from, entry_size, fault, first_bytes};
-use crate::pages::{PageReference, reference, u32_at};
+use crate::pages::{
+    BINS_SIZE_AT, PAGE_COUNT_AT, PageReference, REFERENCE_BYTES, REFERENCES_AT, reference, u32_at,
+};
 use base_block::SequenceNumber;
 use std::marker::Model;
+
+// the offset of the number
+const NUMBER_AT: usize = 12;
+
+const _: () = prove!(NUMBER_AT == 12);
 
 /// An entry of a log: what one write of the hive changed. Contracts see it as its bytes.
 #[derive(Drop)]
@@ -61,21 +68,21 @@ impl<'a> LogEntry<'a> {
     pub fn number(&self) -> SequenceNumber
         ensures { result ≡ number_of self.now }
     {
-        SequenceNumber(u32_at(self.bytes, 12))
+        SequenceNumber(u32_at(self.bytes, NUMBER_AT))
     }
 
     /// The bytes of bins data after it.
     pub fn bins_size(&self) -> u32
         ensures { result ≡ bins_size_of self.now }
     {
-        u32_at(self.bytes, 16)
+        u32_at(self.bytes, BINS_SIZE_AT)
     }
 
     /// How many pages it has.
     pub fn page_count(&self) -> u32
         ensures { result ≡ page_count self.now }
     {
-        u32_at(self.bytes, 20)
+        u32_at(self.bytes, PAGE_COUNT_AT)
     }
 
     #[tactic(auto, using(crate::proofs::Stops::reference_there))]
@@ -105,6 +112,6 @@ impl<'a> LogEntry<'a> {
     pub fn first_page_at(&self) -> usize
         ensures { result ≡ page_start self.now 0 }
     {
-        40 + 8 * self.page_count() as usize
+        REFERENCES_AT + REFERENCE_BYTES * self.page_count() as usize
     }
 }

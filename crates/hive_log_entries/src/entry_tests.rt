@@ -4,7 +4,7 @@ ghost use Rattle.hive_log_entries.specs.Pages.{has_pages};
 ghost use Rattle.hive_log_entries.specs.Entries.{size_at_front, fault_of, hash_at, same_hash, has_second_hash, has_first_hash, has_bins_size};
 
 use crate::entry_end::EntryEnd;
-use crate::pages::{are_pages_within, u32_at};
+use crate::pages::{BINS_SIZE_AT, REFERENCES_AT, are_pages_within, u32_at};
 use marvin32::marvin32;
 
 // the seed of the hashes
@@ -14,6 +14,21 @@ const SEED: (u32, u32) = (0x884d_ef82, 0xc555_4e7a);
 const LETTERS: u32 = 0x454c_7648;
 
 const _: () = prove!(LETTERS == 0x454c_7648);
+
+// the offset of the size
+const SIZE_AT: usize = 4;
+
+const _: () = prove!(SIZE_AT == 4);
+
+// the offset of the first hash
+const FIRST_HASH_AT: usize = 24;
+
+const _: () = prove!(FIRST_HASH_AT == 24);
+
+// the offset of the second hash, which is of the bytes before it
+const SECOND_HASH_AT: usize = 32;
+
+const _: () = prove!(SECOND_HASH_AT == 32);
 
 // what the size of an entry is a multiple of
 const SECTOR_BYTES: u32 = 512;
@@ -56,7 +71,7 @@ pub(crate) fn entry_size(rest: &[u8]) -> Result<u32, EntryEnd>
     if rest.len() < 8 {
         return Err(EntryEnd::Cut);
     }
-    let size = u32_at(rest, 4);
+    let size = u32_at(rest, SIZE_AT);
     if !size.is_multiple_of(SECTOR_BYTES) || size < SECTOR_BYTES {
         return Err(EntryEnd::WrongSize);
     }
@@ -93,7 +108,11 @@ fn is_second_hash_right(bytes: &[u8]) -> bool
     requires { 512 ≤ length bytes.now }
     ensures { result ≡ has_second_hash bytes.now }
 {
-    is_hash_at(bytes, 32, marvin32(SEED, first_bytes(bytes, 32)))
+    is_hash_at(
+        bytes,
+        SECOND_HASH_AT,
+        marvin32(SEED, first_bytes(bytes, SECOND_HASH_AT)),
+    )
 }
 
 #[tactic(auto, unfolding(crate::specs::Entries::has_first_hash))]
@@ -101,7 +120,11 @@ fn is_first_hash_right(bytes: &[u8]) -> bool
     requires { 512 ≤ length bytes.now }
     ensures { result ≡ has_first_hash bytes.now }
 {
-    is_hash_at(bytes, 24, marvin32(SEED, bytes_from(bytes, 40)))
+    is_hash_at(
+        bytes,
+        FIRST_HASH_AT,
+        marvin32(SEED, bytes_from(bytes, REFERENCES_AT)),
+    )
 }
 
 // whether a hash stands at an offset, the low half first
@@ -117,6 +140,6 @@ fn is_bins_size_right(bytes: &[u8]) -> bool
     requires { 512 ≤ length bytes.now }
     ensures { result ≡ has_bins_size bytes.now }
 {
-    let bins_size = u32_at(bytes, 16);
+    let bins_size = u32_at(bytes, BINS_SIZE_AT);
     bins_size.is_multiple_of(BIN_BYTES) && bins_size != 0
 }

@@ -5,15 +5,25 @@ ghost use Rattle.hive_log_entries.specs.Pages.{reference_at, is_page, has_pages,
 
 use byteorder::{ByteOrder, LittleEndian};
 
-// the offset of the first reference in an entry
-const REFERENCES_AT: usize = 40;
+/// The offset of the first reference in an entry, and of the bytes that the first hash is of.
+pub(crate) const REFERENCES_AT: usize = 40;
 
 const _: () = prove!(REFERENCES_AT == 40);
 
-// the bytes of a reference
-const REFERENCE_BYTES: usize = 8;
+/// The bytes of a reference.
+pub(crate) const REFERENCE_BYTES: usize = 8;
 
 const _: () = prove!(REFERENCE_BYTES == 8);
+
+/// The offset of the size of the bins data.
+pub(crate) const BINS_SIZE_AT: usize = 16;
+
+const _: () = prove!(BINS_SIZE_AT == 16);
+
+/// The offset of the count of pages.
+pub(crate) const PAGE_COUNT_AT: usize = 20;
+
+const _: () = prove!(PAGE_COUNT_AT == 20);
 
 // what pages are multiples of
 const PAGE_BYTES: u32 = 512;
@@ -68,7 +78,7 @@ pub(crate) fn are_pages_within(bytes: &[u8]) -> bool
     requires { 512 ≤ length bytes.now }
     ensures { result ≡ has_pages bytes.now }
 {
-    let count = u32_at(bytes, 20) as usize;
+    let count = u32_at(bytes, PAGE_COUNT_AT) as usize;
     if count > (bytes.len() - REFERENCES_AT) / REFERENCE_BYTES {
         return false;
     }
@@ -94,7 +104,7 @@ fn page_end(bytes: &[u8], index: usize, start: usize) -> Option<usize>
 {
     let page = reference(bytes, index);
     let size = page.size as usize;
-    if page.is_within(u32_at(bytes, 16)) && size <= bytes.len() - start {
+    if page.is_within(u32_at(bytes, BINS_SIZE_AT)) && size <= bytes.len() - start {
         Some(start + size)
     } else {
         None
