@@ -4,11 +4,6 @@ use Rattle.std.proofs.lemmas.Bool.{true≢false}
 use Rattle.std.specs.Prelude.{IfOk, IsOk, is_some}
 use mathlib.Core.List.{IsPrefix}
 use Rattle.std.specs.Io.KnownBytes.{Appends, Keeps}
-use Rattle.std.specs.Option.{option_and_then}
-use Rattle.std.specs.Ordering.{nat_cmp}
-use Rattle.std.specs.Cmp.Lexicographic.{slice_cmp}
-use Rattle.std.specs.BTreeMap.{is_at}
-use Rattle.std.specs.Map.{lookup}
 use Rattle.refusals.specs.Refusals.{refusal_text}
 use Rattle.refusals.specs.declared.refusal.Refusal.{Refusal}
 use Rattle.refusals.specs.declared.refusal.Refusal.TheVariants.{Faulted}
@@ -18,7 +13,6 @@ use Rattle.reply_lines.specs.declared.reply.ReplyLine.{ReplyLine}
 use Rattle.reply_lines.specs.declared.status.Status.{Status}
 use Rattle.reply_lines.specs.declared.status.Status.TheVariants.{Refused}
 use Rattle.script_loop.proofs.Texts.{appends_kept, if_ok, keeps_same, kept_appends}
-use Rattle.script_runner.specs.Labels.{NamesNothing, named_by}
 use Rattle.script_runner.specs.Plays.{is_refusal}
 use Rattle.store_driver.specs.Openings.{BeginsAt}
 use Rattle.script_runner.specs.Plays.{opened_text}
@@ -31,11 +25,11 @@ use Rattle.histories.specs.Histories.{end_of}
 use Rattle.engine_invariant.specs.Engines.{EngineView}
 use Rattle.histories.specs.Points.{HistoryEntry}
 use Rattle.store_model.specs.Machine.{Machine}
-use Rattle.ktm_calls.specs.Moments.{IsOf, SeesMore, Sight}
+use Rattle.ktm_calls.specs.Moments.{IsOf, SeesMore, Sight, no_sight}
 use Rattle.registry_runner.specs.Folding.{IsFoldedAt, IsIdle}
-use Rattle.registry_runner.specs.Parts.{Part, BeginsOrNot, FoldsAt, IsBegun, MayNotBegin, MayNotFold, LiesIn, LiesLast, kind_text}
+use Rattle.registry_runner.specs.Parts.{Part, BeginsOrNot, FoldsAt, MayNotBegin, MayNotFold, LiesIn, LiesLast, kind_text}
 use Rattle.registry_runner.specs.Plays.{GoesOnFolded, HaveEnded, IsPlayedOn, IsUnread, LinesCome, PlaysOn}
-use Rattle.registry_runner.specs.Scripts.{Script, Answers, MayProbe}
+use Rattle.registry_lines.specs.Scripts.{Script, Answers, IsBegun, MayProbe}
 use Rattle.registry_runner.specs.declared.lines.LinesEnd.{LinesEnd}
 use Rattle.registry_runner.specs.declared.lines.LinesEnd.TheVariants as come
 use Rattle.registry_runner.specs.declared.parts.NextPart.{NextPart}
@@ -43,7 +37,6 @@ use Rattle.registry_runner.specs.declared.parts.PartEnd.TheVariants.{ToFold}
 use Rattle.registry_runner.specs.declared.parts.PartKind.TheVariants.{Opened}
 use Rattle.registry_runner.specs.declared.parts.PartStart.{PartStart}
 use Rattle.registry_runner.proofs.Playing.{kept_by_nothing, part, stopped}
-use Rattle.script_runner.specs.declared.labels.Labels.{Labels}
 use Rattle.store_model.specs.declared.event.Reply.{Reply}
 use Rattle.store_model.specs.declared.event.Reply.TheVariants as answer
 use Rattle.ktm_calls.specs.Denials.{IsTurnDenied, denial_of, refusal_in}
@@ -51,10 +44,6 @@ use Rattle.ktm_calls.specs.Waiting.{HasFailed}
 use Rattle.ktm_calls.specs.declared.registry.Denied.{Denied}
 use Rattle.ktm_calls.specs.declared.registry.Denied.TheVariants as denied
 use Rattle.registry_runner.specs.Running.{EndsPart, EndsRun, IsUnasked, MayBeUndone, MayHaveEnded, RunsFrom, RunsOrNot, flushed_text, undone_text}
-
--- no label names anything
-pub names_nothing : (labels : Labels) → NamesNothing labels → (label : List ℕ) → named_by labels label ≡ None
-names_nothing labels nothing label = ap (λ entries. option_and_then (λ tx. tx) (lookup (is_at (slice_cmp nat_cmp label)) entries)) nothing
 
 -- what holds of an answer that is one only if an earlier one is, with what holds of that one
 pub both_ok : {A B E F : Type 0} (H : A → B → Type 0) (G : B → Type 0) (r : Result A E) (p : Result B F) → (IsOk r → IsOk p) → IfOk r (λ a. IfOk p (H a)) → IfOk p G → IfOk r (λ a. (b : B) × H a b × G b)
@@ -138,7 +127,7 @@ module _ (whole past : List HistoryEntry) (limit : ℕ) (can_read : Bool) (sole 
   ended old end last mid is flushed played (Ok s) h o a =
       let r = subst (λ p. IfOk p (λ s. IsPlayedOn whole limit can_read (Ok (part past sole origin trees first hives old)) number known was mid s (Ok (part past sole origin trees first hives end)))) o.0 h in (end, (r.0, r.1, r.2, r.3, r.4, appends_kept was mid is r.2 r.5 o.1), a)
 
-module _ (whole past : List HistoryEntry) (start : PartStart) (sole : Bool) (origin : EngineView) (trees : List TreeMap) (number hives : ℕ) (known before opened : Option (List ℕ)) (script : Script) (begun : IsBegun sole origin trees number hives start.moment script) (told : Appends before opened (kind_text start.kind number)) where
+module _ (whole past : List HistoryEntry) (start : PartStart) (sole : Bool) (origin : EngineView) (trees : List TreeMap) (number hives : ℕ) (known before opened : Option (List ℕ)) (script : Script) (begun : IsBegun sole origin trees number hives no_sight start.moment script) (told : Appends before opened (kind_text start.kind number)) where
   module _ (mid after : Option (List ℕ)) (last : Script) (flushed : ReplyLine) (seen : Sight) (left : Option Refusal) (later : SeesMore last.session.seen seen) (probes : MayProbe sole last.session.seen seen) (may : MayBeUndone sole origin trees number hives last.session.seen seen left) (stands : LiesLast sole whole past origin seen) where
     abbrev pub Reports : Status → Status → Type 0
     Reports status came_to = (status ≡ with_refusal (is_some left) (with_refusal (is_refusal flushed) came_to)) × Appends mid after (flushed_text flushed ++ undone_text left)

@@ -1,6 +1,3 @@
-mod Hearing
-mod Sessions
-mod Answered
 mod Playing
 mod Folding
 mod Ending

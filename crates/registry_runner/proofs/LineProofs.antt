@@ -19,10 +19,10 @@ use Rattle.script_runner.specs.Plays.{is_refusal}
 use Rattle.script_runner.specs.Scripts.{line_asked}
 use Rattle.engine_invariant.specs.Engines.{EngineView}
 use Rattle.histories.specs.Points.{HistoryEntry}
-use Rattle.registry_runner.specs.Parts.{Part, Folds, KeepsOrFolds, number_told, start_text}
+use Rattle.registry_runner.specs.Parts.{Part, Folds, KeepsOrFolds, start_text}
 use Rattle.registry_runner.specs.PartLines.{AnswersInPart, AnswersThen, Between, OverHistory, StopsInPart}
 use Rattle.registry_runner.specs.Plays.{LinesCome, PlaysOn}
-use Rattle.registry_runner.specs.Scripts.{Script, AnswersLine}
+use Rattle.registry_lines.specs.Scripts.{Script, AnswersLine, number_told}
 use Rattle.registry_runner.specs.declared.history_use.HistoryUse.{HistoryUse}
 use Rattle.registry_runner.specs.declared.lines.BetweenLines.{BetweenLines}
 use Rattle.registry_runner.specs.declared.lines.BetweenLines.TheVariants as between
@@ -30,8 +30,8 @@ use Rattle.registry_runner.specs.declared.lines.LinesEnd.TheVariants as come
 use Rattle.registry_runner.specs.declared.parts.NextPart.{NextPart}
 use Rattle.registry_runner.specs.declared.parts.PartKind.{PartKind}
 use Rattle.registry_runner.specs.declared.parts.PartKind.TheVariants.{Opened, Folded, Continued}
-use Rattle.registry_runner.specs.declared.script.LineAnswer.{LineAnswer}
-use Rattle.registry_runner.specs.declared.script.LineAnswer.TheVariants.{Reply, ToFold}
+use Rattle.registry_lines.specs.declared.script.LineAnswer.{LineAnswer}
+use Rattle.registry_lines.specs.declared.script.LineAnswer.TheVariants.{Reply, ToFold}
 use Rattle.registry_runner.proofs.Playing.{continued_text, part}
 
 module _ (past : List HistoryEntry) (limit : ℕ) (sole : Bool) (origin : EngineView) (trees : List TreeMap) (first hives : ℕ) where

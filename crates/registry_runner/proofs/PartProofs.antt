@@ -14,7 +14,7 @@ use Rattle.histories.proofs.Asked.{asked_append}
 use Rattle.ktm_calls.specs.Moments.{no_sight}
 use Rattle.registry_runner.specs.Parts.{LiesLast, MayNotBegin}
 use Rattle.registry_runner.specs.Plays.{GoesOnFolded, IsPlayedOn, LinesCome}
-use Rattle.registry_runner.specs.Scripts.{Script}
+use Rattle.registry_lines.specs.Scripts.{Script}
 use Rattle.registry_runner.specs.declared.lines.LinesEnd.{LinesEnd}
 use Rattle.registry_runner.specs.declared.lines.LinesEnd.TheVariants as come
 use Rattle.registry_runner.specs.declared.parts.NextPart.{NextPart}

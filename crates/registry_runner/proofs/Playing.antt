@@ -12,7 +12,7 @@ use Rattle.engine_invariant.specs.Engines.{EngineView}
 use Rattle.histories.specs.Points.{HistoryEntry}
 use Rattle.registry_runner.specs.Plays.{IsPlayedOn}
 use Rattle.registry_runner.specs.Parts.{Part, start_text}
-use Rattle.registry_runner.specs.Scripts.{Script}
+use Rattle.registry_lines.specs.Scripts.{Script}
 use Rattle.registry_runner.specs.declared.parts.PartKind.TheVariants.{Continued}
 
 -- nothing is written

@@ -1,28 +1,11 @@
--- What a script of the program shows.
-use Rattle.std.specs.Prelude.{ℕ, Bool, List, Option, Some, None}
+-- What a script of the program shows of its run.
+use Rattle.std.specs.Prelude.{ℕ, Bool, List}
 use Rattle.reg_tree.specs.Maps.{TreeMap}
 use Rattle.engine_invariant.specs.Engines.{EngineView}
 use Rattle.histories.specs.Points.{HistoryEntry}
-use Rattle.store_model.specs.declared.handle.Tx.{Tx}
-use Rattle.script_runner.specs.Labels.{HasRoom, named_by}
-use Rattle.script_runner.specs.declared.labels.Labels.{Labels}
+use Rattle.registry_lines.specs.Interpreters.{script_of}
+use Rattle.registry_lines.specs.declared.script.Script.{Script as Shown}
 use Rattle.registry_runner.specs.Parts.{Part}
-use Rattle.registry_runner.specs.Scripts.{Script}
-use Rattle.registry_runner.specs.Slots.{item_at}
-use Rattle.registry_runner.specs.declared.script.Script.{Script as Shown}
-
--- the transaction that a label names; before the first label there are none
-abbrev pub named_in : Option Labels → List ℕ → Option Tx
-named_in None label = None
-named_in (Some labels) label = named_by labels label
-
--- there is room for a label
-abbrev pub HasRoomFor : Option Labels → List ℕ → Type 0
-HasRoomFor None label = ⊥
-HasRoomFor (Some labels) label = HasRoom labels label
-
-abbrev pub script_of : {O : Type 0} → Shown O → Script
-script_of shown = record { moment = shown.moment; current = shown.number; is_open = shown.is_open; session = shown.session; others = item_at shown.others; labels = named_in shown.labels }
 
 -- the part of a run that comes after this past, whose registry's history begins here, and its list of changes on these
 -- trees after this number

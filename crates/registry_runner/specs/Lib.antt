@@ -1,6 +1,3 @@
-pub mod Heard
-pub mod Slots
-pub mod Scripts
 pub mod Parts
 pub mod Interpreters
 pub mod Plays

@@ -6,8 +6,8 @@ use Rattle.script_syntax.specs.declared.line.Line.TheVariants.{Fold}
 use Rattle.reply_lines.specs.declared.reply.ReplyLine.{ReplyLine}
 use Rattle.script_runner.specs.Plays.{is_refusal}
 use Rattle.script_runner.specs.Scripts.{line_asked}
-use Rattle.registry_runner.specs.Scripts.{Script, Answers, FlushesThen, IsFlushed, HasNothingToEnd}
-use Rattle.registry_runner.specs.Parts.{Part, IsDue, number_told, with_script}
+use Rattle.registry_lines.specs.Scripts.{Script, Answers, FlushesThen, IsFlushed, HasNothingToEnd, number_told}
+use Rattle.registry_runner.specs.Parts.{Part, IsDue, with_script}
 use Rattle.registry_runner.specs.declared.history_use.HistoryUse.{HistoryUse}
 use Rattle.registry_runner.specs.declared.lines.BetweenLines.{BetweenLines}
 use Rattle.registry_runner.specs.declared.lines.BetweenLines.TheVariants as between

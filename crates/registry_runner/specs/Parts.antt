@@ -14,10 +14,8 @@ use Rattle.histories.specs.Histories.{end_of}
 use Rattle.engine_invariant.specs.Engines.{EngineView}
 use Rattle.histories.specs.Points.{HistoryEntry}
 use Rattle.store_model.specs.Machine.{is_of_device}
-use Rattle.ktm_calls.specs.Denials.{IsOpened}
-use Rattle.ktm_calls.specs.Kinds.{Told}
 use Rattle.ktm_calls.specs.Moments.{SeesMore, Sight, no_sight}
-use Rattle.registry_runner.specs.Scripts.{Script, FlushesThen, IsFlushed, HasNothingToEnd, MayNotEnter}
+use Rattle.registry_lines.specs.Scripts.{Script, FlushesThen, IsBegun, IsFlushed, HasNothingToEnd, MayNotEnter, number_told}
 use Rattle.registry_runner.specs.declared.parts.PartKind.{PartKind}
 use Rattle.registry_runner.specs.declared.parts.PartKind.TheVariants.{Opened, Folded, Continued}
 
@@ -35,14 +33,6 @@ pub record Part : Type 0 where
 
 abbrev pub with_script : Part → Script → Part
 with_script part script = record part { script = script }
-
--- a script before a part's first line: session 0 was just opened, before which nothing was seen, and no label names
--- anything
-pub record IsBegun (sole : Bool) (origin : EngineView) (trees : List TreeMap) (number hives current : ℕ) (script : Script) : Type 0 where
-  pub told : Told
-  pub opened : IsOpened sole origin trees number hives no_sight script.session told
-  pub moment : script.moment ≡ current
-  pub only : HasNothingToEnd script
 
 -- all that there is to see of a registry after this history: the changes that were accepted in it, and the history; and
 -- how many events were asked for in it
@@ -80,7 +70,7 @@ MayNotBegin whole past sole origin trees number hives why =
 
 -- a part begins after this past, on these trees after the change of this number, at this moment; or none does, and why
 abbrev pub BeginsOrNot : List HistoryEntry → List HistoryEntry → Bool → EngineView → List TreeMap → ℕ → ℕ → ℕ → Result Part Refusal → Type 0
-BeginsOrNot whole past sole origin trees number hives moment (Ok part) = (part.past ≡ past) × (part.sole ≡ sole) × (part.start ≡ origin) × (part.trees ≡ trees) × (part.number ≡ number) × (part.hives ≡ hives) × IsBegun sole origin trees number hives moment part.script
+BeginsOrNot whole past sole origin trees number hives moment (Ok part) = (part.past ≡ past) × (part.sole ≡ sole) × (part.start ≡ origin) × (part.trees ≡ trees) × (part.number ≡ number) × (part.hives ≡ hives) × IsBegun sole origin trees number hives no_sight moment part.script
 BeginsOrNot whole past sole origin trees number hives moment (Err why) = MayNotBegin whole past sole origin trees number hives why
 
 -- why a history isn't folded of which all is durable: there is no memory, or the device has failed
@@ -116,14 +106,6 @@ kind_text Continued number = []
 abbrev pub start_text : PartKind → Result Part Refusal → List ℕ
 start_text kind (Ok part) = kind_text kind part.number
 start_text kind (Err why) = []
-
--- the number of a change that a reply tells, or 0
-abbrev pub number_told : ReplyLine → ℕ
-number_told (reply.Accepted number) = number
-number_told (reply.Created levels number) = number
-number_told (reply.Committed number) = number
-number_told (reply.Flushed number) = number
-number_told _ = 0
 
 -- by the number of a change, three quarters of the changes that a history may have were accepted in a part
 abbrev pub IsDue : ℕ → Part → ℕ → Type 0

@@ -17,7 +17,7 @@ use Rattle.script_runner.specs.Scripts.{line_asked}
 use Rattle.script_loop.specs.declared.end_of_script.EndOfScript.{EndOfScript}
 use Rattle.script_loop.specs.declared.end_of_script.EndOfScript.TheVariants.{Broken}
 use Rattle.histories.specs.Points.{HistoryEntry}
-use Rattle.registry_runner.specs.Scripts.{Script, Answers, IsFlushed}
+use Rattle.registry_lines.specs.Scripts.{Script, Answers, IsFlushed}
 use Rattle.registry_runner.specs.Parts.{Part, Folds, KeepsOrFolds, start_text, with_script}
 use Rattle.registry_runner.specs.declared.parts.NextPart.{NextPart}
 use Rattle.registry_runner.specs.declared.parts.PartKind.TheVariants.{Folded}

@@ -23,14 +23,14 @@ use Rattle.histories.specs.Leaving.{LeavesHistory}
 use Rattle.engine_invariant.specs.Engines.{EngineView}
 use Rattle.histories.specs.Points.{HistoryEntry}
 use Rattle.ktm_calls.specs.Denials.{denial_of}
-use Rattle.ktm_calls.specs.Moments.{IsOf, SeesMore, Sight}
+use Rattle.ktm_calls.specs.Moments.{IsOf, SeesMore, Sight, no_sight}
 use Rattle.ktm_calls.specs.declared.registry.Denied.{Denied}
 use Rattle.commit_journal.specs.Store.{Store}
 use Rattle.disk_model.specs.FileState.{FileState}
 use Rattle.store_model.specs.Machine.{Machine}
-use Rattle.registry_runner.specs.Parts.{Part, BeginsOrNot, FoldsAt, IsBegun, MayNotBegin, LiesLast, SeesAllAsked, start_text}
+use Rattle.registry_runner.specs.Parts.{Part, BeginsOrNot, FoldsAt, MayNotBegin, LiesLast, SeesAllAsked, start_text}
 use Rattle.registry_runner.specs.Plays.{IsPlayedOn, PlaysOn, WereReadIf}
-use Rattle.registry_runner.specs.Scripts.{Script, Answers, MayNotEnter, MayProbe}
+use Rattle.registry_lines.specs.Scripts.{Script, Answers, IsBegun, MayNotEnter, MayProbe}
 use Rattle.registry_runner.specs.declared.parts.PartStart.{PartStart}
 use Rattle.registry_runner.specs.declared.parts.PartEnd.{PartEnd}
 use Rattle.registry_runner.specs.declared.parts.PartEnd.TheVariants.{RunEnded, ToFold}
@@ -91,7 +91,7 @@ pub record RunsOver (whole : List HistoryEntry) (limit : ℕ) (sole : Bool) (ori
   pub opened : Option (List ℕ)
   pub told : Appends before opened (opened_text number)
   pub script : Script
-  pub begun : IsBegun sole origin trees number hives 0 script
+  pub begun : IsBegun sole origin trees number hives no_sight 0 script
   pub text : List ℕ
   pub came_to : Status
   pub end : Result Part Refusal

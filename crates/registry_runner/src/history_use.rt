@@ -1,9 +1,7 @@
 //! How much of its history a part has used.
 ghost use Rattle.std.specs.Prelude.{◌≡◌, ◌≤◌, ◌*◌, ◌-◌, true};
-ghost use Rattle.registry_runner.specs.Parts.{number_told as number_told_by};
 
 use crate::parts::PartStart;
-use reply_lines::ReplyLine;
 
 /// When the history of a part is folded that no line folds.
 #[derive(Drop)]
@@ -45,18 +43,5 @@ impl HistoryUse {
         let used = number.saturating_sub(self.first);
         let left = self.limit.saturating_sub(used);
         self.next_try = used.saturating_add(left / 2);
-    }
-}
-
-/// The number of a change that a reply tells, or 0.
-pub fn number_told(reply: &ReplyLine) -> u64
-    ensures { result ≡ number_told_by reply.now }
-{
-    match reply {
-        ReplyLine::Accepted { number }
-        | ReplyLine::Created { levels: _, number }
-        | ReplyLine::Committed { number }
-        | ReplyLine::Flushed { number } => *number,
-        _ => 0,
     }
 }

@@ -6,18 +6,12 @@
 //! for byte, but for the lines that fold.
 #![tactic(auto)]
 
-mod caller;
 mod disk_run;
 mod gate;
 mod history_use;
-mod labels;
 mod lines;
 mod part_run;
 mod parts;
 mod run_end;
-mod script;
-mod session_lines;
-mod slots;
-mod transaction_lines;
 
 pub use disk_run::{run, run_unread};

@@ -4,15 +4,15 @@ ghost use Rattle.std.specs.Io.KnownBytes.{Appends, Keeps};
 ghost use Rattle.reply_lines.specs.Replies.{reply_line};
 ghost use Rattle.script_runner.specs.Plays.{is_refusal};
 ghost use Rattle.histories.specs.Points.{HistoryEntry};
-ghost use Rattle.registry_runner.specs.Interpreters.{part_of, script_of};
+ghost use Rattle.registry_lines.specs.Interpreters.{script_of};
+ghost use Rattle.registry_runner.specs.Interpreters.{part_of};
 ghost use Rattle.registry_runner.specs.PartLines.{Between};
 
-use crate::caller::Caller;
-use crate::history_use::{HistoryUse, number_told};
+use crate::history_use::HistoryUse;
 use crate::parts::{NextPart, PartKind, PartStart};
-use crate::script::{LineAnswer, Script};
 use histories::Start;
 use refusals::Refusal;
+use registry_lines::{Caller, LineAnswer, Script, number_told};
 use reply_lines::{ReplyLine, Status};
 use script_loop::{Answerer, LineTurn, LoopEnd, run_lines};
 use script_runner::is_refusal;
@@ -69,7 +69,8 @@ impl<O: Start> Drop for PartLines<O> {
 impl<O: Start> PartLines<O> {
     ghost use Rattle.std.specs.Prelude.{◌≡◌, true, IfOk, List};
     ghost use Rattle.histories.specs.Points.{HistoryEntry};
-    ghost use Rattle.registry_runner.specs.Interpreters.{part_of, script_of};
+    ghost use Rattle.registry_lines.specs.Interpreters.{script_of};
+    ghost use Rattle.registry_runner.specs.Interpreters.{part_of};
     ghost use Rattle.registry_runner.specs.Plays.{LinesCome};
 
     /// The lines of a part that begins so, before its first one.
@@ -120,7 +121,7 @@ impl<O: Start> PartLines<O> {
                 next,
                 has_refusal,
             } => {
-                let next = self.script.next_part(why, next, has_refusal);
+                let next = next_part(&self.script, why, next, has_refusal);
                 Ok(LinesEnd::ToFold { next })
             }
         }
@@ -133,7 +134,8 @@ impl<'a, E: StoreEngine, O: Start, R: Wait> Answerer<Caller<'a, E, O, R>> for Pa
     ghost use Rattle.std.specs.Prelude.{◌≡◌, None, List};
     ghost use Rattle.histories.specs.Points.{HistoryEntry};
     ghost use Rattle.script_runner.specs.Scripts.{line_asked};
-    ghost use Rattle.registry_runner.specs.Interpreters.{part_of, script_of};
+    ghost use Rattle.registry_lines.specs.Interpreters.{script_of};
+    ghost use Rattle.registry_runner.specs.Interpreters.{part_of};
     ghost use Rattle.registry_runner.specs.PartLines.{AnswersInPart, StopsInPart, OverHistory};
 
     ghost answers = { λ old line text refused new. OverHistory O.number old.history new.history ((past : List HistoryEntry) → AnswersInPart old.history.limit (part_of past O.sole O.start O.trees O.number O.hives old.script) line text refused (script_of new.script)) };
@@ -181,6 +183,23 @@ impl<'a, E: StoreEngine, O: Start, R: Wait> Answerer<Caller<'a, E, O, R>> for Pa
             Ok(None) => Ok(LineTurn::NotUnderstood),
             Err(AllocError) => Ok(LineTurn::NoMemory),
         }
+    }
+}
+
+// with what the next part goes on, if the history is folded before the line of this number
+fn next_part<O: Start>(script: &Script<O>, kind: PartKind, line: u64, has_refusal: bool) -> NextPart
+    ensures { result ≡ record {
+      kind = kind;
+      line = line;
+      moment = (script_of script.now).moment;
+      has_refusal = has_refusal;
+    } }
+{
+    NextPart {
+        kind,
+        line,
+        moment: script.moment,
+        has_refusal,
     }
 }
 

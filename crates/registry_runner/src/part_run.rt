@@ -6,23 +6,23 @@ ghost use Rattle.histories.specs.Histories.{HasLedWith};
 ghost use Rattle.histories.specs.Points.{HistoryEntry};
 ghost use Rattle.ktm_calls.specs.Denials.{IsTurnDenied};
 ghost use Rattle.ktm_calls.specs.Moments.{IsOf, SeesMore, no_sight};
-ghost use Rattle.registry_runner.specs.Interpreters.{part_of, script_of};
-ghost use Rattle.registry_runner.specs.Parts.{IsBegun, kind_text};
+ghost use Rattle.registry_lines.specs.Interpreters.{script_of};
+ghost use Rattle.registry_runner.specs.Interpreters.{part_of};
+ghost use Rattle.registry_runner.specs.Parts.{kind_text};
 ghost use Rattle.registry_runner.specs.Plays.{IsUnread, LinesCome, PartComes};
-ghost use Rattle.registry_runner.specs.Scripts.{MayProbe};
+ghost use Rattle.registry_lines.specs.Scripts.{IsBegun, MayProbe};
 ghost use Rattle.registry_runner.specs.Running.{EndsPart, EndsPartAfter, MayBeUndone, MayHaveEnded};
 
-use crate::caller::Caller;
 use crate::gate::EndOfLines;
 use crate::lines::{LinesEnd, PartLines};
 use crate::parts::{NextPart, PartEnd, PartKind, PartStart};
 use crate::run_end::{finish, undone, write_refusal, written_out};
-use crate::script::Script;
 use flusher::try_run_beside;
 use histories::{EventCount, Permission, RequestCount, Start};
 use ktm_calls::{Asker, Denied, Ended, Registry, Stopped};
 use published_trees::{ChangeCount, SeenChanges};
 use refusals::Refusal;
+use registry_lines::{Caller, Script};
 use reply_lines::{ReplyLine, Status};
 use script_loop::{EndOfScript, end};
 use std::alloc::Global;
@@ -138,7 +138,7 @@ fn run_begun<
     reader: &mut B,
     writer: &mut W,
 ) -> (PartEnd, Asker<O>)
-    requires begun { IsBegun O.sole O.start O.trees O.number O.hives start.moment (script_of script) }
+    requires begun { IsBegun O.sole O.start O.trees O.number O.hives no_sight start.moment (script_of script) }
     requires number { start.number ≡ O.number }
     ensures { (whole past : List HistoryEntry) → EndsPart whole past start O.sole O.start O.trees O.number O.hives result.1
         (B.remaining reader.old) (W.contents writer.old) result.0 (B.remaining reader.new) (W.contents writer.new) }
@@ -164,7 +164,7 @@ fn run_told<
     reader: &mut B,
     writer: &mut W,
 ) -> PartEnd
-    requires begun { IsBegun O.sole O.start O.trees O.number O.hives start.moment (script_of lines.old.script) }
+    requires begun { IsBegun O.sole O.start O.trees O.number O.hives no_sight start.moment (script_of lines.old.script) }
     requires first { lines.old.history.first ≡ O.number }
     requires limit { lines.old.history.limit ≡ start.limit }
     requires number { start.number ≡ O.number }

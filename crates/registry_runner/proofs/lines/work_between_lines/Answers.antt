@@ -1,7 +1,7 @@
 use Rattle.std.proofs.Common.{◌*◌, ◌-◌, ◌≤◌, ℕ, inr, rules, subst}
-use Rattle.registry_runner.specs.Interpreters.{script_of}
-use Rattle.registry_runner.specs.Scripts.{HasNothingToEnd}
-use Rattle.registry_runner.proofs.Hearing.{fold_refused}
+use Rattle.registry_lines.specs.Interpreters.{script_of}
+use Rattle.registry_lines.specs.Scripts.{HasNothingToEnd}
+use Rattle.registry_lines.proofs.Hearing.{fold_refused}
 use Rattle.registry_runner.proofs.lines.work_between_lines.Goals as goal
 
 -- a fold that is refused

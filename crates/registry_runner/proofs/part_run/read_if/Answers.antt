@@ -1,4 +1,4 @@
-use Rattle.registry_runner.specs.Interpreters.{script_of}
+use Rattle.registry_lines.specs.Interpreters.{script_of}
 use Rattle.registry_runner.proofs.Ending.{read_all, read_none}
 use Rattle.registry_runner.proofs.part_run.read_if.Goals as goal
 

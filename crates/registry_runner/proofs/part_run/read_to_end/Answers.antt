@@ -1,5 +1,5 @@
 use Rattle.std.specs.Prelude.{IfOk}
-use Rattle.registry_runner.specs.Interpreters.{script_of}
+use Rattle.registry_lines.specs.Interpreters.{script_of}
 use Rattle.registry_runner.proofs.Ending.{ended}
 use Rattle.registry_runner.proofs.PartProofs.{Plays, goes_on, if_err, plays}
 use Rattle.registry_runner.proofs.part_run.read_to_end.Goals as goal

@@ -1,6 +1,6 @@
 use Rattle.std.proofs.Common.{subst}
 use Rattle.std.specs.Io.KnownBytes.{Appends}
-use Rattle.registry_runner.specs.Interpreters.{script_of}
+use Rattle.registry_lines.specs.Interpreters.{script_of}
 use Rattle.registry_runner.specs.Parts.{kind_text}
 use Rattle.registry_runner.specs.Plays.{PartComes}
 use Rattle.registry_runner.proofs.Ending.{folds_from, ran}

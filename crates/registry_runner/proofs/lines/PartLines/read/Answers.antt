@@ -1,8 +1,8 @@
 use Rattle.std.proofs.Common.{◌≡◌, None, subst}
 use Rattle.script_loop.specs.Runs.{EndsLoop}
 use Rattle.script_runner.specs.Scripts.{line_asked}
-use Rattle.registry_runner.specs.Interpreters.{script_of}
-use Rattle.registry_runner.specs.Scripts.{Script}
+use Rattle.registry_lines.specs.Interpreters.{script_of}
+use Rattle.registry_lines.specs.Scripts.{Script}
 use Rattle.registry_runner.specs.declared.history_use.HistoryUse.{HistoryUse}
 use Rattle.registry_runner.specs.declared.lines.PartLines.{PartLines}
 use Rattle.registry_runner.proofs.LineProofs.{Answering, Stopping, Unanswered, ends_so, folds_so}

@@ -2,7 +2,7 @@ use Rattle.std.proofs.Common.{[], refl}
 use Rattle.reply_lines.specs.Replies.{reply_line}
 use Rattle.reply_lines.proofs.Written.{appends_nothing}
 use Rattle.script_loop.proofs.Texts.{appends_kept, kept_appends}
-use Rattle.registry_runner.specs.Interpreters.{script_of}
+use Rattle.registry_lines.specs.Interpreters.{script_of}
 use Rattle.registry_runner.specs.declared.lines.BetweenLines.TheVariants.{GoOn, ToFold}
 use Rattle.registry_runner.proofs.LineProofs.{answered_then, folds_line}
 use Rattle.registry_runner.proofs.lines.PartLinesAnswererCaller.answer.Goals as goal

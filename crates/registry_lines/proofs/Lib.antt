@@ -1,0 +1,3 @@
+pub mod Hearing
+mod Sessions
+mod Answered

@@ -1,0 +1,4 @@
+pub mod Heard
+pub mod Slots
+pub mod Scripts
+pub mod Interpreters

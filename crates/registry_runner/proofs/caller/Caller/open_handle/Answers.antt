@@ -1,8 +1,0 @@
-use Rattle.store_model.specs.declared.event.Event.TheVariants as event
-use Rattle.registry_runner.proofs.caller.Caller.open_handle.Goals as goal
-
-pub returns-in-Err-clause-refused : goal.returns-in-Err-clause-refused
-returns-in-Err-clause-refused g c =
-    let O = g.O.Origin in
-    let d = c.in-Err.ensures.denied in
-    c.refusal_of.ensures g.O.Start.sole g.O.Start.start O.trees O.number O.hives c.args.session.now.seen c.open_handle.new.session.seen (event.StartSession d.0) tt d.1
