@@ -12,10 +12,10 @@ use Rattle.ktm_calls.specs.Moments.{Sight, Tells}
 use Rattle.shared_store.specs.Accounts.{AskTogether, EndsOrNot, IsAccountOf}
 use Rattle.shared_store.specs.declared.account.Account.{Account}
 
-module _ {T : Type 0} (tells : EngineView → Sight → Sight → T → Type 0) (sole : Bool) (begun : EngineView) (trees : List TreeMap) (number hives : ℕ) where
+module _ {T : Type 0} (reports : Bool → EngineView → List TreeMap → ℕ → ℕ → Sight → T → Type 0) (sole : Bool) (begun : EngineView) (trees : List TreeMap) (number hives : ℕ) where
   -- one thread more asked for its events
-  pub one_more : (accounts : List (Account T)) (asked : ℕ) (account : Account T) (is : Sight) → AskTogether tells sole begun trees number hives accounts asked → IsAccountOf tells sole begun trees number hives account is
-      → AskTogether tells sole begun trees number hives (accounts ++ account ∷ []) (asked + is.asked)
+  pub one_more : (accounts : List (Account T)) (asked : ℕ) (account : Account T) (is : Sight) → AskTogether reports sole begun trees number hives accounts asked → IsAccountOf reports sole begun trees number hives account is
+      → AskTogether reports sole begun trees number hives (accounts ++ account ∷ []) (asked + is.asked)
   one_more [] asked account is none of = (is, 0, of, refl, omega (arith, none))
   one_more (first ∷ accounts) asked account is t of = (t.0, t.1 + is.asked, t.2, one_more accounts t.1 account is t.3 of, omega (arith, t.4))
 

@@ -39,16 +39,16 @@ Did tells sole begun trees number hives is (Ok report) = HasWorked tells sole be
 Did tells sole begun trees number hives is (Err why) = HasNoSession sole begun trees number hives is why
 
 -- a thread's work is done: who asked in it is back, and it has reported
-abbrev pub HasFinished : {T : Type 0} → (EngineView → Sight → Sight → T → Type 0) → Bool → EngineView → List TreeMap → ℕ → ℕ → Option Sight → Option (Result T Refusal) → Type 0
-HasFinished {T = T} tells sole begun trees number hives asker report =
-    (is : Sight) × (reported : Result T Refusal) × (asker ≡ Some is) × (report ≡ Some reported) × Did tells sole begun trees number hives is reported
+abbrev pub HasFinished : {T : Type 0} → (Bool → EngineView → List TreeMap → ℕ → ℕ → Sight → T → Type 0) → Bool → EngineView → List TreeMap → ℕ → ℕ → Option Sight → Option T → Type 0
+HasFinished {T = T} reports sole begun trees number hives asker report =
+    (is : Sight) × (reported : T) × (asker ≡ Some is) × (report ≡ Some reported) × reports sole begun trees number hives is reported
 
 -- an account is of a thread that has seen this at its end
-abbrev pub IsAccountOf : {T : Type 0} → (EngineView → Sight → Sight → T → Type 0) → Bool → EngineView → List TreeMap → ℕ → ℕ → Account T → Sight → Type 0
-IsAccountOf tells sole begun trees number hives account is = (account.seen.log ≡ is.history) × Did tells sole begun trees number hives is account.report
+abbrev pub IsAccountOf : {T : Type 0} → (Bool → EngineView → List TreeMap → ℕ → ℕ → Sight → T → Type 0) → Bool → EngineView → List TreeMap → ℕ → ℕ → Account T → Sight → Type 0
+IsAccountOf reports sole begun trees number hives account is = (account.seen.log ≡ is.history) × reports sole begun trees number hives is account.report
 
 -- The accounts are of threads that asked for so many events together.
-abbrev pub AskTogether : {T : Type 0} → (EngineView → Sight → Sight → T → Type 0) → Bool → EngineView → List TreeMap → ℕ → ℕ → List (Account T) → ℕ → Type 0
-AskTogether tells sole begun trees number hives [] asked = asked ≡ 0
-AskTogether tells sole begun trees number hives (account ∷ accounts) asked =
-    (is : Sight) × (others : ℕ) × IsAccountOf tells sole begun trees number hives account is × AskTogether tells sole begun trees number hives accounts others × (asked ≡ is.asked + others)
+abbrev pub AskTogether : {T : Type 0} → (Bool → EngineView → List TreeMap → ℕ → ℕ → Sight → T → Type 0) → Bool → EngineView → List TreeMap → ℕ → ℕ → List (Account T) → ℕ → Type 0
+AskTogether reports sole begun trees number hives [] asked = asked ≡ 0
+AskTogether reports sole begun trees number hives (account ∷ accounts) asked =
+    (is : Sight) × (others : ℕ) × IsAccountOf reports sole begun trees number hives account is × AskTogether reports sole begun trees number hives accounts others × (asked ≡ is.asked + others)

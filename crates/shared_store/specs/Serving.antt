@@ -22,18 +22,18 @@ use Rattle.shared_store.specs.declared.service.Served.{Served}
 -- each thread, by what it had seen of the history; and if nothing was left undone, then no step of the flusher had anything
 -- to do at some moment of it. The threads asked for all that was asked for, beside the ends of the sessions that were still
 -- open at the close.
-pub record TellsOf {T : Type 0} (tells : EngineView → Sight → Sight → T → Type 0) (sole : Bool) (begun : EngineView) (trees : List TreeMap) (number hives : ℕ) (history : List HistoryEntry) (last : EngineView) (threads : ℕ) (served : Served T) : Type 0 where
+pub record TellsOf {T : Type 0} (reports : Bool → EngineView → List TreeMap → ℕ → ℕ → Sight → T → Type 0) (sole : Bool) (begun : EngineView) (trees : List TreeMap) (number hives : ℕ) (history : List HistoryEntry) (last : EngineView) (threads : ℕ) (served : Served T) : Type 0 where
   pub durable : served.durable ≡ last.machine.durable
   pub count : length served.accounts.items ≡ threads
   pub asked : ℕ
-  pub together : AskTogether tells sole begun trees number hives served.accounts.items asked
+  pub together : AskTogether reports sole begun trees number hives served.accounts.items asked
   pub all : IsAllAsked [] asked history
   pub within : All (λ account. IsPrefix account.seen.log history) served.accounts.items
   pub done : served.undone ≡ None → (past : List HistoryEntry) × IsPrefix past history × HasNoWork (end_of begun past)
 
 -- A store was opened on these files, and its registry was shared. One history leads from there to the engine as it was
 -- last, and to the disk that is handed back. What is told is so of it.
-pub record KeepsStore {D T : Type 0} (is_faithful : D → Type 0) (states_of : D → ℕ → ℕ → FileState) (clock_of failures_of : D → ℕ) (tells : EngineView → Sight → Sight → T → Type 0) (files : ℕ → List ℕ) (disk : D) (threads : ℕ) (served : Served T) : Type 0 where
+pub record KeepsStore {D T : Type 0} (is_faithful : D → Type 0) (states_of : D → ℕ → ℕ → FileState) (clock_of failures_of : D → ℕ) (reports : Bool → EngineView → List TreeMap → ℕ → ℕ → Sight → T → Type 0) (files : ℕ → List ℕ) (disk : D) (threads : ℕ) (served : Served T) : Type 0 where
   pub first : D
   pub store : Store
   pub begun : EngineView
@@ -42,7 +42,7 @@ pub record KeepsStore {D T : Type 0} (is_faithful : D → Type 0) (states_of : D
   pub last : EngineView
   pub owner : IsOf begun.machine.opened begun.machine.before begun.machine.bounds.hives last.machine
   pub left : LeavesHistory is_faithful states_of clock_of failures_of store first begun disk history last
-  pub told : TellsOf tells false begun begun.machine.opened begun.machine.before begun.machine.bounds.hives history last threads served
+  pub told : TellsOf reports false begun begun.machine.opened begun.machine.before begun.machine.bounds.hives history last threads served
 
 -- why a store can't be shared: it can't be opened, or the library of readers denies one
 abbrev pub MayNotServe : Type 0 → Type 0 → (ℕ → List ℕ) → Refusal → Type 0

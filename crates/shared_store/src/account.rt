@@ -4,15 +4,14 @@ ghost use Rattle.std.specs.List.{All};
 ghost use mathlib.Core.List.{IsPrefix};
 
 use histories::SeenEvents;
-use refusals::Refusal;
 
 /// What a thread of a client did, and what it had seen at its end of the store's history.
 #[derive(Drop)]
 pub struct Account<T: Drop> {
     /// What was seen: a beginning of the history. It has no bytes.
     pub seen: SeenEvents,
-    /// What was reported. Or why no session could be opened for the thread, which did nothing then.
-    pub report: Result<T, Refusal>,
+    /// What was reported.
+    pub report: T,
 }
 
 /// All that the threads of these accounts had seen, after what was seen before.

@@ -1,26 +1,31 @@
 //! What uses a store.
+ghost use Rattle.std.specs.Prelude.{◌≡◌, ℕ, Bool, List};
 ghost use Rattle.engine_invariant.specs.Engines.{EngineView};
-ghost use Rattle.ktm_calls.specs.Moments.{Sight};
+ghost use Rattle.ktm_calls.specs.Moments.{Sight, no_sight};
+ghost use Rattle.reg_tree.specs.Maps.{TreeMap};
 
 use histories::Start;
-use ktm_calls::{Registry, Session};
+use ktm_calls::{Asker, Registry};
 use std::sync::Wait;
 use store_engine::StoreEngine;
 
-/// What each thread of a program does with the registry of a store that is open, and what it reports of it.
+/// What each thread of a program does with the registry of a store that is open, and what it reports of it. It opens and ends
+/// sessions as it likes, one after another. A client that needs one session for each thread is a
+/// [`SessionClient`](crate::SessionClient).
 pub trait Client<R: Wait, T> {
-    /// What is so of a report, if the history began with this engine: of what the thread's session had seen and asked for as
-    /// it was opened, and at the end of the thread's work.
-    ghost tells: { EngineView → Sight → Sight → T → Type 0 };
+    /// What is so of a report: of a registry whose history begins with this engine, and its list of changes on these trees
+    /// after this number, with so many hives; and of what the thread has seen and asked for at its end.
+    ghost reports: { Bool → EngineView → List TreeMap → ℕ → ℕ → Sight → T → Type 0 };
 
-    /// The work of the thread of this index, in its own session, whatever engine and list of changes stand behind the
-    /// registry. What it reports is so of what its session has seen then, such as what a receipt carries that it learnt.
+    /// The work of the thread of this index, whatever engine and list of changes stand behind the registry. Who asks in it
+    /// comes back, with all that the thread has seen. What it reports is so of that.
     fn run<E: StoreEngine, O: Start>(
         &self,
         rt: &R,
         registry: &Registry<E, O>,
-        session: &mut Session<O>,
+        asker: Asker<O>,
         thread: usize,
-    ) -> T
-        ensures told { tells O.start session.old.seen session.new.seen result };
+    ) -> (Asker<O>, T)
+        requires first { asker ≡ no_sight }
+        ensures done { reports O.sole O.start O.trees O.number O.hives result.0 result.1 };
 }

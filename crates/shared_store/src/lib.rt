@@ -2,16 +2,18 @@
 //!
 //! A [`Client`] is given the registry, for whatever engine and list of changes stand behind it. [`serve`] opens the
 //! store, runs the client with a flusher beside it, and hands the disk back. What each thread reports is so in the history
-//! that is left.
+//! that is left. A [`SessionClient`] has one session for each thread; [`InSession`] makes a client of it.
 #![tactic(auto)]
 
 mod account;
 mod client;
 mod seat;
 mod service;
+mod session_client;
 mod workers;
 
 pub use account::Account;
 pub use client::Client;
 pub use service::{Served, serve};
+pub use session_client::{InSession, SessionClient};
 pub use workers::{Worker, run_workers};

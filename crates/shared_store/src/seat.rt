@@ -2,14 +2,13 @@
 ghost use Rattle.std.specs.Prelude.{◌≡◌, ◌≢◌, ◌+◌, ◌≤◌, [], IfOk, MatchOption, None, Some, false, length, vec_capacity};
 ghost use Rattle.std.specs.List.{All};
 ghost use Rattle.ktm_calls.specs.Moments.{no_sight};
-ghost use Rattle.shared_store.specs.Accounts.{AskTogether, Did, HasFinished};
+ghost use Rattle.shared_store.specs.Accounts.{AskTogether, HasFinished};
 
 use crate::account::Account;
 use crate::client::Client;
 use histories::{EventCount, PermissionPool, Start};
 use ktm_calls::{Asker, Registry};
 use published_trees::SeenChanges;
-use refusals::Refusal;
 use std::alloc::{AllocError, Global};
 use std::sync::Wait;
 use store_engine::StoreEngine;
@@ -20,7 +19,7 @@ pub struct Seat<O: Start, T: Drop> {
     // who asks in it; none while the thread's session has it
     asker: Option<Asker<O>>,
     // none before the thread's work is done
-    report: Option<Result<T, Refusal>>,
+    report: Option<T>,
 }
 
 /// A place for each of so many threads, which have asked for nothing yet; and room for their accounts.
@@ -55,7 +54,7 @@ pub fn new_seats<O: Start, T: Drop>(
 }
 
 impl<O: Start, T: Drop> Seat<O, T> {
-    /// The work of the thread of this place: its session is opened, the client runs, and the session is ended.
+    /// The work of the thread of this place.
     pub fn work<E: StoreEngine, C: Client<R, T>, R: Wait>(
         &mut self,
         rt: &R,
@@ -64,12 +63,12 @@ impl<O: Start, T: Drop> Seat<O, T> {
         thread: usize,
     )
         requires first { self.old.asker ≡ Some no_sight }
-        ensures done { HasFinished C.tells O.sole O.start O.trees O.number O.hives self.new.asker self.new.report }
+        ensures done { HasFinished C.reports O.sole O.start O.trees O.number O.hives self.new.asker self.new.report }
     {
         let Some(asker) = self.asker.take() else {
             unreachable!();
         };
-        let (asker, report) = run(rt, registry, client, thread, asker);
+        let (asker, report) = client.run(rt, registry, asker, thread);
         self.asker = Some(asker);
         self.report = Some(report);
     }
@@ -97,28 +96,6 @@ impl<O: Start, T: Drop> Seat<O, T> {
     }
 }
 
-// a client on one thread, in a session of its own
-fn run<O: Start, E: StoreEngine, C: Client<R, T>, T: Drop, R: Wait>(
-    rt: &R,
-    registry: &Registry<E, O>,
-    client: &C,
-    thread: usize,
-    asker: Asker<O>,
-) -> (Asker<O>, Result<T, Refusal>)
-    requires first { asker ≡ no_sight }
-    ensures did { Did C.tells O.sole O.start O.trees O.number O.hives result.0 result.1 }
-{
-    match registry.session(rt, asker) {
-        Ok((session, _)) => {
-            let mut session = session;
-            let report = client.run(rt, registry, &mut session, thread);
-            let (asker, _) = registry.end_session(rt, session);
-            (asker, Ok(report))
-        }
-        Err((why, asker)) => (asker, Err(why.into())),
-    }
-}
-
 /// The accounts of threads whose work is done, in their order; each permission comes back. There is room for the accounts.
 pub fn settle<O: Start, C: Client<R, T>, T: Drop, R: Wait>(
     seats: Vec<Seat<O, T>>,
@@ -126,14 +103,14 @@ pub fn settle<O: Start, C: Client<R, T>, T: Drop, R: Wait>(
     accounts: &mut Vec<Account<T>>,
 )
     requires several { O.sole ≡ false }
-    requires done { All (λ seat. HasFinished C.tells O.sole O.start O.trees O.number O.hives seat.asker seat.report) seats.items }
+    requires done { All (λ seat. HasFinished C.reports O.sole O.start O.trees O.number O.hives seat.asker seat.report) seats.items }
     requires unused { permissions.old.asked ≡ 0 }
     requires empty { accounts.old.items ≡ [] }
     requires room { length seats.items ≤ vec_capacity accounts.old }
     ensures left { permissions.new.left ≡ permissions.old.left + length seats.items }
     ensures count { length accounts.new.items ≡ length seats.items }
     ensures book { All (λ account. account.seen.book ≡ O.history) accounts.new.items }
-    ensures together { AskTogether C.tells O.sole O.start O.trees O.number O.hives accounts.new.items permissions.new.asked }
+    ensures together { AskTogether C.reports O.sole O.start O.trees O.number O.hives accounts.new.items permissions.new.asked }
 {
     for seat in seats {
         let account = seat.into_account(permissions);

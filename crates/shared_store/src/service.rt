@@ -45,13 +45,11 @@ pub struct Served<T: Drop> {
 }
 
 /// Opens the store that is on a disk, and runs a client of its registry on so many threads, with a flusher on one more.
-/// Each thread has a session of its own, which is ended with it. When all have ended, all that was accepted is made durable
-/// and moved into the hives. The disk is handed back. One history leads from the opening to the end: at each of its moments,
+/// When all have ended, all that was accepted is made durable and moved into the hives. The disk is handed back. One history leads from the opening to the end: at each of its moments,
 /// whatever a crash leaves recovers a beginning of what was accepted by then. Each thread's report is so in a beginning of
 /// it. Nobody but the threads asked for an event of it, but for the ends of sessions that a client left open.
 ///
-/// What no thread can be made for runs on the caller's. No more than 32 sessions are open at once: a thread that gets none
-/// does nothing, and its account has the refusal.
+/// What no thread can be made for runs on the caller's. No more than 32 sessions are open at once.
 ///
 /// Refused if the store isn't opened, and with `NoMemory` or `NoSeat` if there can be no registry; the client doesn't
 /// run then.
@@ -62,7 +60,7 @@ pub fn serve<D: Disk + Send, C: Client<R, T> + Sync, T: Send + Drop, R: Threads 
     client: &C,
     threads: usize,
 ) -> (D, Result<Served<T>, Refusal>)
-    ensures kept { IfOk result.1 (KeepsStore D.faithful D.state_at D.clock D.failures C.tells
+    ensures kept { IfOk result.1 (KeepsStore D.faithful D.state_at D.clock D.failures C.reports
         (seen_in (D.state_at disk (D.clock disk))) result.0 threads) }
     ensures left { LeavesLife (D.failures disk < D.failures result.0) (D.faithful result.0)
         (D.state_at disk (D.clock disk)) (D.state_at result.0 (D.clock result.0)) }
@@ -133,7 +131,7 @@ fn serve_over<
     ensures owner { IsOf O.trees O.number O.hives (E.state result.0).machine }
     ensures opened { IfOk result.1 (λ served. served.opened ≡ sharing.entry.opened) }
     ensures kept { HasLedWith O.start O.safe O.faithful (E.safe result.0) (E.faithful result.0) (E.state result.0)
-        (λ history. IfOk result.1 (TellsOf C.tells O.sole O.start O.trees O.number O.hives history (E.state result.0)
+        (λ history. IfOk result.1 (TellsOf C.reports O.sole O.start O.trees O.number O.hives history (E.state result.0)
         sharing.entry.threads)) }
     ensures refused { IfErr result.1 (λ why. (why ≡ NoMemory) ⊎ (why ≡ NoSeat)) }
 {
@@ -189,7 +187,7 @@ fn share<
 ) -> (Vec<Seat<O, T>>, Result<Stopped, Told>)
     requires first { All (λ seat. seat.asker ≡ Some no_sight) seats.items }
     ensures count { length result.0.items ≡ length seats.items }
-    ensures ended { All (λ seat. HasFinished C.tells O.sole O.start O.trees O.number O.hives seat.asker seat.report) result.0.items }
+    ensures ended { All (λ seat. HasFinished C.reports O.sole O.start O.trees O.number O.hives seat.asker seat.report) result.0.items }
     ensures stopped { IfOk result.1 (IsDone O.history O.start) }
     ensures failed { IfErr result.1 IsFailedStep }
 {
@@ -201,7 +199,7 @@ fn share<
             requires { IsSend E.row × IsSync C.row × IsSync R.row × IsSend T.row × IsSend O.row
                 × All (λ seat. seat.asker ≡ Some no_sight) seats.items }
             ensures { (length result.items ≡ length seats.items)
-                × All (λ seat. HasFinished C.tells O.sole O.start O.trees O.number O.hives seat.asker seat.report) result.items }
+                × All (λ seat. HasFinished C.reports O.sole O.start O.trees O.number O.hives seat.asker seat.report) result.items }
         {
             let mut seats = seats;
             let threads = seats.len().max(1);
@@ -211,7 +209,7 @@ fn share<
                 threads,
                 &|thread: usize, seat: &mut Seat<O, T>|
                     requires { seat.now.asker ≡ Some no_sight }
-                    ensures { HasFinished C.tells O.sole O.start O.trees O.number O.hives seat.exit.now.asker seat.exit.now.report }
+                    ensures { HasFinished C.reports O.sole O.start O.trees O.number O.hives seat.exit.now.asker seat.exit.now.report }
                 { seat.work(rt, registry, client, thread) },
             );
             seats

@@ -10,7 +10,7 @@ use ktm_calls::{Key, Registry, Session};
 use refusals::Refusal;
 use reg_names::{Name, Path};
 use reg_tree::{Data, Trees};
-use shared_store::{Client, Served, serve};
+use shared_store::{InSession, Served, SessionClient, serve};
 use std::alloc::Global;
 use std::fs;
 use std::io::{self, ErrorKind};
@@ -29,7 +29,7 @@ const CHANGES: u64 = 3 * 101;
 #[derive(Drop)]
 struct Counters(Global);
 
-impl<R: Wait + Print> Client<R, u64> for Counters {
+impl<R: Wait + Print> SessionClient<R, u64> for Counters {
     ghost use Rattle.std.specs.Prelude.{◌≤◌};
     ghost use Rattle.histories.specs.Histories.{end_of};
 
@@ -89,7 +89,7 @@ fn main(rt: HostRuntime) -> io::Result<()> {
     if let Err(why) = recovery::create(alloc, &mut disk, Uuid::nil(), &trees) {
         return refused(&rt, why);
     }
-    let (_disk, served) = serve(&rt, alloc, disk, &Counters(alloc), 3);
+    let (_disk, served) = serve(&rt, alloc, disk, &InSession(Counters(alloc)), 3);
     match served {
         Ok(served) => tell(&rt, &served),
         Err(why) => refused(&rt, why),
@@ -97,7 +97,7 @@ fn main(rt: HostRuntime) -> io::Result<()> {
 }
 
 // says how many changes are durable, or why not all are
-fn tell<R: Print>(rt: &R, served: &Served<u64>) -> io::Result<()> {
+fn tell<R: Print>(rt: &R, served: &Served<Result<u64, Refusal>>) -> io::Result<()> {
     if let Some(why) = served.undone {
         return refused(rt, why);
     }

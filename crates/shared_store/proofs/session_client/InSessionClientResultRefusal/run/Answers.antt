@@ -3,7 +3,7 @@ use Rattle.std.specs.Prelude.{IfErr, IfOk}
 use Rattle.ktm_calls.specs.Denials.{IsDenied, IsOpened}
 use Rattle.ktm_calls.specs.Moments.{Sight}
 use Rattle.shared_store.proofs.Accounts.{ends_or_not}
-use Rattle.shared_store.proofs.seat.run.Goals as goal
+use Rattle.shared_store.proofs.session_client.InSessionClientResultRefusal.run.Goals as goal
 
 pub returns-in-Ok : goal.returns-in-Ok
 returns-in-Ok g c =
@@ -12,7 +12,7 @@ returns-in-Ok g c =
     let end = c.end_session-asker in
     let last = c.run-report.new.session in
     record {
-      did = record {
+      done = record {
         session = c.in-Ok.session.number;
         first = c.in-Ok.session.seen;
         told = c.in-Ok.field-0-1;
