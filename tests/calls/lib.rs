@@ -7,6 +7,8 @@ mod cells;
 #[cfg(test)]
 mod claims;
 #[cfg(test)]
+mod desks;
+#[cfg(test)]
 mod dumps;
 #[cfg(test)]
 mod events;

@@ -1,0 +1,5 @@
+pub mod Deliveries
+pub mod Handing
+pub mod LineFeeds
+pub mod Tables
+pub mod Visits

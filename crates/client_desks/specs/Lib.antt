@@ -1,0 +1,10 @@
+pub mod Deliveries
+pub mod Desks
+pub mod Lines
+pub mod Orders
+pub mod Readers
+pub mod Seats
+pub mod Slots
+pub mod Units
+pub mod Visits
+pub mod Writers
