@@ -1,0 +1,91 @@
+//! The clients of a service, each place on a thread of its own.
+ghost use Rattle.std.specs.Prelude.{◌≡◌, List};
+ghost use Rattle.ktm_calls.specs.Moments.{Sight as AnySight};
+ghost use Rattle.store_server.specs.Visits.{ServesInTurn};
+
+use crate::client_visit::VisitStart;
+use crate::history_share::HistoryShare;
+use client_desks::{Arrival, Desk, Desks, Units};
+use histories::Start;
+use ktm_calls::{Asker, Registry};
+use registry_lines::Caller;
+use shared_store::Client;
+use std::alloc::Global;
+use std::sync::Wait;
+use store_engine::StoreEngine;
+
+/// What each thread of a service does: it serves the clients at its desk, one after another, until all are to stop or to
+/// rest.
+#[derive(Drop)]
+pub struct Clients<'a> {
+    /// From where memory is taken.
+    pub alloc: Global,
+    /// The desks.
+    pub desks: &'a Desks,
+    /// The units of work that are active.
+    pub units: &'a Units,
+    /// What is left of the history.
+    pub share: &'a HistoryShare,
+    /// Whether the store is opened for the first time, which the broker is told.
+    pub is_first: bool,
+}
+
+impl<R: Wait + Print> Client<R, ()> for Clients<'_> {
+    ghost use Rattle.store_server.specs.Visits.{ReportsVisits};
+
+    ghost reports = { ReportsVisits };
+
+    fn run<E: StoreEngine, O: Start>(
+        &self,
+        rt: &R,
+        registry: &Registry<E, O>,
+        asker: Asker<O>,
+        thread: usize,
+    ) -> (Asker<O>, ()) {
+        let caller = Caller {
+            rt,
+            alloc: self.alloc,
+            registry,
+        };
+        if thread == 0 && self.is_first {
+            // if that can't be written, all desks are told to stop
+            let _ = self.desks.write_ready(rt);
+        }
+        let Some(desk) = self.desks.desk(thread) else {
+            return (asker, ());
+        };
+        let asker = self.serve_desk(&caller, desk, asker);
+        (asker, ())
+    }
+}
+
+impl Clients<'_> {
+    // serves the clients at a desk, one after another
+    fn serve_desk<E: StoreEngine, O: Start, R: Wait + Print>(
+        &self,
+        caller: &Caller<'_, E, O, R>,
+        desk: Desk<'_>,
+        asker: Asker<O>,
+    ) -> Asker<O>
+        ensures { (visits : List AnySight) × ServesInTurn O.sole O.start O.trees O.number O.hives asker visits result }
+    {
+        let mut asker = asker;
+        for _ in caller.rt.forever() {
+            let start = match desk.wait(caller.rt) {
+                Arrival::Client => VisitStart {
+                    moment: 0,
+                    line: 1,
+                    is_resumed: false,
+                },
+                Arrival::Resumed { moment, line } => VisitStart {
+                    moment,
+                    line,
+                    is_resumed: true,
+                },
+                Arrival::Rest | Arrival::Stop => return asker,
+            };
+            asker = self.serve_client(caller, desk, start, asker);
+        }
+        unreachable!()
+    }
+}
