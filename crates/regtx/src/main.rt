@@ -1,5 +1,6 @@
 //! The program `regtx`: reads the words of its command line, and leaves the work to the crates below: scripts to
-//! `script_runner`, `registry_runner`, `crash_lab` and `crash_sweep`, stores and hives to those that the page names.
+//! `script_runner`, `registry_runner`, `crash_lab` and `crash_sweep`, a service to `store_server`, stores and hives to
+//! those that the page names.
 //!
 //! Everything is printed to standard output, each reply at once if a script comes from a pipe or a keyboard. If
 //! standard error is a terminal, or `REGTX_HINTS` is `1`, it shows why something can't be done. If standard output is
@@ -22,6 +23,7 @@ mod kept_command;
 mod key_words;
 mod lock_wait;
 mod script_commands;
+mod serve_command;
 mod store_commands;
 mod store_disk;
 mod tasks;
@@ -45,6 +47,7 @@ use crate::input_file::opened;
 use crate::kept_command::{parse_kept, tell_kept};
 use crate::lock_wait::{Access, LockWait, take_wait};
 use crate::script_commands::{InMemory, play_script, run_script};
+use crate::serve_command::serve_store;
 use crate::store_commands::{import_store, new_store, upgrade_store};
 use crate::store_disk::StoreDisk;
 use crate::tasks::Task;
@@ -152,6 +155,7 @@ fn run<
         } => import_store(rt, output, folder, id, &sources),
         Task::Upgrade { source, folder } => upgrade_store(rt, output, opener, source, folder),
         Task::Run { folder, script } => run_script(rt, output, opener, folder, script),
+        Task::Serve { folder } => serve_store(rt, output, opener, folder),
         Task::Apply {
             folder,
             file,

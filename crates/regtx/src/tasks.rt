@@ -30,6 +30,11 @@ pub enum Task<'a> {
         /// The path of the script.
         script: &'a str,
     },
+    /// `serve DIR`: a store is to be served to the clients of a broker.
+    Serve {
+        /// The folder of the store.
+        folder: &'a str,
+    },
     /// `dump FILE`: a hive is to be printed.
     Dump {
         /// The path of the hive's file.

@@ -18,7 +18,7 @@ impl fmt::Display for Usage {
 }
 
 /// How each command is used.
-pub const USAGES: [Usage; 27] = [
+pub const USAGES: [Usage; 28] = [
     Usage {
         name: "new",
         call: "new DIR ID COUNT",
@@ -38,6 +38,11 @@ pub const USAGES: [Usage; 27] = [
         name: "run",
         call: "run DIR SCRIPT",
         does: "runs a script on a store, one reply per line",
+    },
+    Usage {
+        name: "serve",
+        call: "serve DIR",
+        does: "serves a store to the clients of the broker regtxd, by frames on standard input and output",
     },
     Usage {
         name: "apply",

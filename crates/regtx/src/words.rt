@@ -40,6 +40,9 @@ fn parse_command<'a>(alloc: Global, words: &'a [String]) -> Result<Task<'a>, Com
             folder: text(given, "DIR")?,
             script: text(given, "SCRIPT")?,
         }),
+        Some(("serve", given)) => Ok(Task::Serve {
+            folder: text(given, "DIR")?,
+        }),
         Some(("dump", given)) => Ok(Task::Dump {
             file: text(given, "FILE")?,
         }),
@@ -127,6 +130,7 @@ fn command<'a>(alloc: Global) -> Result<Command<'a>, AllocError> {
     let all = with_one(alloc, all, "sweep", "SCRIPT")?;
     let all = with_one(alloc, all, "dump", "FILE")?;
     let all = with_run(alloc, all)?;
+    let all = with_one(alloc, all, "serve", "DIR")?;
     let all = with_new(alloc, all)?;
     let all = with_import(alloc, all)?;
     let all = with_upgrade(alloc, all)?;
