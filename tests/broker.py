@@ -6,7 +6,7 @@
 Both are built without warnings into a folder that goes with this, and once more for the sanitizers of addresses and of undefined
 behaviour; each part is carried out with each build. The program at the broker's other side is played by the tests, frame by frame
 (tests/broker_frames.py, tests/broker_service.py), or is one of tests/framed_programs.py; the server that `regtxc` asks is a part of
-the test too (tests/broker_client.py). REGTXD_SOURCES is another folder with the sources, such as spoiled ones.
+the test too (tests/broker_client.py).
 
 Each part is given up after PART_SECONDS, and all of this after WHOLE_SECONDS. The last line is 'broker: N passed, M failed'; status 0
 if none failed.
@@ -27,12 +27,9 @@ import broker_client  # noqa: E402
 import broker_frames  # noqa: E402
 import broker_service  # noqa: E402
 from broker_bench import Bench  # noqa: E402
+from broker_build import BUILD_SECONDS, SOURCES, build_result, sources_of  # noqa: E402
 from scratch import skip, tell  # noqa: E402
 
-SERVER = os.environ.get("REGTXD_SOURCES") or os.path.join(TOP, "server")
-FLAGS = ["-std=c11", "-Wall", "-Wextra", "-Wpedantic", "-Wshadow", "-Werror"]
-SOURCES = {"regtxd": ["regtxd", "broker", "clients", "frames", "listener", "messages", "options", "program", "systemd"],
-           "regtxc": ["regtxc"]}
 SANITIZERS = ["-g", "-O1", "-fsanitize=address,undefined", "-fno-sanitize-recover=all"]
 BUILDS = {"plain": ["-O2"], "sanitized": SANITIZERS}
 PARTS = [*broker_frames.PARTS, *broker_service.PARTS, *broker_client.PARTS]
@@ -40,8 +37,8 @@ PARTS = [*broker_frames.PARTS, *broker_service.PARTS, *broker_client.PARTS]
 WORKERS = min(10, 2 + 2 * (os.cpu_count() or 1))
 # these come first
 LONGEST = ["wrong_heads", "deaths", "noise", "stops", "order", "slow", "through", "at_random", "rest", "idle"]
-# no build, no part, and not the whole may take longer: far more than they take on a machine that does much else
-BUILD_SECONDS, PART_SECONDS, WHOLE_SECONDS = 300, 300, 1_200
+# no part, and not the whole may take longer: far more than they take on a machine that does much else
+PART_SECONDS, WHOLE_SECONDS = 300, 1_200
 PROBES, PROBE_SECONDS = 20, 30
 # the path of a socket has 107 bytes at most: a longer path of temporary folders has no room for those of this
 LONGEST_FOLDER = 40
@@ -61,12 +58,6 @@ def are_sanitizers_there(folder):
             subprocess.run([target], capture_output=True, timeout=PROBE_SECONDS).returncode for _ in range(PROBES))
     except subprocess.TimeoutExpired:
         return False
-
-
-def build_result(sources, target, flags):
-    """What is wrong with a build."""
-    ran = subprocess.run(["cc", *FLAGS, *flags, "-o", target, *sources], capture_output=True, text=True, timeout=BUILD_SECONDS)
-    return f"{target}: {ran.stderr}" if ran.returncode else None
 
 
 def give_up(*_):
@@ -119,8 +110,8 @@ def main():
             del builds["sanitized"]
             skip("broker", "the build for the sanitizers: programs of theirs can't be built, or don't begin each time")
         puppet = pool.submit(build_result, [os.path.join(TOP, "tests", "broker_puppet.c")], f"{folder}/puppet", ["-O1"])
-        built = {name: [pool.submit(build_result, [f"{SERVER}/{source}.c" for source in sources], f"{folder}/{program}.{name}", flags)
-                        for program, sources in SOURCES.items()] for name, flags in builds.items()}
+        built = {name: [pool.submit(build_result, sources_of(program), f"{folder}/{program}.{name}", flags) for program in SOURCES]
+                 for name, flags in builds.items()}
         first, run = sorted(parts, key=lambda part: part.__name__ not in LONGEST), {}
         for name, programs in built.items():
             # those of one build run while the next one is made
