@@ -15,6 +15,9 @@
 - forks: processes that are forked use a store that isn't theirs.
 - times: what a key's last write was at.
 - hints: what programs tell on standard error.
+- connections, gathered, exchanges, once_of_both: connections to a store that is served, what is sent together, and work done once.
+- refused_connections, lost_connections, interrupted_connections, forks_of_connections, killed_servers: how connections don't begin, and
+  how they end.
 - commands: stores that are made, imported and upgraded.
 - ends: programs that end early, that add a line or a status at their end, or that are interrupted; a full disk, a store in use.
 - calls: a run with one commit is ended at each of its calls on files in turn, and another run says whether it is done.
@@ -31,6 +34,7 @@ import re
 import signal
 import subprocess
 import sys
+import textwrap
 import threading
 import uuid
 from datetime import datetime, timezone
@@ -40,9 +44,13 @@ CLIENT = os.path.join(TOP, "clients", "python")
 sys.dont_write_bytecode = True
 sys.path[:0] = [os.path.join(TOP, "tests"), CLIENT, os.path.join(CLIENT, "tests")]
 import regtx  # noqa: E402
+from connections import connections, exchanges, gathered, once_of_both  # noqa: E402
 from lives import dropped, forks, hints, times  # noqa: E402
+from lost import (  # noqa: E402
+    forks_of_connections, interrupted_connections, killed_servers, lost_connections, refused_connections)
 from ours import ID, expect_error, leave, raised, script, store_of, wrapper  # noqa: E402
 from regtx import Kind, Store, Value  # noqa: E402
+from served_store import broker_in, served, short_folder  # noqa: E402
 from trees import conflicts, trees  # noqa: E402
 from scratch import expect, finish, memory, noting_library, program_at, tell  # noqa: E402
 
@@ -201,7 +209,7 @@ def refusals(program):
         error = raised(lambda: store.set_value("0:", "v", Value.binary(bytes(LARGE + 1))))
         yield expect("a large value", (type(error), len(str(error)) < 300), (regtx.TooLarge, True))
         sessions = [store.session() for _ in range(31)]
-        yield expect_error("a session more", store.session, regtx.Refused, "E10 NoSeat: session ")
+        yield expect_error("a session more", store.session, regtx.NoSeat, "E10 NoSeat: session ")
         yield expect("behind it", (store.subkeys("0:"), sessions[30].subkeys("0:")), (["A"], ["A"]))
     program.put("none", b"")
     yield expect_error("no folder", lambda: Store(program.at("nowhere"), program.path), regtx.JournalDamaged, "E16 JournalDamaged")
@@ -594,19 +602,23 @@ def pages(program):
     """The examples of the page print what it shows."""
     with open(os.path.join(CLIENT, "README.md"), encoding="utf-8") as file:
         page = file.read()
-    first, once = re.findall(r"^```python\n(.*?)^```$", page, re.MULTILINE | re.DOTALL)
+    first, connecting, gathering, once = re.findall(r"^```python\n(.*?)^```$", page, re.MULTILINE | re.DOTALL)
     session = re.search(r"^\$ clients/python/example.py \S+ \S+\n(.*?)^```$", page, re.MULTILINE | re.DOTALL)[1]
     printed = re.search(r"^It prints `(.*?)`", page, re.MULTILINE)[1]
     environment = dict(os.environ, PATH=f"{program.home}:{os.environ['PATH']}", PYTHONPATH=CLIENT, PYTHONDONTWRITEBYTECODE="1")
     example = os.path.join(CLIENT, "example.py")
     # the unit of work is done once: to create its key again would answer 0
     twice = f"import regtx, uuid\n{once}\nfor _ in range(2): once(uuid.UUID(int=5), lambda t: print(t.create_key('0:Once')))"
+    gathering = f"import regtx\nwith regtx.Store('store') as store:\n{textwrap.indent(gathering, '    ')}"
     again = "was installed by change 1\n" + session.partition("\n")[2]
-    for title, words, wanted in [
-            ("the first example", ["-c", first], f"{printed}\n"), ("once", ["-c", twice], "1\n"),
-            ("the example", [example, "shop", program.path], session), ("the same again", [example, "shop"], again)]:
-        ran = subprocess.run([sys.executable, *words], cwd=program.home, env=environment, capture_output=True, text=True, timeout=60)
-        yield expect(title, (ran.stdout, ran.stderr, ran.returncode), (wanted, "", 0))
+    with served(program, broker_in(program), "page", hives=2) as it:
+        connecting = connecting.replace("/run/regtx/app.sock", it.path)
+        for title, words, wanted in [
+                ("the first example", ["-c", first], f"{printed}\n"), ("once", ["-c", twice], "1\n"), ("together", ["-c", gathering], ""),
+                ("connecting", ["-c", connecting], "1\n"), ("connecting again", ["-c", connecting], "1\n"),
+                ("the example", [example, "shop", program.path], session), ("the same again", [example, "shop"], again)]:
+            ran = subprocess.run([sys.executable, *words], cwd=program.home, env=environment, capture_output=True, text=True, timeout=60)
+            yield expect(title, (ran.stdout, ran.stderr, ran.returncode), (wanted, "", 0))
 
 
 def caught(results):
@@ -623,10 +635,12 @@ def main():
     faulthandler.dump_traceback_later(MOST_SECONDS, exit=True)
     seed = int(sys.argv[2]) if len(sys.argv) == 3 else 20_260
     print(f"seed {seed}")
-    with program_at(sys.argv[1], "python-client-", memory()) as program:
+    with program_at(sys.argv[1], "python-client-", short_folder(memory())) as program:
         library = noting_library(program)
-        parts = {part.__name__: part(program) for part in (values, names, refusals, scopes, sessions, trees, conflicts, dropped, forks, times, hints, commands,
-                                                         ends, pages)}
+        parts = {part.__name__: part(program) for part in (
+            values, names, refusals, scopes, sessions, trees, conflicts, dropped, forks, times, hints, connections, gathered, exchanges,
+            once_of_both, refused_connections, lost_connections, interrupted_connections, forks_of_connections, killed_servers, commands,
+            ends, pages)}
         parts |= {"calls": calls(program, library), "kills": kills(program, library, random.Random(seed))}
         finish([tell(part, list(caught(results))) for part, results in parts.items()])
 

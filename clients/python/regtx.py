@@ -5,8 +5,8 @@ r"""Stores of registry keys and values, changed in transactions by the program `
             t.create_key(r"0:Software\Vendor")
             t.set_value(r"0:Software\Vendor", "Version", regtx.Value.sz("1.0"))
 
-A `Store` starts `regtx run FOLDER /dev/stdin`, sends it one line at a time, and reads the reply to each. README.md beside this
-file is its page; docs/SCRIPTS.md has the lines and what each does.
+A `Store` starts `regtx run FOLDER /dev/stdin`, or connects to a server that has the store; it sends lines, and reads the reply to
+each. README.md beside this file is its page; docs/SCRIPTS.md has the lines and what each does.
 
 A key is given as `HIVE:PATH`, such as `0:Software\Vendor`; `key_path` makes one of a hive's number and names. The name "" is
 that of the default value.
@@ -14,22 +14,55 @@ that of the default value.
 from __future__ import annotations
 
 import os
+import random
 import time
 import uuid
-from typing import Callable, List, Optional, Sequence, Tuple
+from typing import Callable, List, Optional, Sequence, Tuple, TypeVar, Union
 
+from regtx_connection import Connection, Path
 from regtx_errors import (  # noqa: F401
     BadName, CannotMake, CannotOpen, CannotRead, CommandFailed, CommitUnknown, Conflict, DecodeError, DiskFault, Faulted,
-    HasSubkeys, HistoryFull, HiveDamaged, JournalDamaged, NoMemory, NotActive, NotFound, OtherProcess, Refused, RegtxError, RunEnded, ScopeEnded,
-    TooLarge, Unsupported)
+    HasSubkeys, HistoryFull, HiveDamaged, JournalDamaged, NoMemory, NoSeat, NoSuchHandle, NotActive, NotFound, NotTrusted, OtherProcess,
+    Refused, RegtxError, RunEnded, ScopeEnded, TooLarge, Unsupported)
 from regtx_names import KeyInfo, key_path, key_word, moment_of, read_name, unit_word, value_name_word
-from regtx_run import Folder, Run, carry_out
+from regtx_program import Child, Folder, carry_out
+from regtx_requests import Writes, create_line, delete_line, set_line, unset_line
+from regtx_run import MOST_BYTES, MOST_LINES, Run
 from regtx_values import Kind, Value
 
 __version__ = "0.9.0"
 # whichever file has it, a user knows it by this module
 for _kind in [each for each in vars().values() if isinstance(each, type) and each.__module__.startswith("regtx_")]:
     _kind.__module__ = __name__
+# how long it is waited for another writer, in seconds: at first, and at most
+FIRST_PAUSE, LONGEST_PAUSE = 0.005, 1.0
+_Answer = TypeVar("_Answer")
+
+
+def _again(work: Callable[[], _Answer], tries: int) -> _Answer:
+    """What work answers. It is carried out again if another writer is in its way, so many times in all."""
+    pause = FIRST_PAUSE
+    for _ in range(1, tries):
+        try:
+            return work()
+        except (Conflict, NotActive, NoSuchHandle):
+            # a part of it is by chance, so that two writers don't meet again and again
+            time.sleep(pause * random.uniform(0.5, 1))
+            pause = min(2 * pause, LONGEST_PAUSE)
+    return work()
+
+
+def _together(lines: Sequence[str]) -> List[List[str]]:
+    """The lines in parts, each of which is sent at once."""
+    parts: List[List[str]] = []
+    size = MOST_BYTES
+    for line in lines:
+        if size + len(line) > MOST_BYTES or len(parts[-1]) == MOST_LINES:
+            parts.append([])
+            size = 0
+        parts[-1].append(line)
+        size += len(line)
+    return parts
 
 
 class _Requests:
@@ -40,22 +73,20 @@ class _Requests:
 
     def create_key(self, key: str) -> int:
         """Creates the key, and the keys that are missing above it; answers how many were created, 0 if it is there."""
-        words = self._ask(f"create {key_word(key)}", True).split(" ")
+        words = self._ask(create_line(key), True).split(" ")
         return int(words[1]) if words[0] == "created" else 0
 
     def delete_key(self, key: str) -> None:
         """Deletes a key without subkeys."""
-        self._ask(f"delete {key_word(key)}", True)
+        self._ask(delete_line(key), True)
 
     def set_value(self, key: str, name: str, value: Value) -> None:
         """Writes a value. The name "" is the default value's."""
-        if not isinstance(value, Value):
-            raise TypeError(f"a Value is wanted, such as Value.sz('1.0'), and not {type(value).__name__}")
-        self._ask(f"set {key_word(key)} {value_name_word(name)} {int(value.kind)} {value.data.hex() or '-'}", True)
+        self._ask(set_line(key, name, value), True)
 
     def delete_value(self, key: str, name: str) -> None:
         """Deletes a value."""
-        self._ask(f"unset {key_word(key)} {value_name_word(name)}", True)
+        self._ask(unset_line(key, name), True)
 
     def get_value(self, key: str, name: str = "") -> Value:
         """A value."""
@@ -111,31 +142,70 @@ class _InSession(_Requests):
     def _ask(self, request: str, writes: bool = False) -> str:
         return self._run.ask(request, self._number, self._check, writes)
 
+    def _ask_all(self, lines: Sequence[str], main: int, writes: bool = False) -> List[str]:
+        return self._run.ask_all(lines, main, self._number, self._check, writes)
+
     def transaction(self, unit: Optional[uuid.UUID] = None) -> Transaction:
         """Begins a transaction for this unit of work, or for a new one; a scope that commits at its end, or rolls back."""
-        return Transaction(self, uuid.uuid4() if unit is None else unit)
+        t = Transaction(self, uuid.uuid4() if unit is None else unit)
+        t._begin()
+        return t
 
     def delete_tree(self, key: str) -> int:
         with self.transaction() as t:
             return t.delete_tree(key)
 
-    def transact(self, work: Callable[[Transaction], object], unit: Optional[uuid.UUID] = None, tries: int = 10) -> int:
+    def transact(self, work: Work, unit: Optional[uuid.UUID] = None, tries: int = 10) -> int:
         """Carries out work in a transaction, and commits; answers the number of the change, 0 if there were no writes.
 
-        If another writer is in the way (`Conflict`, `NotActive`), all of it is rolled back and tried again, so many times in all. It
-        waits a millisecond before the second time, and then twice as long each time, a tenth of a second at most.
+        Work is a function that is called with the transaction; or `Writes`, whose lines are sent together. If another writer is in
+        the way (`Conflict`, `NotActive`), or the server ended the transaction (`NoSuchHandle`), all of it is rolled back and tried
+        again, so many times in all. It waits up to 5 ms before the second time, and then twice as long each time, a second at most.
         """
-        for done in range(1, tries):
-            try:
-                return self._transact(work, unit)
-            except (Conflict, NotActive):
-                time.sleep(min(0.0005 * 2 ** done, 0.1))
-        return self._transact(work, unit)
+        return _again(lambda: self._transact(work, unit), tries)
 
-    def _transact(self, work: Callable[[Transaction], object], unit: Optional[uuid.UUID]) -> int:
+    def _transact(self, work: Work, unit: Optional[uuid.UUID]) -> int:
+        if isinstance(work, Writes):
+            return Transaction(self, uuid.uuid4() if unit is None else unit)._do_all(work)
         with self.transaction(unit) as t:
             work(t)
         return t.number
+
+    def once(self, unit: uuid.UUID, work: Work, tries: int = 10) -> int:
+        """Does a unit of work once: answers the number of the change that it made, now or before; 0 if it writes nothing.
+
+        It begins the transaction, asks what is kept of the unit, and carries out the work only if that is nothing. If another
+        program, another session or a connection that was lost has the unit at hand, or another writer is in the way, it waits and
+        tries again as `transact` does. After `CommitUnknown` or `RunEnded` call it again, of a `Store` that was opened after that.
+        """
+        return _again(lambda: self._once(unit, work), tries)
+
+    def _once(self, unit: uuid.UUID, work: Work) -> int:
+        self._check_known(unit)
+        t, asked = Transaction(self, unit), f"kept {unit_word(unit)}"
+        if not self._run.common.take(unit):
+            # another thread is about to do it, by another session of this store
+            raise Conflict("E7 Conflict", asked)
+        try:
+            told = t._begin(asked)
+            with t:
+                number = self._number_kept(told, asked)
+                if number is None:
+                    return t._do(work)
+                t.rollback()
+            return number
+        finally:
+            self._run.common.leave(unit)
+
+    def _check_known(self, unit: uuid.UUID) -> None:
+        if unit in self._run.common.unknown:
+            raise CommitUnknown(unit)
+
+    def _number_kept(self, reply: str, asked: str) -> Optional[int]:
+        try:
+            return int(self._run.granted(reply, asked).split(" ")[1])
+        except NotFound:
+            return None
 
 
 class Transaction(_Requests):
@@ -150,7 +220,14 @@ class Transaction(_Requests):
         self.number: Optional[int] = None
         self._session, self._run = session, session._run
         self._label, self._fold, self._is_active = f"t{next(self._run.numbers)}", self._run.folds, True
-        session._ask(f"begin {self._label} {unit_word(unit)}")
+        self._begin_line = f"begin {self._label} {unit_word(unit)}"
+
+    def _begin(self, then: str = "") -> str:
+        """Begins it; the reply to a line that is sent with that."""
+        lines = [self._begin_line, then] if then else [self._begin_line]
+        replies = self._session._ask_all(lines, len(lines) - 1)
+        self._run.granted(replies[0], lines[0])
+        return replies[-1]
 
     def _ask(self, request: str, writes: bool = False) -> str:
         self._check()
@@ -160,24 +237,66 @@ class Transaction(_Requests):
         if not self._is_active or self._fold != self._run.folds:
             raise ScopeEnded(f"the transaction for {self.unit} has ended")
 
+    def write_all(self, writes: Writes) -> None:
+        """Carries out writes, whose lines are sent together. A refusal may come after some of them: roll it back then."""
+        self._check()
+        self._send(self._lines_of(writes))
+
+    def _lines_of(self, writes: Writes) -> List[str]:
+        return [f"tx {self._label} {line}" for line in writes.lines]
+
+    def _send(self, lines: Sequence[str]) -> None:
+        for part in _together(lines):
+            for line, reply in zip(part, self._session._ask_all(part, len(part) - 1, True)):
+                self._run.granted(reply, line)
+
+    def _do(self, work: Work) -> int:
+        """Carries out work, and commits."""
+        if not isinstance(work, Writes):
+            work(self)
+        elif len(work) == 1:
+            return self._commit(self._lines_of(work))
+        else:
+            self._send(self._lines_of(work))
+        return self.commit() if self._is_active else self.number or 0
+
+    def _do_all(self, writes: Writes) -> int:
+        """Begins it, carries out writes, and commits."""
+        lines = [self._begin_line, *self._lines_of(writes)]
+        if len(writes) <= 1:
+            return self._commit(lines)
+        with self:
+            self._send(lines)
+        return self.number
+
     def commit(self) -> int:
         """Commits; answers the number of the change, 0 if there were no writes. It is durable then.
 
         A refused commit rolls the transaction back, but for `CommitUnknown`.
         """
         self._check()
+        return self._commit()
+
+    def _commit(self, before: Sequence[str] = ()) -> int:
+        """Commits and frees its place, by lines that are sent together.
+
+        One write at most may be among the lines before these: a commit is carried out though a write was refused, and has nothing
+        to do then. After two it would make one without the other.
+        """
         self._is_active = False
         line = f"commit {self._label}"
+        lines = [*before, line, f"close {self._label}"]
         try:
-            self.number = int(self._session._ask(line, True).split(" ")[1])
+            replies = self._session._ask_all(lines, len(before), True)
+            for each, reply in zip(lines, replies[:len(before) + 1]):
+                self._run.granted(reply, each)
         except (RunEnded, NoMemory, DiskFault, Faulted) as cause:
             # a commit that was not sent is not done
             if cause.line != line:
                 raise
-            self._run.unknown.add(self.unit)
+            self._run.common.unknown.add(self.unit)
             raise CommitUnknown(self.unit) from cause
-        finally:
-            self._free()
+        self.number = int(replies[len(before)].split(" ")[1])
         return self.number
 
     def is_active(self) -> bool:
@@ -214,25 +333,28 @@ class Transaction(_Requests):
             self._free()
 
 
-class Session(_InSession):
-    """A session beside others of one run. Its transactions are rolled back at its end."""
+# what `transact` and `once` carry out
+Work = Union[Callable[[Transaction], object], Writes]
 
-    def __init__(self, run: Run, number: int):
-        super().__init__(run, number)
-        run.check_process()
-        with run.lock:
-            self._fold, self._is_open = run.folds, True
-            run.enter(number)
+
+class Session(_InSession):
+    """A session beside others of one store. Its transactions are rolled back at its end."""
+
+    def __init__(self, of: Run):
+        of.check_process()
+        with of.lock:
+            self._fold, self._is_open = of.folds, True
+            super().__init__(*of.session())
 
     def _check(self) -> None:
         if not self._is_open or self._fold != self._run.folds:
-            raise ScopeEnded(f"session {self._number} has ended")
+            raise ScopeEnded("the session has ended")
 
     def end(self) -> None:
         """Ends the session."""
         self._check()
         self._is_open = False
-        self._run.ask(f"end {self._number}")
+        self._run.end_session(self._number)
 
     def __enter__(self) -> Session:
         self._check()
@@ -249,7 +371,7 @@ class Session(_InSession):
 
 
 class Store(_InSession):
-    """The store in a folder, and the run on it that begins here. In a `with` it is closed at the end.
+    """The store in a folder, and the run on it that begins here; or one that `connect` answers. In a `with` it is closed at the end.
 
     `program` is the path of `regtx`, or its name if it is on the PATH; `wait` for how many seconds to wait if another program has
     the store.
@@ -259,7 +381,21 @@ class Store(_InSession):
     """
 
     def __init__(self, folder: Folder, program: Folder = "regtx", wait: int = 0):
-        super().__init__(Run(program, folder, wait), 0)
+        super().__init__(Child(program, folder, wait), 0)
+
+    @classmethod
+    def connect(cls, path: Path, server_uid: Optional[int] = None, timeout: Optional[float] = None) -> Store:
+        """The store of the server that listens at a Unix socket, which other programs use at the same time.
+
+        The server has to be one of root, of this process's user, or of the user `server_uid`: `NotTrusted`. `timeout` is how many
+        seconds each of its replies may take, else as long as it takes: after that the connection has ended.
+
+        Changes are numbered and seen by all who are connected. `session` opens another connection, `fold` is refused, and `close`
+        ends the connection alone: writes alone are durable after a commit or a `flush`.
+        """
+        store = cls.__new__(cls)
+        _InSession.__init__(store, Connection(path, server_uid, timeout), 0)
+        return store
 
     @staticmethod
     def create(folder: Folder, store_id: uuid.UUID, hives: int = 1, program: Folder = "regtx") -> None:
@@ -284,20 +420,18 @@ class Store(_InSession):
     @property
     def number(self) -> int:
         """The number of the last change that a reply has told of."""
-        return self._run.number
+        return self._run.common.number
 
     def kept(self, unit: uuid.UUID) -> Optional[int]:
         """The number of the change that the unit of work committed, now or in an earlier run; None if there is none.
 
         The store keeps the last 4,096 units. A commit of this run that ended in `CommitUnknown` raises that again: its outcome is
-        for another run to tell.
+        for another run to tell. Of a server's store `once` is the call that decides, since a connection that was lost may have its
+        commit still to come.
         """
-        if unit in self._run.unknown:
-            raise CommitUnknown(unit)
-        try:
-            return int(self._run.ask(f"kept {unit_word(unit)}").split(" ")[1])
-        except NotFound:
-            return None
+        self._check_known(unit)
+        asked = f"kept {unit_word(unit)}"
+        return self._number_kept(self._run.ask_all([asked], 0)[0], asked)
 
     def flush(self) -> int:
         """Makes all accepted changes durable; answers the number of the last one."""
@@ -308,15 +442,22 @@ class Store(_InSession):
         self._run.at(moment)
 
     def fold(self) -> int:
-        """Makes room for 1,048,576 changes more in this run; answers the last one's number. It ends all transactions and sessions."""
+        """Makes room for 1,048,576 changes more in this run; answers the last one's number. It ends all transactions and sessions.
+
+        A server does so by itself: of its store this is `Unsupported`, and nothing is sent.
+        """
         return self._run.fold()
 
     def session(self) -> Session:
-        """Opens a session; a scope that ends it. At most 31 are open at once."""
-        return Session(self._run, next(self._run.numbers))
+        """Opens a session; a scope that ends it. At most 31 are open at once. Of a server's store it is a further connection."""
+        return Session(self._run)
 
     def close(self) -> None:
-        """Ends the run: all accepted changes become durable and go into the hives. Raises what fails of that."""
+        """Ends the run: all accepted changes become durable and go into the hives. Raises what fails of that.
+
+        Of a server's store it ends the connection and those of its sessions, and rolls back their transactions; it says nothing of
+        the hives.
+        """
         self._run.close()
 
     def __enter__(self) -> Store:

@@ -71,6 +71,14 @@ class NotActive(Refused):
     """E8: the transaction was rolled back by a write alone, which conflicts with it."""
 
 
+class NoSuchHandle(Refused):
+    """E9: the transaction isn't there: a server ended it to make room for changes. Its writes are dropped."""
+
+
+class NoSeat(Refused):
+    """E10: no place is free for one more client, session or transaction."""
+
+
 class HistoryFull(Refused):
     """E12: the run has made 1,048,576 changes since it began, or since `Store.fold`."""
 
@@ -128,8 +136,19 @@ class CannotRead(CommandFailed):
     """A hive's file can't be read."""
 
 
+class NotTrusted(RegtxError):
+    """The server at a socket is one of a user who isn't trusted: `uid`. Nothing was sent, and nothing was read."""
+
+    def __init__(self, path: str, uid: int):
+        super().__init__(path, uid)
+        self.path, self.uid = path, uid
+
+    def _text(self) -> str:
+        return f"the server at {self.path} belongs to user {self.uid}: server_uid={self.uid} trusts it"
+
+
 class RunEnded(RegtxError):
-    """The run has ended, or can't be used any more.
+    """The run has ended or the connection was lost, or it can't be used any more.
 
     `line` is the line that was sent and not answered, if there is one; `status` the exit status of the program, negative after a
     signal, or None if it isn't known.
@@ -144,7 +163,7 @@ class RunEnded(RegtxError):
 
 
 class CommitUnknown(RegtxError):
-    """Whether a transaction has committed isn't known: ask `kept(unit)` of another `Store`, opened after this one is closed.
+    """Whether a transaction has committed isn't known: call `once(unit, work)` of another `Store`, opened after this one is closed.
 
     Its `__cause__` says why: the run ended before the reply came, or a file couldn't be written.
     """
@@ -154,7 +173,7 @@ class CommitUnknown(RegtxError):
         self.unit = unit
 
     def _text(self) -> str:
-        return f"whether {self.unit} has committed isn't known: ask kept() in another run"
+        return f"whether {self.unit} has committed isn't known: ask in another run"
 
 
 class OtherProcess(RegtxError):

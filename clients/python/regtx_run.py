@@ -1,121 +1,158 @@
-"""A run of the program, and its commands."""
+"""What answers lines: the program that runs on a store, or the server of one. What both have in common is here."""
 from __future__ import annotations
 
 import itertools
 import os
 import re
-import subprocess
 import threading
 import uuid
 import weakref
-from typing import Callable, Dict, List, Optional, Set, Tuple, Union
+from typing import Callable, List, Optional, Sequence, Set, Tuple
 
-from regtx_errors import OtherProcess, RegtxError, RunEnded, ending, failure, hinted, last, refusal, shown
+from regtx_errors import OtherProcess, RegtxError, RunEnded, refusal, shown
 from regtx_names import moment_now
 
-Folder = Union[str, "os.PathLike[str]"]
-# the greatest numbers that lines and the program's words can carry
-MOST_MOMENT, MOST_WAIT = 0xffff_ffff_ffff_ffff, 86_400
-# how many bytes of standard error an error has at most
-MOST_HINTS = 4_096
+# the greatest number that a line can carry
+MOST_MOMENT = 0xffff_ffff_ffff_ffff
+# how much is sent together: so many lines that their replies fit into the system's buffers, and nobody waits to write them
+MOST_LINES, MOST_BYTES = 256, 65_536
 
 
-class _Hints:
-    """The standard error of a program, which tells there why something can't be done. It is a file in memory, if there are such."""
+class Common:
+    """What the sessions of one store have in common."""
 
     def __init__(self) -> None:
-        self._read = 0
-        try:
-            self.file = os.fdopen(os.memfd_create("regtx"), "rb", buffering=0)
-        except (AttributeError, OSError):
-            self.file = None
+        self._lock = threading.Lock()
+        # the last change that a reply told of
+        self.number = 0
+        # of later writes, if it was chosen
+        self.moment: Optional[int] = None
+        # units of work whose commit was sent, and may be there or not; and those that `once` is about to do
+        self.unknown: Set[uuid.UUID] = set()
+        self._units: Set[uuid.UUID] = set()
 
-    def on(self, error: RegtxError) -> RegtxError:
-        """The error with what was told since the last one."""
-        if self.file is None or self.file.closed:
-            return error
-        told = os.pread(self.file.fileno(), MOST_HINTS, self._read)
-        self._read += len(told)
-        return hinted(error, told)
+    def note(self, number: int) -> None:
+        with self._lock:
+            self.number = max(self.number, number)
+
+    def take(self, unit: uuid.UUID) -> bool:
+        """Whether nobody else is about to do this unit, which is the caller's then until `leave`."""
+        with self._lock:
+            is_free = unit not in self._units
+            self._units.add(unit)
+            return is_free
+
+    def leave(self, unit: uuid.UUID) -> None:
+        with self._lock:
+            self._units.discard(unit)
 
 
 class Run:
-    """A run of the program, to which one line is sent at a time."""
+    """What answers lines. One thread at a time sends some, and reads their replies."""
 
     NUMBER = re.compile(r"(?:created [0-9]+ )?accepted ([0-9]+)|(?:opened|committed|flushed|folded) ([0-9]+)")
+    # what it is for its user
+    TITLE = "run"
 
-    def __init__(self, program: Folder, folder: Folder, wait: int):
-        self._hints = _Hints()
-        # a process group of its own: Ctrl-C is for the caller, who can still roll back and close then
-        self._child = subprocess.Popen([*_command(program, wait), "run", os.path.abspath(folder), "/dev/stdin"],
-                                       stdin=subprocess.PIPE, stdout=subprocess.PIPE, stderr=self._hints.file, env=_environment(),
-                                       start_new_session=True)
+    def __init__(self, common: Optional[Common] = None):
         self._process = os.getpid()
-        _RUNS.add(self)
-        weakref.finalize(self, _drop, self._child, self._process, self._hints)
-        # one thread at a time has the pipe, and what is sent before a line for its sake
+        self.common = common or Common()
+        # what is sent before a line for its sake belongs to it
         self.lock = threading.RLock()
-        # the session and the moment that the program has; -1 if that isn't known. The moment that was chosen, if one was
+        # the session and the moment that are known there; -1 if that isn't known
         self._session, self._moment = 0, 0
-        self._chosen: Optional[int] = None
         # why no line can be sent any more
         self._over: Optional[str] = None
         self._was_refused = self._is_interrupted = self._is_closed = False
         # of sessions and of labels, none of which is used again
         self.numbers = itertools.count(1)
-        self.number = self.opened_at = self.folds = 0
-        # units of work whose commit was sent, and may be there or not
-        self.unknown: Set[uuid.UUID] = set()
-        self._open()
+        self.opened_at = self.folds = 0
+        _RUNS.add(self)
 
-    def _open(self) -> None:
-        """Reads the line that says that the store is open."""
-        try:
-            reply = self._child.stdout.readline().decode(errors="replace")
-            if reply.startswith("opened "):
-                self._note(reply.rstrip("\n"))
-                self.opened_at = self.number
-                return
-        except BaseException:
-            # it may wait for the store, and wouldn't see the end of its lines
-            self._child.kill()
-            self._end()
-            raise
-        rest, status = self._end()
-        raise self._hints.on(failure((reply + rest).rstrip("\n"), status))
+    # what a program and a connection do each in a way of its own
+
+    def _put(self, lines: bytes) -> None:
+        """Sends lines. That nobody reads them is no failure yet, since replies may have come."""
+        raise NotImplementedError
+
+    def _get(self) -> str:
+        """The next reply with its LF; what there is of it, if no more comes."""
+        raise NotImplementedError
+
+    def _ended(self, reply: str) -> Tuple[str, Optional[int]]:
+        """Why no more comes, with what came in the place of a reply; and the status of a program."""
+        raise NotImplementedError
+
+    def _hinted(self, error: RegtxError) -> RegtxError:
+        """The error with what else was told of it."""
+        return error
+
+    def leave(self) -> None:
+        """After a fork: closes this process's copies of files."""
+        raise NotImplementedError
+
+    def fold(self) -> int:
+        raise NotImplementedError
+
+    def session(self) -> Tuple[Run, int]:
+        """A new session: what answers its lines, and its number there."""
+        raise NotImplementedError
+
+    def end_session(self, number: int) -> None:
+        raise NotImplementedError
+
+    def close(self) -> None:
+        """Ends it, once. In another process it does nothing, and all goes on."""
+        raise NotImplementedError
+
+    # what they do alike
+
+    def _read_opened(self) -> Optional[str]:
+        """Reads the line that says that the store is open; what came in its place, if it didn't come."""
+        reply = self._get()
+        if not reply.startswith("opened ") or not reply.endswith("\n"):
+            return reply
+        self._note(reply[:-1])
+        self.opened_at = int(reply.split(" ")[1])
+        return None
 
     def check_process(self) -> None:
-        """Raises in another process than the one that began the run: replies would go to whoever reads first."""
+        """Raises in another process than the one that began it: replies would go to whoever reads first."""
         if os.getpid() != self._process:
             raise OtherProcess()
 
-    def leave(self) -> None:
-        """After a fork: closes this process's copies of the pipes, since a run doesn't end while anyone may still write to it.
-
-        What is in their buffers is the maker's, and isn't sent from here.
-        """
-        for pipe in (self._child.stdin, self._child.stdout):
-            pipe.raw.close()
-
     def ask(self, line: str, session: Optional[int] = None, check: Callable[[], None] = lambda: None, writes: bool = False) -> str:
-        """The reply to a line, sent in this session if it needs one, at the moment of now if it writes. A refusal is raised.
+        """The reply to a line, sent in this session if it needs one, at the moment of now if it writes. A refusal is raised."""
+        return self.granted(self.ask_all([line], 0, session, check, writes)[0], line)
 
-        The check raises if the session has ended, before anything is sent.
+    def ask_all(self, lines: Sequence[str], main: int, session: Optional[int] = None, check: Callable[[], None] = lambda: None,
+                writes: bool = False) -> List[str]:
+        """The replies to lines that are sent together, refusals too: at least those up to the main line.
+
+        If that wasn't answered, `RunEnded` has it, or no line if nothing was sent. The check raises if the session has ended, before
+        anything is sent.
         """
         self.check_process()
         with self.lock:
             check()
             if session is not None:
                 self.enter(session)
-            if writes:
-                self._set_moment(moment_now() if self._chosen is None else self._chosen)
-            return self._send(line)
+            moment = self._moment_of(writes)
+            before = [] if moment == self._moment else [f"at {moment}"]
+            replies = self._exchange([*before, *lines], len(before) + main)
+            if before:
+                if replies[0] != "ok":
+                    self._over = f"the moment of a write was refused: {replies[0]}"
+                    raise RunEnded(self._over, lines[main])
+                self._moment = moment
+            return replies[len(before):]
 
     def enter(self, session: int) -> None:
         """Makes a session the current one, and opens it if it isn't open."""
         if session != self._session:
             self._session = -1
-            self._send(f"session {session}")
+            line = f"session {session}"
+            self.granted(self._exchange([line], 0)[0], line)
             self._session = session
 
     def at(self, moment: Optional[int]) -> None:
@@ -123,99 +160,47 @@ class Run:
         if moment is not None and not 0 <= moment <= MOST_MOMENT:
             raise ValueError(f"a moment is a number of 64 bits, and not {moment}")
         self.check_process()
-        with self.lock:
-            self._chosen = moment
+        self.common.moment = moment
 
-    def _set_moment(self, moment: int) -> None:
-        if moment != self._moment:
-            self._moment = -1
-            self._send(f"at {moment}")
-            self._moment = moment
+    def _moment_of(self, writes: bool) -> int:
+        if not writes:
+            return self._moment
+        return moment_now() if self.common.moment is None else self.common.moment
 
-    def fold(self) -> int:
-        self.check_process()
-        with self.lock:
-            reply = self._send("fold")
-            self.folds += 1
-            return int(reply.split(" ")[1])
-
-    def _send(self, line: str) -> str:
-        if self._over is not None:
-            raise RunEnded(self._over)
-        try:
-            reply = self._exchange(line)
-        except BaseException:
-            # such as KeyboardInterrupt: the reply would be taken for that to the next line
-            self._is_interrupted, self._over = True, "the run was interrupted within a line: close it, and open the store again"
-            raise
-        if not reply.endswith("\n") or reply.startswith("line "):
-            rest, status = self._end()
-            self._over = f"the run ended by {ending(status)}{last(reply + rest)}"
-            raise self._hints.on(RunEnded(f"{self._over}, before it answered: {shown(line)}", line, status))
-        reply = reply[:-1]
+    def granted(self, reply: str, line: str) -> str:
+        """The reply to a line; a refusal is raised."""
         refused = refusal(reply, line)
         if refused:
-            self._was_refused = True
-            raise self._hints.on(refused)
-        self._note(reply)
+            raise self._hinted(refused)
         return reply
 
-    def _exchange(self, line: str) -> str:
-        """The reply with its LF; what there is of it if the run ends."""
+    def _exchange(self, lines: Sequence[str], main: int) -> List[str]:
+        if self._over is not None:
+            raise RunEnded(self._over)
+        replies: List[str] = []
         try:
-            self._child.stdin.write(f"{line}\n".encode("ascii"))
-            self._child.stdin.flush()
-        except BrokenPipeError:
-            return ""
-        return self._child.stdout.readline().decode(errors="replace")
+            self._put("".join(f"{line}\n" for line in lines).encode("ascii"))
+            reply = self._get()
+            while reply.endswith("\n") and not reply.startswith("line "):
+                replies.append(reply[:-1])
+                reply = self._get() if len(replies) < len(lines) else ""
+        except BaseException:
+            # such as KeyboardInterrupt: the reply would be taken for that to the next line
+            self._is_interrupted, self._over = True, f"the {self.TITLE} was interrupted within a line: close it, and open the store again"
+            raise
+        for each in replies:
+            self._was_refused |= refusal(each) is not None
+            self._note(each)
+        if len(replies) < len(lines):
+            self._over, status = self._ended(reply)
+            if len(replies) <= main:
+                raise self._hinted(RunEnded(f"{self._over}, before it answered: {shown(lines[main])}", lines[main], status))
+        return replies
 
     def _note(self, reply: str) -> None:
         told = self.NUMBER.fullmatch(reply)
         if told:
-            self.number = max(self.number, int(told[1] or told[2]))
-
-    def _end(self) -> Tuple[str, int]:
-        """Ends the script; what is printed after that, and the status."""
-        return _finish(self._child)
-
-    def close(self) -> None:
-        """Ends the run, once. Raises if it ended before, or if its last lines or its status say more than the replies did.
-
-        In another process it does nothing: the run goes on.
-        """
-        if os.getpid() != self._process:
-            return
-        with self.lock:
-            if self._is_closed:
-                return
-            over, self._over, self._is_closed = self._over, "the store is closed", True
-            if self._child.returncode is not None:
-                raise RunEnded(over or "the run ended", None, self._child.returncode)
-            rest, status = self._end()
-            lines, wanted = rest.splitlines(), [int(self._was_refused)]
-            if self._is_interrupted:
-                # the first line may be the reply to the line within which it was; a failure at the end is one of these
-                lines, wanted = [line for line in lines if line.startswith(("E1 ", "E13 ", "E14 "))], [0, 1]
-            if lines or status not in wanted:
-                raise self._hints.on(failure("\n".join(lines), status))
-
-
-def _finish(child: "subprocess.Popen[bytes]") -> Tuple[str, int]:
-    try:
-        child.stdin.close()
-    except BrokenPipeError:
-        pass
-    rest = child.stdout.read().decode(errors="replace")
-    child.stdout.close()
-    return rest, child.wait()
-
-
-def _drop(child: "subprocess.Popen[bytes]", process: int, hints: _Hints) -> None:
-    """Ends a run that nobody can close any more, and waits for that: its store is free then, and no zombie is left."""
-    if hints.file is not None:
-        hints.file.close()
-    if child.returncode is None and os.getpid() == process:
-        _finish(child)
+            self.common.note(int(told[1] or told[2]))
 
 
 _RUNS: "weakref.WeakSet[Run]" = weakref.WeakSet()
@@ -227,21 +212,3 @@ def _leave_all() -> None:
 
 
 os.register_at_fork(after_in_child=_leave_all)
-
-
-def _command(program: Folder, wait: int) -> List[str]:
-    if not isinstance(wait, int) or not 0 <= wait <= MOST_WAIT:
-        raise ValueError(f"wait is a whole number of seconds, 0 to {MOST_WAIT:,}, and not {wait!r}")
-    return [os.fspath(program), *(["wait", str(wait)] if wait else [])]
-
-
-def _environment() -> Dict[str, str]:
-    """The caller's, by which the program tells why something can't be done though standard error is no terminal."""
-    return dict(os.environ, REGTX_HINTS="1")
-
-
-def carry_out(program: Folder, *words: str) -> None:
-    ended = subprocess.run([os.fspath(program), *words], stdin=subprocess.DEVNULL, capture_output=True, env=_environment())
-    printed = ended.stdout.decode(errors="replace").rstrip("\n")
-    if (printed, ended.returncode) != ("ok", 0):
-        raise hinted(failure(printed, ended.returncode), ended.stderr[:MOST_HINTS])
