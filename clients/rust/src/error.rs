@@ -16,12 +16,14 @@ pub enum Error {
     CannotMake(String),
     /// A hive's file can't be read. Its text is [`Error::hints`].
     CannotRead(String),
-    /// The run ended before its time. What was durable is kept; open the store again. Its text is
-    /// [`Error::hints`].
+    /// The run ended before its time, or the connection was lost. What was durable is kept; open
+    /// the store again. Its text is [`Error::hints`].
     Ended(String),
-    /// It isn't known whether a commit was done: ask [`Store::kept`](crate::Store::kept) of this
+    /// It isn't known whether a commit was done: call [`Store::once`](crate::Store::once) for this
     /// unit in a new run. The cause says why no answer came.
     CommitUnknown(Uuid, Box<Error>),
+    /// The server at the socket is one of this user, who isn't trusted. Nothing was sent.
+    NotTrusted(u32),
     /// A name that no call can carry, and why. Nothing was sent.
     WrongName(String, &'static str),
     /// The system refused to start the program, or to pass lines to it.
@@ -94,6 +96,7 @@ impl fmt::Display for Error {
             }
             Error::WrongName(name, why) => write!(f, "no call carries the name {name:?}: {why}"),
             Error::Io(why) => write!(f, "{why}"),
+            Error::NotTrusted(user) => write!(f, "the server is one of user {user}"),
             Error::OtherProcess => write!(f, "another process opened the store"),
             Error::Reply(reply) => write!(f, "not a reply: {reply:?}"),
         }?;

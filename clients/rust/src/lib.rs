@@ -1,10 +1,14 @@
 #![doc = include_str!("../README.md")]
-#![forbid(unsafe_code)]
+#![deny(unsafe_code)]
 #![warn(missing_docs)]
 
+mod connection;
 mod error;
 mod hints;
 mod key;
+mod link;
+mod peer;
+mod program;
 mod refusal;
 mod reply;
 mod requests;
@@ -14,6 +18,8 @@ mod store;
 mod transaction;
 mod uuid;
 mod value;
+mod work;
+mod writes;
 
 pub use error::Error;
 pub use key::Key;
@@ -24,3 +30,4 @@ pub use store::{moment_of, Options, Store};
 pub use transaction::Transaction;
 pub use uuid::{ParseUuidError, Uuid};
 pub use value::{Kind, Value};
+pub use writes::Writes;

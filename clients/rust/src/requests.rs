@@ -4,7 +4,6 @@ use crate::key::value_name_word;
 use crate::reply::{self, understood};
 use crate::{Error, Key, Value};
 use scope::Scope;
-use std::fmt::Write;
 
 pub(crate) mod scope {
     use crate::run::Run;
@@ -34,7 +33,7 @@ pub(crate) mod scope {
         /// The same of a request that writes, at the moment of now or the one that was chosen.
         fn write(&self, request: &str) -> Result<String, Error> {
             let (run, session) = self.place();
-            run.borrow_mut().write(session, &self.line(request))
+            run.borrow_mut().write(session, self.line(request))
         }
 
         /// What the reply to a write says, or what stands behind the levels that were created.
@@ -76,7 +75,7 @@ pub trait Requests: Scope {
     /// Creates a key, and the keys above it that are missing, 32 at most. Refused: TooDeep,
     /// TooLarge, Conflict, NotActive, NotFound (no such hive).
     fn create_key(&self, key: Key<'_>) -> Result<Creation<Self::Accepted>, Error> {
-        let reply = self.write(&format!("create {}", key.word()?))?;
+        let reply = self.write(&lines::create(key)?)?;
         if reply == "opened" {
             return Ok(Creation::Opened);
         }
@@ -93,25 +92,20 @@ pub trait Requests: Scope {
 
     /// Deletes a key without subkeys. Refused: NotFound, HasSubkeys, Fixed, Conflict, NotActive.
     fn delete_key(&self, key: Key<'_>) -> Result<Self::Accepted, Error> {
-        let reply = self.write(&format!("delete {}", key.word()?))?;
+        let reply = self.write(&lines::delete(key)?)?;
         understood(Self::accepted(&reply), reply)
     }
 
     /// Writes a value of a key. The empty name is the default value's. Refused: NotFound (no such
     /// key), TooLarge (over 1,048,576 bytes, for one), Conflict, NotActive.
     fn set_value(&self, key: Key<'_>, name: &str, value: &Value) -> Result<Self::Accepted, Error> {
-        let (key, name) = (key.word()?, value_name_word(name)?);
-        let reply = self.write(&format!(
-            "set {key} {name} {} {}",
-            value.kind.0,
-            hex(&value.data)
-        ))?;
+        let reply = self.write(&lines::set(key, name, value)?)?;
         understood(Self::accepted(&reply), reply)
     }
 
     /// Deletes a value. Refused: NotFound, Conflict, NotActive.
     fn delete_value(&self, key: Key<'_>, name: &str) -> Result<Self::Accepted, Error> {
-        let reply = self.write(&format!("unset {} {}", key.word()?, value_name_word(name)?))?;
+        let reply = self.write(&lines::unset(key, name)?)?;
         understood(Self::accepted(&reply), reply)
     }
 
@@ -196,13 +190,37 @@ fn delete_all(place: &impl Requests, key: Key<'_>) -> Result<u32, Error> {
     Ok(u32::try_from(paths.len()).expect("a store has fewer than 2^32 keys"))
 }
 
-fn hex(data: &[u8]) -> String {
-    if data.is_empty() {
-        return "-".to_owned();
+/// The lines of writes.
+pub(crate) mod lines {
+    use crate::key::value_name_word;
+    use crate::{Error, Key, Value};
+    use std::fmt::Write;
+
+    pub(crate) fn create(key: Key<'_>) -> Result<String, Error> {
+        Ok(format!("create {}", key.word()?))
     }
-    let mut digits = String::with_capacity(2 * data.len());
-    for byte in data {
-        write!(digits, "{byte:02x}").expect("a String takes all that is written");
+
+    pub(crate) fn delete(key: Key<'_>) -> Result<String, Error> {
+        Ok(format!("delete {}", key.word()?))
     }
-    digits
+
+    pub(crate) fn set(key: Key<'_>, name: &str, value: &Value) -> Result<String, Error> {
+        let (key, name, kind) = (key.word()?, value_name_word(name)?, value.kind.0);
+        Ok(format!("set {key} {name} {kind} {}", hex(&value.data)))
+    }
+
+    pub(crate) fn unset(key: Key<'_>, name: &str) -> Result<String, Error> {
+        Ok(format!("unset {} {}", key.word()?, value_name_word(name)?))
+    }
+
+    fn hex(data: &[u8]) -> String {
+        if data.is_empty() {
+            return "-".to_owned();
+        }
+        let mut digits = String::with_capacity(2 * data.len());
+        for byte in data {
+            write!(digits, "{byte:02x}").expect("a String takes all that is written");
+        }
+        digits
+    }
 }

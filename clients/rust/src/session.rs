@@ -1,34 +1,48 @@
 //! Sessions of a store.
 
 use crate::requests::scope::Scope;
-use crate::run::Run;
-use crate::transaction::transact;
-use crate::{reply, Error, Transaction, Uuid};
+use crate::run::{Run, FIRST_SESSION};
+use crate::work::Worker;
+use crate::{reply, Error, Transaction, Uuid, Writes};
 use std::cell::RefCell;
 
 /// A session of a store beside its first one, with transactions of its own. It ends when it is
 /// dropped; an error of that is told by the store's next call.
+///
+/// Of a server's store it is a connection of its own. If that was lost, a drop tells nothing.
 #[derive(Debug)]
 pub struct Session<'a> {
-    run: &'a RefCell<Run>,
-    number: u32,
+    place: Place<'a>,
+}
+
+#[derive(Debug)]
+enum Place<'a> {
+    /// A session of this number in the store's run.
+    In(&'a RefCell<Run>, u32),
+    Own(RefCell<Run>),
 }
 
 impl<'a> Session<'a> {
     pub(crate) fn open(run: &'a RefCell<Run>) -> Result<Self, Error> {
         let mut opened = run.borrow_mut();
         opened.tell()?;
+        if let Some(own) = opened.beside()? {
+            let place = Place::Own(RefCell::new(own));
+            return Ok(Session { place });
+        }
         let number = opened.take_session();
         if let Err(why) = opened.enter(number) {
             opened.free_session(number);
             return Err(why);
         }
-        Ok(Session { run, number })
+        let place = Place::In(run, number);
+        Ok(Session { place })
     }
 
     /// Begins a transaction of this session; see [`Store::transaction`](crate::Store::transaction).
     pub fn transaction(&self, unit: &Uuid) -> Result<Transaction<'_>, Error> {
-        Transaction::begin(self.run, self.number, unit)
+        let (run, number) = self.place();
+        Transaction::begin(run, number, unit)
     }
 
     /// Carries out work in a transaction; see [`Store::transact`](crate::Store::transact).
@@ -38,24 +52,62 @@ impl<'a> Session<'a> {
         tries: u32,
         work: impl FnMut(&Transaction<'_>) -> Result<(), Error>,
     ) -> Result<Option<u64>, Error> {
-        transact(|| self.transaction(unit), tries, work)
+        Worker::of(self, unit, tries).transact(work)
+    }
+
+    /// The same of writes, which are sent together.
+    pub fn transact_writes(
+        &self,
+        unit: &Uuid,
+        tries: u32,
+        writes: &Writes,
+    ) -> Result<Option<u64>, Error> {
+        Worker::of(self, unit, tries).transact_writes(writes)
+    }
+
+    /// Does a unit of work once; see [`Store::once`](crate::Store::once).
+    pub fn once(
+        &self,
+        unit: &Uuid,
+        tries: u32,
+        work: impl FnMut(&Transaction<'_>) -> Result<(), Error>,
+    ) -> Result<Option<u64>, Error> {
+        Worker::of(self, unit, tries).once(work)
+    }
+
+    /// The same of writes, which are sent together.
+    pub fn once_writes(
+        &self,
+        unit: &Uuid,
+        tries: u32,
+        writes: &Writes,
+    ) -> Result<Option<u64>, Error> {
+        Worker::of(self, unit, tries).once_writes(writes)
     }
 
     /// Ends the session.
     pub fn end(self) -> Result<(), Error> {
-        let run = self.run;
-        drop(self);
-        let told = run.borrow_mut().tell();
-        told
+        match &self.place {
+            Place::Own(own) => own.borrow_mut().end(),
+            Place::In(run, _) => {
+                let run = *run;
+                drop(self);
+                let told = run.borrow_mut().tell();
+                told
+            }
+        }
     }
 }
 
 impl Drop for Session<'_> {
     fn drop(&mut self) {
-        let mut run = self.run.borrow_mut();
-        let ended = run.exchange_ok(&format!("end {}", self.number));
-        run.free_session(self.number);
-        run.keep(ended);
+        // an own run ends with its own drop
+        if let Place::In(run, number) = &self.place {
+            let mut run = run.borrow_mut();
+            let ended = run.exchange_ok(&format!("end {number}"));
+            run.free_session(*number);
+            run.keep(ended);
+        }
     }
 }
 
@@ -63,7 +115,10 @@ impl Scope for Session<'_> {
     type Accepted = u64;
 
     fn place(&self) -> (&RefCell<Run>, u32) {
-        (self.run, self.number)
+        match &self.place {
+            Place::In(run, number) => (run, *number),
+            Place::Own(own) => (own, FIRST_SESSION),
+        }
     }
 
     fn begin(&self) -> Result<Option<Transaction<'_>>, Error> {

@@ -4,18 +4,21 @@ use crate::hints::{self, ASKED};
 use crate::reply::{answered, number, understood};
 use crate::requests::scope::Scope;
 use crate::run::{Run, FIRST_SESSION};
-use crate::transaction::transact;
-use crate::{Error, Refusal, Session, Transaction, Uuid};
+use crate::work::Worker;
+use crate::{Error, Refusal, Session, Transaction, Uuid, Writes};
 use std::cell::RefCell;
 use std::path::{Path, PathBuf};
 use std::process::{Command, Stdio};
-use std::time::{SystemTime, UNIX_EPOCH};
+use std::time::{Duration, SystemTime, UNIX_EPOCH};
 
-/// Which program opens a store, and how long it waits for one that is in use.
+/// How a store is opened: which program does it, and how long it waits for one that is in use; or
+/// which servers are trusted, and how long their replies may take.
 #[derive(Clone, Debug)]
 pub struct Options {
     pub(crate) program: PathBuf,
     pub(crate) wait: u32,
+    pub(crate) server_uid: Option<u32>,
+    pub(crate) timeout: Option<Duration>,
 }
 
 impl Options {
@@ -24,6 +27,8 @@ impl Options {
         Options {
             program: "regtx".into(),
             wait: 0,
+            server_uid: None,
+            timeout: None,
         }
     }
 
@@ -36,6 +41,20 @@ impl Options {
     /// How many seconds an opening waits for a store that is in use: up to 86,400, a day.
     pub fn wait(mut self, seconds: u32) -> Self {
         self.wait = seconds;
+        self
+    }
+
+    /// A user whose servers are trusted by a connection, beside those of root and of this process's
+    /// own user.
+    pub fn server_uid(mut self, user: u32) -> Self {
+        self.server_uid = Some(user);
+        self
+    }
+
+    /// How long a server's reply may take, which isn't zero; without it, as long as it takes. A
+    /// connection has ended after that.
+    pub fn timeout(mut self, longest: Duration) -> Self {
+        self.timeout = Some(longest);
         self
     }
 }
@@ -66,9 +85,11 @@ fn make(command: &mut Command) -> Result<(), Error> {
     reply.map_err(|why| why.hinted(hints::text(&made.stderr)))
 }
 
-/// A store that is open, by a run of the program. No other program uses it meanwhile.
+/// A store that is open: by a run of the program, and no other program uses it meanwhile; or by a
+/// connection to a server, which other programs use at the same time.
 ///
 /// It may be sent to another thread; it isn't shared by two, since a run takes one line at a time.
+/// Threads that use one server have a connection each.
 #[derive(Debug)]
 pub struct Store {
     run: RefCell<Run>,
@@ -129,6 +150,21 @@ impl Store {
         })
     }
 
+    /// Connects to the server that listens at a Unix socket. Its program and its `wait` mean nothing
+    /// to that. Refused: NoSeat, if no place is free; Faulted. [`Error::NotTrusted`], if the server
+    /// is another user's than root, this process's user, and the one that the options name.
+    ///
+    /// A session is a further connection, and [`fold`](Self::fold) is refused. A drop or a
+    /// [`close`](Self::close) ends the connection alone: a write alone is durable after a commit or
+    /// a [`flush`](Self::flush).
+    pub fn connect(socket: impl AsRef<Path>, options: &Options) -> Result<Store, Error> {
+        let (run, opened_at) = Run::connect(socket.as_ref(), options)?;
+        Ok(Store {
+            run: RefCell::new(run),
+            opened_at,
+        })
+    }
+
     /// The number of the store's last change when it was opened.
     pub fn opened_at(&self) -> u64 {
         self.opened_at
@@ -142,32 +178,67 @@ impl Store {
     /// Carries out work in a transaction, and commits: the number of the change, none if there were
     /// no writes. What work answers but `Ok` rolls the transaction back.
     ///
-    /// If another writer is in the way (Conflict, NotActive), all of it is rolled back and tried
-    /// again, so many times in all. It waits a millisecond before the second time, and then twice
-    /// as long each time, a tenth of a second at most.
+    /// If another writer is in the way (Conflict, NotActive), or the server ended the transaction
+    /// (NoSuchHandle), all of it is rolled back and tried again, so many times in all. It waits up
+    /// to 5 ms before the second time, and then twice as long each time, a second at most.
     pub fn transact(
         &self,
         unit: &Uuid,
         tries: u32,
         work: impl FnMut(&Transaction<'_>) -> Result<(), Error>,
     ) -> Result<Option<u64>, Error> {
-        transact(|| self.transaction(unit), tries, work)
+        Worker::of(self, unit, tries).transact(work)
     }
 
-    /// Opens a further session. Refused: NoSeat, if 32 are open.
+    /// The same of writes, which are sent together.
+    pub fn transact_writes(
+        &self,
+        unit: &Uuid,
+        tries: u32,
+        writes: &Writes,
+    ) -> Result<Option<u64>, Error> {
+        Worker::of(self, unit, tries).transact_writes(writes)
+    }
+
+    /// Does a unit of work once: the number of the change that it made, now or before; none if it
+    /// writes nothing.
+    ///
+    /// It begins the transaction, asks what is kept of the unit, and carries out the work only if
+    /// that is nothing. If another program, another session or a connection that was lost has the
+    /// unit at hand, or another writer is in the way, it waits and tries again, as
+    /// [`transact`](Self::transact) does. After [`Error::CommitUnknown`] or [`Error::Ended`] call it
+    /// again in a new run.
+    pub fn once(
+        &self,
+        unit: &Uuid,
+        tries: u32,
+        work: impl FnMut(&Transaction<'_>) -> Result<(), Error>,
+    ) -> Result<Option<u64>, Error> {
+        Worker::of(self, unit, tries).once(work)
+    }
+
+    /// The same of writes, which are sent together.
+    pub fn once_writes(
+        &self,
+        unit: &Uuid,
+        tries: u32,
+        writes: &Writes,
+    ) -> Result<Option<u64>, Error> {
+        Worker::of(self, unit, tries).once_writes(writes)
+    }
+
+    /// Opens a further session; of a server's store, a further connection. Refused: NoSeat, if 32
+    /// are open, or the server has no place.
     pub fn session(&self) -> Result<Session<'_>, Error> {
         Session::open(&self.run)
     }
 
     /// The number of the last change that this unit of work committed, if one is kept. To learn of
-    /// a commit without an answer, ask in another run than its own. Refused: Unsupported,
-    /// if the store keeps no outcomes.
+    /// a commit without an answer, ask in another run than its own; of a server's store
+    /// [`once`](Self::once) is the call that decides, since a connection that was lost may have its
+    /// commit still to come. Refused: Unsupported, if the store keeps no outcomes.
     pub fn kept(&self, unit: &Uuid) -> Result<Option<u64>, Error> {
-        match self.ask(&format!("kept {unit}")) {
-            Ok(reply) => understood(number(&reply, "committed"), reply).map(Some),
-            Err(Error::Refused(Refusal::NotFound, _)) => Ok(None),
-            Err(why) => Err(why),
-        }
+        kept_number(self.ask(&format!("kept {unit}")))
     }
 
     /// Returns when all accepted changes are durable: the last one's number, 0 if there is none.
@@ -177,9 +248,14 @@ impl Store {
     }
 
     /// Makes all changes durable, moves them into the hives, and empties the history, of which a
-    /// run holds 1,048,576 changes. Answers the last change's number.
+    /// run holds 1,048,576 changes. Answers the last change's number. A server does so by itself:
+    /// of its store this is Unsupported, and nothing is sent.
     // by `&mut`, since no session or transaction outlives a fold
     pub fn fold(&mut self) -> Result<u64, Error> {
+        if self.run.borrow().is_served() {
+            self.run.borrow().check_process()?;
+            return Err(Error::Refused(Refusal::Unsupported, String::new()));
+        }
         let reply = self.ask("fold")?;
         understood(number(&reply, "folded"), reply)
     }
@@ -194,6 +270,8 @@ impl Store {
     /// Makes all changes durable, moves them into the hives' files, and ends the run. An error that
     /// a drop met is told here, too. A store that is dropped does the same, and tells no error. In
     /// another process than the one that opened the store, both drop its copy, and the run goes on.
+    /// Of a server's store it ends the connection, and returns once its transactions are rolled
+    /// back; it says nothing of the hives.
     pub fn close(self) -> Result<(), Error> {
         self.run.into_inner().end()
     }
@@ -216,6 +294,15 @@ impl Scope for Store {
 
     fn accepted(reply: &str) -> Option<u64> {
         number(reply, "accepted")
+    }
+}
+
+/// What a reply to `kept` tells.
+pub(crate) fn kept_number(answer: Result<String, Error>) -> Result<Option<u64>, Error> {
+    match answer {
+        Ok(reply) => understood(number(&reply, "committed"), reply).map(Some),
+        Err(Error::Refused(Refusal::NotFound, _)) => Ok(None),
+        Err(why) => Err(why),
     }
 }
 

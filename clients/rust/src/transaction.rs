@@ -2,11 +2,10 @@
 
 use crate::reply::{number, understood};
 use crate::requests::scope::Scope;
-use crate::run::Run;
-use crate::{Error, Refusal, Uuid};
-use std::cell::RefCell;
-use std::thread;
-use std::time::Duration;
+use crate::run::{Answer, Run};
+use crate::writes::together;
+use crate::{Error, Uuid, Writes};
+use std::cell::{Cell, RefCell};
 
 /// A transaction: its writes become one change by [`commit`](Self::commit), over all hives.
 ///
@@ -19,24 +18,57 @@ pub struct Transaction<'a> {
     session: u32,
     label: u32,
     unit: Uuid,
+    /// Whether its place is to be freed at its end.
+    is_held: Cell<bool>,
 }
 
 impl<'a> Transaction<'a> {
-    pub(crate) fn begin(run: &'a RefCell<Run>, session: u32, unit: &Uuid) -> Result<Self, Error> {
+    /// One that isn't begun yet.
+    pub(crate) fn of(run: &'a RefCell<Run>, session: u32, unit: &Uuid) -> Result<Self, Error> {
         let mut opened = run.borrow_mut();
         opened.tell()?;
-        opened.enter(session)?;
-        let label = opened.take_label();
-        if let Err(why) = opened.exchange_ok(&format!("begin {label} {unit}")) {
-            opened.free_label(label);
-            return Err(why);
-        }
         Ok(Transaction {
             run,
             session,
-            label,
+            label: opened.take_label(),
             unit: *unit,
+            is_held: Cell::new(false),
         })
+    }
+
+    pub(crate) fn begin(run: &'a RefCell<Run>, session: u32, unit: &Uuid) -> Result<Self, Error> {
+        let tx = Transaction::of(run, session, unit)?;
+        tx.start()?;
+        Ok(tx)
+    }
+
+    pub(crate) fn start(&self) -> Result<(), Error> {
+        let mut run = self.run.borrow_mut();
+        run.enter(self.session)?;
+        run.exchange_ok(&self.line_of_begin())?;
+        self.is_held.set(true);
+        Ok(())
+    }
+
+    /// Begins it, and asks for the outcome of its unit by the same write.
+    pub(crate) fn start_and_ask_kept(&self) -> Result<Answer, Error> {
+        let mut run = self.run.borrow_mut();
+        run.enter(self.session)?;
+        let lines = [self.line_of_begin(), format!("kept {}", self.unit)];
+        let mut answers = run.exchange_all(&lines, 1)?.into_iter();
+        let mut next = || answers.next().unwrap_or_else(|| Err(Error::ended()));
+        self.judge_begun(next())?;
+        Ok(next())
+    }
+
+    fn line_of_begin(&self) -> String {
+        format!("begin {} {}", self.label, self.unit)
+    }
+
+    fn judge_begun(&self, begun: Answer) -> Result<(), Error> {
+        let reply = begun?;
+        self.is_held.set(true);
+        understood((reply == "ok").then_some(()), reply)
     }
 
     /// The unit of work whose outcome is kept.
@@ -58,24 +90,96 @@ impl<'a> Transaction<'a> {
         understood(active, reply)
     }
 
+    /// Carries out writes, which are sent together. A refusal may come after some of them: roll it
+    /// back then. Refused: as each of them.
+    pub fn write_all(&self, writes: &Writes) -> Result<(), Error> {
+        for part in together(self.lines_of(writes)) {
+            let main = part.len() - 1;
+            let answers = self.run.borrow_mut().write_all(self.session, part, main)?;
+            answers.into_iter().try_for_each(judge_write)?;
+        }
+        Ok(())
+    }
+
+    fn lines_of(&self, writes: &Writes) -> Vec<String> {
+        let requests = writes.requests().iter();
+        requests.map(|request| self.line(request)).collect()
+    }
+
     /// Commits, and returns when the change is durable: its number; none if there were no writes.
     ///
     /// A commit that is refused (TooLarge, HistoryFull, JournalFull, NotActive) is rolled back.
-    /// After [`Error::CommitUnknown`] ask [`Store::kept`](crate::Store::kept) in a new run.
+    /// After [`Error::CommitUnknown`] call [`Store::once`](crate::Store::once) in a new run.
     pub fn commit(self) -> Result<Option<u64>, Error> {
+        self.commit_after(Vec::new())
+    }
+
+    /// Carries out writes, and commits.
+    pub(crate) fn commit_writes(self, writes: &Writes) -> Result<Option<u64>, Error> {
+        let lines = self.lines_of(writes);
+        if lines.len() == 1 {
+            return self.commit_after(lines);
+        }
+        self.write_all(writes)?;
+        self.commit()
+    }
+
+    /// Begins it, carries out writes, and commits.
+    pub(crate) fn begin_and_commit(self, writes: &Writes) -> Result<Option<u64>, Error> {
+        let mut lines = vec![self.line_of_begin()];
+        lines.extend(self.lines_of(writes));
+        if lines.len() <= 2 {
+            return self.commit_after(lines);
+        }
+        for part in together(lines) {
+            let main = part.len() - 1;
+            let mut answers = self.run.borrow_mut().write_all(self.session, part, main)?;
+            if !self.is_held.get() {
+                self.judge_begun(answers.remove(0))?;
+            }
+            answers.into_iter().try_for_each(judge_write)?;
+        }
+        self.commit()
+    }
+
+    /// Commits and frees its place, by lines that are sent together, and after these.
+    ///
+    /// One write at most may be among these: a commit is carried out though a write was refused, and
+    /// has nothing to do then. After two it would make one without the other.
+    fn commit_after(self, mut lines: Vec<String>) -> Result<Option<u64>, Error> {
+        let before = lines.len();
+        lines.push(format!("commit {}", self.label));
+        lines.push(format!("close {}", self.label));
         let mut run = self.run.borrow_mut();
         run.tell()?;
         run.enter(self.session)?;
         // a commit that isn't sent isn't done
-        run.stamp()?;
-        let reply = run.exchange(&format!("commit {}", self.label));
-        let committed = reply.and_then(|reply| understood(number(&reply, "committed"), reply));
-        match committed {
-            Ok(number) => Ok((number != 0).then_some(number)),
-            Err(why) if why.leaves_commit_open() => {
-                Err(Error::CommitUnknown(self.unit, Box::new(why)))
+        let may_send = run.may_send();
+        self.is_held.set(may_send && self.is_held.get());
+        let answers = match run.write_all(self.session, lines, before) {
+            Ok(answers) => {
+                self.is_held.set(false);
+                answers
             }
-            Err(why) => Err(why),
+            Err(why) => return Err(self.judge_unanswered(why, may_send)),
+        };
+        let mut answers = answers.into_iter();
+        for answer in answers.by_ref().take(before) {
+            answer?;
+        }
+        let reply = answers.next().unwrap_or_else(|| Err(Error::ended()));
+        match reply.and_then(|reply| understood(number(&reply, "committed"), reply)) {
+            Ok(number) => Ok((number != 0).then_some(number)),
+            Err(why) => Err(self.judge_unanswered(why, true)),
+        }
+    }
+
+    /// The error of a commit that was answered so, or not at all.
+    fn judge_unanswered(&self, why: Error, is_sent: bool) -> Error {
+        if is_sent && why.leaves_commit_open() {
+            Error::CommitUnknown(self.unit, Box::new(why))
+        } else {
+            why
         }
     }
 
@@ -94,12 +198,21 @@ impl<'a> Transaction<'a> {
     }
 }
 
+/// The reply to a write in a transaction.
+fn judge_write(answer: Answer) -> Result<(), Error> {
+    let reply = answer?;
+    let is_write = matches!(reply.as_str(), "ok" | "opened") || reply.starts_with("created ");
+    understood(is_write.then_some(()), reply)
+}
+
 impl Drop for Transaction<'_> {
     fn drop(&mut self) {
         let mut run = self.run.borrow_mut();
-        let closed = self.close(&mut run);
+        if self.is_held.get() {
+            let closed = self.close(&mut run);
+            run.keep(closed);
+        }
         run.free_label(self.label);
-        run.keep(closed);
     }
 }
 
@@ -121,32 +234,4 @@ impl Scope for Transaction<'_> {
     fn accepted(reply: &str) -> Option<()> {
         matches!(reply, "ok" | "").then_some(())
     }
-}
-
-/// Carries out work in a transaction, so many times at most; see `Store::transact`.
-pub(crate) fn transact<'a>(
-    begin: impl Fn() -> Result<Transaction<'a>, Error>,
-    tries: u32,
-    mut work: impl FnMut(&Transaction<'a>) -> Result<(), Error>,
-) -> Result<Option<u64>, Error> {
-    let mut pause = Duration::from_millis(1);
-    for _ in 1..tries {
-        match try_work(&begin, &mut work) {
-            Err(Error::Refused(Refusal::Conflict | Refusal::NotActive, _)) => {
-                thread::sleep(pause);
-                pause = (2 * pause).min(Duration::from_millis(100));
-            }
-            done => return done,
-        }
-    }
-    try_work(&begin, &mut work)
-}
-
-fn try_work<'a>(
-    begin: &impl Fn() -> Result<Transaction<'a>, Error>,
-    work: &mut impl FnMut(&Transaction<'a>) -> Result<(), Error>,
-) -> Result<Option<u64>, Error> {
-    let tx = begin()?;
-    work(&tx)?;
-    tx.commit()
 }

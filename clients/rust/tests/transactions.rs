@@ -3,7 +3,7 @@
 mod common;
 
 use common::{unit, Scratch, SOFTWARE};
-use regtx_client::{Creation, Error, Key, Refusal, Requests, Value};
+use regtx_client::{Creation, Error, Key, Refusal, Requests, Value, Writes};
 
 const SERVICES: Key = Key::new(1, "Services");
 
@@ -183,5 +183,80 @@ fn a_large_transaction_is_refused_at_its_commit() {
         Refusal::TooLarge
     ));
     assert_eq!(store.value_names(SOFTWARE).unwrap(), [""; 0]);
+    store.close().unwrap();
+}
+
+#[test]
+fn writes_are_carried_out_together() {
+    let scratch = Scratch::new();
+    let store = scratch.store();
+    let mut writes = Writes::new();
+    writes.create_key(SERVICES).unwrap();
+    for number in 0..600 {
+        let name = format!("v{number}");
+        writes
+            .set_value(SERVICES, &name, &Value::binary(vec![0; 200]))
+            .unwrap();
+    }
+    assert_eq!(
+        store.transact_writes(&unit(1), 1, &writes).unwrap(),
+        Some(2)
+    );
+    assert_eq!(store.value_names(SERVICES).unwrap().len(), 600);
+    let mut wrong = Writes::new();
+    wrong.create_key(Key::new(1, "A")).unwrap();
+    wrong.delete_key(Key::new(1, "None")).unwrap();
+    wrong.create_key(Key::new(1, "B")).unwrap();
+    assert!(refused(
+        &store.transact_writes(&unit(2), 1, &wrong),
+        Refusal::NotFound
+    ));
+    assert!(refused(
+        &store.once_writes(&unit(2), 1, &wrong),
+        Refusal::NotFound
+    ));
+    let tx = store.transaction(&unit(2)).unwrap();
+    assert!(refused(&tx.write_all(&wrong), Refusal::NotFound));
+    tx.rollback().unwrap();
+    assert_eq!(store.subkeys(Key::new(1, "")).unwrap(), ["Services"]);
+    assert_eq!(
+        store.transact_writes(&unit(3), 1, &Writes::new()).unwrap(),
+        None
+    );
+    assert!(matches!(
+        writes.create_key(Key::new(0, "ä")),
+        Err(Error::WrongName(..))
+    ));
+    store.close().unwrap();
+}
+
+#[test]
+fn a_unit_is_done_once() {
+    let scratch = Scratch::new();
+    let store = scratch.store();
+    let mut times = 0;
+    for _ in 0..2 {
+        let number = store.once(&unit(1), 1, |tx| {
+            times += 1;
+            tx.create_key(SERVICES).map(|_| ())
+        });
+        assert_eq!(number.unwrap(), Some(2));
+    }
+    assert_eq!(times, 1);
+    let mut writes = Writes::new();
+    writes.delete_key(SERVICES).unwrap();
+    for _ in 0..2 {
+        assert_eq!(store.once_writes(&unit(2), 1, &writes).unwrap(), Some(3));
+    }
+    let session = store.session().unwrap();
+    assert_eq!(session.once_writes(&unit(2), 1, &writes).unwrap(), Some(3));
+    assert!(refused(
+        &session.transact_writes(&unit(3), 1, &writes),
+        Refusal::NotFound
+    ));
+    let failed = session.once(&unit(3), 1, |tx| tx.delete_key(SERVICES));
+    assert!(refused(&failed, Refusal::NotFound));
+    drop(session);
+    assert_eq!(store.kept(&unit(3)).unwrap(), None);
     store.close().unwrap();
 }

@@ -4,9 +4,10 @@
 
 use regtx_client::{Key, Options, Store, Uuid};
 use std::fs;
-use std::os::unix::fs::PermissionsExt;
+use std::io::{BufRead, BufReader};
+use std::os::unix::fs::{DirBuilderExt, PermissionsExt};
 use std::path::{Path, PathBuf};
-use std::process::{Command, Output};
+use std::process::{Child, Command, Output, Stdio};
 use std::sync::atomic::{AtomicU32, Ordering};
 
 pub const ID: Uuid = Uuid([0x5e; 16]);
@@ -29,7 +30,8 @@ impl Scratch {
         let number = COUNT.fetch_add(1, Ordering::Relaxed);
         let name = format!("regtx-client-{}-{number}", std::process::id());
         let home = std::env::temp_dir().join(name);
-        fs::create_dir(&home).unwrap();
+        // a broker wants a folder that nobody else may write
+        fs::DirBuilder::new().mode(0o755).create(&home).unwrap();
         let program = std::env::var("REGTX").expect("REGTX is the program");
         Scratch {
             home,
@@ -134,4 +136,70 @@ pub fn spoil(path: &Path, at: usize) {
     let mut bytes = fs::read(path).unwrap();
     bytes[at] ^= 0xff;
     fs::write(path, bytes).unwrap();
+}
+
+/// A broker that serves a store of two hives. `REGTXD` in the environment is its program.
+pub struct Served<'a> {
+    scratch: &'a Scratch,
+    broker: Child,
+}
+
+impl<'a> Served<'a> {
+    pub fn new(scratch: &'a Scratch, options: &[&str]) -> Served<'a> {
+        Store::create(scratch.at("store"), &ID, 2, &scratch.options()).unwrap();
+        Served::again(scratch, options)
+    }
+
+    /// A broker for a store that is there.
+    pub fn again(scratch: &'a Scratch, options: &[&str]) -> Served<'a> {
+        let program = std::env::var("REGTXD").expect("REGTXD is the broker");
+        let mut broker = Command::new(program)
+            .args(options)
+            .arg(scratch.at("socket"))
+            .arg(&scratch.program)
+            .args(["wait", "60", "serve"])
+            .arg(scratch.at("store"))
+            .stdout(Stdio::piped())
+            // it tells there of a program that is killed
+            .stderr(Stdio::null())
+            .spawn()
+            .unwrap();
+        let mut said = String::new();
+        let printed = broker.stdout.take().unwrap();
+        BufReader::new(printed).read_line(&mut said).unwrap();
+        assert_eq!(said, "ready\n");
+        Served { scratch, broker }
+    }
+
+    pub fn socket(&self) -> PathBuf {
+        self.scratch.at("socket")
+    }
+
+    pub fn connect(&self) -> Store {
+        Store::connect(self.socket(), &Options::new()).unwrap()
+    }
+
+    /// Stops the broker, or kills it, and waits for its end.
+    pub fn end(mut self, signal: &str) -> Option<i32> {
+        let broker = self.broker.id().to_string();
+        let sent = Command::new("kill").args([signal, &broker]).status();
+        assert!(sent.unwrap().success());
+        self.broker.wait().unwrap().code()
+    }
+
+    /// Kills the program, and waits for the broker's end.
+    pub fn kill_program(mut self) -> Option<i32> {
+        let broker = self.broker.id();
+        let children = fs::read_to_string(format!("/proc/{broker}/task/{broker}/children"));
+        Victim(children.unwrap().trim().to_owned()).kill();
+        self.broker.wait().unwrap().code()
+    }
+}
+
+impl Drop for Served<'_> {
+    fn drop(&mut self) {
+        // it has ended by now, unless the test failed
+        let _ = self.broker.kill();
+        let _ = self.broker.wait();
+    }
 }
