@@ -8,10 +8,9 @@
 #include <inttypes.h>
 #include <stdio.h>
 #include <string.h>
-#include <time.h>
 
-/* room for a number of 32 bits as text; and how long it is waited for another writer, in ns */
-enum { DIGITS = 11, SHORTEST_PAUSE = 1000000, LONGEST_PAUSE = 100000000 };
+/* room for a number of 32 bits as text */
+enum { DIGITS = 11 };
 
 int regtx_open(const char *folder, const char *program, unsigned wait_seconds, regtx_store **store)
 {
@@ -23,11 +22,7 @@ int regtx_open(const char *folder, const char *program, unsigned wait_seconds, r
         return code;
     (*store)->sessions[REGTX_FIRST_SESSION] = true;
     (*store)->chosen = REGTX_NOW;
-    code = regtx_read_line(*store);
-    if (code == REGTX_OK)
-        code = regtx_failure_of((*store)->text);
-    if (code == REGTX_OK)
-        code = regtx_read_number(*store, "opened", &(*store)->opened_at);
+    code = regtx_read_opened(*store, &(*store)->opened_at);
     if (code) {
         int why = errno;
         regtx_end(*store);
@@ -35,6 +30,14 @@ int regtx_open(const char *folder, const char *program, unsigned wait_seconds, r
         errno = why;
     }
     return code;
+}
+
+int regtx_read_opened(regtx_store *store, uint64_t *opened_at)
+{
+    int code = regtx_read_line(store->link);
+    if (code == REGTX_OK)
+        code = regtx_failure_of(store->link->text);
+    return code ? code : regtx_read_number(store, "opened", opened_at);
 }
 
 int regtx_close(regtx_store *store)
@@ -52,6 +55,13 @@ static bool is_open(const regtx_store *store, uint32_t session)
     return session < SESSIONS && store->sessions[session];
 }
 
+/* A session is a connection of its own. */
+static int connect_beside(regtx_store *store, uint32_t session)
+{
+    int code = store->links[REGTX_FIRST_SESSION].broken;
+    return code ? code : regtx_link_connect(store, session);
+}
+
 int regtx_session(regtx_store *store, uint32_t *session)
 {
     uint32_t free_one = 0;
@@ -59,7 +69,9 @@ int regtx_session(regtx_store *store, uint32_t *session)
         free_one++;
     if (free_one == SESSIONS)
         return REGTX_NO_SEAT;
-    int code = regtx_enter(store, free_one);
+    int code = regtx_check_process(store);
+    if (code == REGTX_OK)
+        code = store->path ? connect_beside(store, free_one) : regtx_enter(store, free_one);
     if (code)
         return code;
     store->sessions[free_one] = true;
@@ -71,35 +83,80 @@ int regtx_session_end(regtx_store *store, uint32_t session)
 {
     if (session == REGTX_FIRST_SESSION || !is_open(store, session))
         return REGTX_NO_SUCH_HANDLE;
+    int code = regtx_check_process(store);
+    if (code)
+        return code;
     store->sessions[session] = false;
     for (size_t at = 0; at < TRANSACTIONS; at++)
         if (store->transactions[at].session == session)
             store->transactions[at].is_there = false;
+    if (store->path)
+        return regtx_link_hang_up(store, session);
     if (store->current == session)
         store->current = NO_SESSION;
     return regtx_judge_ok(store, regtx_ask(store, "end %" PRIu32 "\n", session));
 }
 
-int regtx_transaction(regtx_store *store, uint32_t session, const regtx_uuid *unit, regtx_tx *tx)
+int regtx_find_place(regtx_store *store, uint32_t session, regtx_tx *tx)
 {
-    char uuid[REGTX_UUID_TEXT];
-    uint32_t place = 0;
     if (!is_open(store, session))
         return REGTX_NO_SUCH_HANDLE;
-    while (place < TRANSACTIONS && store->transactions[place].is_there)
-        place++;
-    if (place == TRANSACTIONS)
-        return REGTX_NO_SEAT;
-    regtx_uuid_print(unit, uuid);
-    int code = regtx_enter(store, session);
-    if (code == REGTX_OK)
-        code = regtx_judge_ok(store, regtx_ask(store, "begin %" PRIu32 " %s\n", place + 1, uuid));
+    for (*tx = 1; regtx_is_there(store, *tx);)
+        ++*tx;
+    return *tx > TRANSACTIONS ? REGTX_NO_SEAT : regtx_enter(store, session);
+}
+
+void regtx_take_place(regtx_store *store, regtx_tx tx, uint32_t session)
+{
+    store->transactions[tx - 1].is_there = true;
+    store->transactions[tx - 1].session = session;
+}
+
+void regtx_forget(regtx_store *store, regtx_tx tx)
+{
+    if (regtx_is_there(store, tx))
+        store->transactions[tx - 1].is_there = false;
+}
+
+/* Reads the reply to a begin, and that to a question for the unit's outcome. */
+static int read_begun(regtx_store *store, struct regtx_kept *kept)
+{
+    int code = regtx_judge_ok(store, regtx_next(store));
+    if (kept) {
+        kept->code = regtx_next(store);
+        if (kept->code == REGTX_OK)
+            kept->code = regtx_read_number(store, "committed", &kept->number);
+    }
+    return code;
+}
+
+int regtx_begin(regtx_store *store, uint32_t session, const regtx_uuid *unit,
+                struct regtx_kept *kept, regtx_tx *tx)
+{
+    char uuid[REGTX_UUID_TEXT];
+    struct regtx_lines lines;
+    regtx_tx place;
+    int code = regtx_find_place(store, session, &place);
     if (code)
         return code;
-    store->transactions[place].is_there = true;
-    store->transactions[place].session = session;
-    *tx = place + 1;
+    regtx_uuid_print(unit, uuid);
+    regtx_lines_begin(store, &lines, false);
+    regtx_lines_add(&lines, "begin %" PRIu32 " %s\n", place, uuid);
+    if (kept)
+        regtx_lines_add(&lines, "kept %s\n", uuid);
+    code = regtx_lines_send(store, &lines);
+    if (code == REGTX_OK)
+        code = read_begun(store, kept);
+    if (code)
+        return code;
+    regtx_take_place(store, place, session);
+    *tx = place;
     return REGTX_OK;
+}
+
+int regtx_transaction(regtx_store *store, uint32_t session, const regtx_uuid *unit, regtx_tx *tx)
+{
+    return regtx_begin(store, session, unit, NULL, tx);
 }
 
 /* Frees a transaction's place in the run; one that is active is rolled back. */
@@ -108,8 +165,7 @@ static int release(regtx_store *store, regtx_tx tx)
     int code = regtx_enter_transaction(store, tx);
     if (code == REGTX_OK)
         code = regtx_judge_ok(store, regtx_ask(store, "close %" PRIu32 "\n", tx));
-    if (regtx_is_there(store, tx))
-        store->transactions[tx - 1].is_there = false;
+    regtx_forget(store, tx);
     return code;
 }
 
@@ -121,55 +177,51 @@ static bool is_surely_refused(int code)
                && code != REGTX_DISK_FAULT && code != REGTX_FAULTED);
 }
 
+/* Judges a commit that was sent. */
+static int judge_commit(regtx_store *store, int code)
+{
+    if (code == REGTX_OK || is_surely_refused(code))
+        return code;
+    store->cause = code;
+    return REGTX_COMMIT_UNKNOWN;
+}
+
+int regtx_commit_lines(regtx_store *store, struct regtx_lines *lines, regtx_tx tx,
+                       uint64_t *number)
+{
+    size_t before = lines->count;
+    int was_broken = store->link->broken, first = REGTX_OK;
+    regtx_lines_add(lines, "commit %" PRIu32 "\n", tx);
+    regtx_lines_add(lines, "close %" PRIu32 "\n", tx);
+    int code = regtx_lines_send(store, lines);
+    /* a commit that isn't sent isn't done */
+    if (code)
+        return was_broken || !store->link->broken ? code : judge_commit(store, code);
+    for (; before > 0; before--) {
+        int each = regtx_next(store);
+        first = first ? first : each;
+    }
+    code = regtx_next(store);
+    if (code == REGTX_OK)
+        code = regtx_read_number(store, "committed", number);
+    regtx_settle(store);
+    /* what was refused before it left it nothing to do, and a loss leaves it open */
+    if (first != REGTX_OK && !store->link->broken)
+        return first;
+    return judge_commit(store, code);
+}
+
 int regtx_commit(regtx_store *store, regtx_tx tx, uint64_t *number)
 {
+    struct regtx_lines lines;
     int code = regtx_enter_transaction(store, tx);
-    if (code == REGTX_OK)
-        code = regtx_stamp(store);
-    /* a commit that isn't sent isn't done */
-    if (code == REGTX_OK)
-        code = store->broken;
     if (code == REGTX_OK) {
-        code = regtx_ask(store, "commit %" PRIu32 "\n", tx);
-        if (code == REGTX_OK)
-            code = regtx_read_number(store, "committed", number);
-        if (code != REGTX_OK && !is_surely_refused(code)) {
-            store->cause = code;
-            code = REGTX_COMMIT_UNKNOWN;
-        }
+        regtx_lines_begin(store, &lines, true);
+        code = regtx_commit_lines(store, &lines, tx, number);
     }
-    /* if this fails, the run has ended, and each later call says so */
-    release(store, tx);
+    /* it is freed there too, or the run has ended, and each later call says so */
+    regtx_forget(store, tx);
     return code;
-}
-
-/* Carries out work in a transaction once. */
-static int try_work(regtx_store *store, uint32_t session, const regtx_uuid *unit, regtx_work *work,
-                    void *context, uint64_t *number)
-{
-    regtx_tx tx;
-    int code = regtx_transaction(store, session, unit, &tx);
-    if (code)
-        return code;
-    code = work(store, tx, context);
-    if (code == REGTX_OK)
-        return regtx_commit(store, tx, number);
-    /* if this fails, the run has ended, or work has ended the transaction */
-    regtx_rollback(store, tx);
-    return code;
-}
-
-int regtx_transact(regtx_store *store, uint32_t session, const regtx_uuid *unit, unsigned tries,
-                   regtx_work *work, void *context, uint64_t *number)
-{
-    struct timespec pause = {0, SHORTEST_PAUSE};
-    for (;; tries--) {
-        int code = try_work(store, session, unit, work, context, number);
-        if (tries <= 1 || (code != REGTX_CONFLICT && code != REGTX_NOT_ACTIVE))
-            return code;
-        nanosleep(&pause, NULL);
-        pause.tv_nsec = 2 * pause.tv_nsec < LONGEST_PAUSE ? 2 * pause.tv_nsec : LONGEST_PAUSE;
-    }
 }
 
 int regtx_cause(const regtx_store *store)
@@ -189,27 +241,32 @@ int regtx_is_active(regtx_store *store, regtx_tx tx, bool *active)
         code = regtx_ask(store, "outcome %" PRIu32 "\n", tx);
     if (code)
         return code;
-    *active = strcmp(store->text, "active") == 0;
-    return *active || strcmp(store->text, "rolledback") == 0 ? REGTX_OK : REGTX_REPLY;
+    *active = strcmp(store->link->text, "active") == 0;
+    return *active || strcmp(store->link->text, "rolledback") == 0 ? REGTX_OK : REGTX_REPLY;
 }
 
 int regtx_kept(regtx_store *store, const regtx_uuid *unit, uint64_t *number)
 {
     char uuid[REGTX_UUID_TEXT];
     regtx_uuid_print(unit, uuid);
+    regtx_enter_any(store);
     int code = regtx_ask(store, "kept %s\n", uuid);
     return code ? code : regtx_read_number(store, "committed", number);
 }
 
 int regtx_flush(regtx_store *store, uint64_t *number)
 {
+    regtx_enter_any(store);
     int code = regtx_ask(store, "flush\n");
     return code ? code : regtx_read_number(store, "flushed", number);
 }
 
 int regtx_fold(regtx_store *store, uint64_t *number)
 {
-    int code = regtx_ask(store, "fold\n");
+    int code = regtx_check_process(store);
+    /* a server does so by itself */
+    if (code == REGTX_OK)
+        code = store->path ? REGTX_UNSUPPORTED : regtx_ask(store, "fold\n");
     if (code == REGTX_OK)
         code = regtx_read_number(store, "folded", number);
     if (code)
@@ -224,5 +281,6 @@ int regtx_fold(regtx_store *store, uint64_t *number)
 int regtx_at(regtx_store *store, uint64_t moment)
 {
     store->chosen = moment;
+    regtx_enter_any(store);
     return moment == REGTX_NOW ? regtx_check_process(store) : regtx_stamp(store);
 }

@@ -1,5 +1,6 @@
-/* A store of registry keys and values, kept by the program regtx, which runs beside and is spoken
- * to through a pipe. README.md has an example.
+/* A store of registry keys and values, kept by the program regtx: one that runs beside, and is
+ * spoken to through a pipe; or one that serves the store to several programs, through a socket.
+ * README.md has examples.
  *
  * Every call answers a code: REGTX_OK, a refusal of the store, or a failure of this client. A
  * refusal changes nothing. Beside those that a call names, each may answer REGTX_NO_MEMORY,
@@ -48,9 +49,9 @@ enum {
 
 /* Failures of this client. regtx.h has none of these numbers, so one switch may have all codes. */
 enum {
-    /* the run ended early: close the store, and open it again */
+    /* the run ended early, or the connection was lost: close the store, and open it again */
     REGTX_ENDED = 200,
-    /* the commit may be done or not: ask regtx_kept in a new run */
+    /* the commit may be done or not: call regtx_once in a new run */
     REGTX_COMMIT_UNKNOWN,
     /* the folder is in use, isn't a folder, or can't be opened */
     REGTX_CANNOT_OPEN,
@@ -71,7 +72,9 @@ enum {
     /* another process opened the store, such as the one that was forked; nothing was sent */
     REGTX_OTHER_PROCESS,
     /* a hive's file can't be read */
-    REGTX_CANNOT_READ
+    REGTX_CANNOT_READ,
+    /* the server at the socket is another user's; nothing was sent */
+    REGTX_NOT_TRUSTED
 };
 
 /* The text of a code, such as "E2 NotFound"; of static storage. */
@@ -99,7 +102,8 @@ void regtx_uuid_print(const regtx_uuid *uuid, char text[REGTX_UUID_TEXT]);
 /* A random one, of version 4, from /dev/urandom. REGTX_IO, if that can't be read. */
 int regtx_uuid_random(regtx_uuid *uuid);
 
-/* A store that is open. No other program uses it meanwhile. */
+/* A store that is open. By regtx_open no other program uses it meanwhile; by regtx_connect others
+ * do. */
 typedef struct regtx_store regtx_store;
 
 /* The program is named by its path, or looked for on the PATH if its name has no slash; NULL is
@@ -125,8 +129,21 @@ int regtx_upgrade(const char *old_folder, const char *new_folder, const char *pr
  * REGTX_JOURNAL_DAMAGED; *store is NULL after each failure. */
 int regtx_open(const char *folder, const char *program, unsigned wait_seconds, regtx_store **store);
 
+/* Connects to the server that listens at a Unix socket. It has to be one of root, of the caller's
+ * user, or of the user server_uid, which may be REGTX_NO_USER: REGTX_NOT_TRUSTED. Each reply may
+ * take so many seconds, and the connection has ended after that; 0 is as long as it takes.
+ * REGTX_NO_SEAT, if the server has no place; REGTX_FAULTED; REGTX_IO, if nobody listens there.
+ *
+ * A session is a further connection, and regtx_fold is refused. No program that is started gets the
+ * socket. */
+int regtx_connect(const char *path, int64_t server_uid, unsigned timeout_seconds,
+                  regtx_store **store);
+
+#define REGTX_NO_USER (-1)
+
 /* Rolls back what isn't committed, makes all changes durable, moves them into the hives' files, and
- * frees the store, whatever is answered. REGTX_ENDED, if the run had ended or was killed; or what
+ * frees the store, whatever is answered. Of a server's store it ends the connections, and returns
+ * once their transactions are rolled back; it says nothing of the hives. REGTX_ENDED, if the run had ended or was killed; or what
  * was refused at its end, such as REGTX_DISK_FAULT. Refusals that calls were answered are no
  * failure. NULL is closed already. In another process than the one that opened the store, this
  * frees its copy, and the run goes on: REGTX_OK. The run ends once each such copy is gone. */
@@ -142,7 +159,7 @@ typedef uint32_t regtx_tx;
 enum { REGTX_ALONE = 0, REGTX_FIRST_SESSION = 0 };
 
 /* Opens a session, for transactions of its own. REGTX_FIRST_SESSION is open always. REGTX_NO_SEAT,
- * if 32 are open. */
+ * if 32 are open, or the server has no place. */
 int regtx_session(regtx_store *store, uint32_t *session);
 
 /* Ends a session, and rolls back its transactions, which are gone. REGTX_NO_SUCH_HANDLE, if it
@@ -150,13 +167,14 @@ int regtx_session(regtx_store *store, uint32_t *session);
 int regtx_session_end(regtx_store *store, uint32_t session);
 
 /* Begins a transaction in a session, for a unit of work. REGTX_NO_SUCH_HANDLE; REGTX_NO_SEAT, if
- * 1,024 are there. */
+ * 1,024 are there, or 33 of a server's session; REGTX_CONFLICT, if another connection has the unit
+ * at hand. */
 int regtx_transaction(regtx_store *store, uint32_t session, const regtx_uuid *unit, regtx_tx *tx);
 
 /* Commits, and returns when the change is durable: its number, 0 if there were no writes. The
  * number may be NULL. The transaction is gone, and rolled back after a refusal: REGTX_TOO_LARGE,
  * REGTX_JOURNAL_FULL, REGTX_HISTORY_FULL, REGTX_NOT_ACTIVE, REGTX_NO_SUCH_HANDLE. After
- * REGTX_COMMIT_UNKNOWN close the store, open it again, and ask regtx_kept. */
+ * REGTX_COMMIT_UNKNOWN close the store, open it again, and call regtx_once. */
 int regtx_commit(regtx_store *store, regtx_tx tx, uint64_t *number);
 
 /* Work in a transaction: what it answers other than REGTX_OK rolls the transaction back. */
@@ -164,11 +182,44 @@ typedef int regtx_work(regtx_store *store, regtx_tx tx, void *context);
 
 /* Carries out work in a transaction, and commits: the change's number, which may be NULL. If work
  * or commit answers REGTX_CONFLICT or REGTX_NOT_ACTIVE, since another writer is in the way, all of
- * it is rolled back and tried again, so many times in all. It waits a millisecond before the second
- * time, and then twice as long each time, a tenth of a second at most. Answers what work answers,
- * and as regtx_transaction and regtx_commit. */
+ * it is rolled back and tried again, so many times in all. So it is if a server answers
+ * REGTX_NO_SUCH_HANDLE, since it ended the transaction. It waits up to 5 ms before the second time,
+ * and then twice as long each time, a second at most. Answers what work answers, and as
+ * regtx_transaction and regtx_commit. */
 int regtx_transact(regtx_store *store, uint32_t session, const regtx_uuid *unit, unsigned tries,
                    regtx_work *work, void *context, uint64_t *number);
+
+/* Does a unit of work once: the number of the change that it made, now or before; 0 if it writes
+ * nothing. It begins the transaction, asks what is kept of the unit, and carries out the work only
+ * if that is nothing. If another program, another session or a connection that was lost has the unit
+ * at hand, or another writer is in the way, it waits and tries again as regtx_transact does. After
+ * REGTX_COMMIT_UNKNOWN or REGTX_ENDED call it again of a store that was opened after that. */
+int regtx_once(regtx_store *store, uint32_t session, const regtx_uuid *unit, unsigned tries,
+               regtx_work *work, void *context, uint64_t *number);
+
+/* Writes that are gathered, and whose lines are sent together. */
+typedef struct regtx_writes regtx_writes;
+
+int regtx_writes_new(regtx_writes **writes);
+void regtx_writes_free(regtx_writes *writes);
+
+/* Each adds one; see the calls that make them alone. REGTX_WRONG_NAME, REGTX_CLIENT_MEMORY. */
+int regtx_writes_create_key(regtx_writes *writes, uint8_t hive, const char *path);
+int regtx_writes_delete_key(regtx_writes *writes, uint8_t hive, const char *path);
+int regtx_writes_set_value(regtx_writes *writes, uint8_t hive, const char *path, const char *name,
+                           uint32_t type, const void *data, size_t size);
+int regtx_writes_delete_value(regtx_writes *writes, uint8_t hive, const char *path,
+                              const char *name);
+
+/* Carries out writes in a transaction: the first refusal. It may come after some of them, so roll
+ * back then. */
+int regtx_write_all(regtx_store *store, regtx_tx tx, const regtx_writes *writes);
+
+/* As regtx_transact and regtx_once, of writes in the place of work. */
+int regtx_transact_writes(regtx_store *store, uint32_t session, const regtx_uuid *unit,
+                          unsigned tries, const regtx_writes *writes, uint64_t *number);
+int regtx_once_writes(regtx_store *store, uint32_t session, const regtx_uuid *unit, unsigned tries,
+                      const regtx_writes *writes, uint64_t *number);
 
 /* Why the last commit was REGTX_COMMIT_UNKNOWN: REGTX_ENDED, or REGTX_DISK_FAULT, and so on. */
 int regtx_cause(const regtx_store *store);
@@ -182,7 +233,8 @@ int regtx_is_active(regtx_store *store, regtx_tx tx, bool *active);
 
 /* The number of the last change that a unit of work committed. REGTX_NOT_FOUND, if none is kept;
  * REGTX_UNSUPPORTED, if the store keeps none. The number may be NULL. To learn of a commit without
- * an answer, ask in another run than its own. */
+ * an answer, ask in another run than its own; of a server's store regtx_once is the call that
+ * decides, since a connection that was lost may have its commit still to come. */
 int regtx_kept(regtx_store *store, const regtx_uuid *unit, uint64_t *number);
 
 /* Returns when all accepted changes are durable: the last one's number, 0 if there is none. It may
@@ -190,7 +242,8 @@ int regtx_kept(regtx_store *store, const regtx_uuid *unit, uint64_t *number);
 int regtx_flush(regtx_store *store, uint64_t *number);
 
 /* Flushes, and empties the history, of which a run holds 1,048,576 changes. All transactions are
- * gone, and all sessions but the first. The last change's number may be NULL. */
+ * gone, and all sessions but the first. The last change's number may be NULL. A server does so by
+ * itself: of its store this is REGTX_UNSUPPORTED, and nothing is sent. */
 int regtx_fold(regtx_store *store, uint64_t *number);
 
 /* Chooses the moment of the writes and commits that follow, in units of 100 ns since 1601, UTC.

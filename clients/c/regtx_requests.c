@@ -1,28 +1,16 @@
 /* Requests: what may be asked alone and in a transaction. */
 #define _POSIX_C_SOURCE 200809L
 
-#include "regtx_client.h"
+#include "regtx_requests.h"
+
 #include "regtx_run.h"
 #include "regtx_text.h"
 
 #include <inttypes.h>
 #include <stdio.h>
-#include <stdlib.h>
 #include <string.h>
 
 enum { MOST_KEY_NAME = 255, MOST_VALUE_NAME = 16383 };
-
-struct request {
-    regtx_tx tx;
-    const char *verb;
-    uint8_t hive;
-    const char *path;
-    const char *name; /* of a value, or NULL */
-    bool writes, has_value;
-    uint32_t type;
-    const unsigned char *data;
-    size_t size;
-};
 
 /* The rules of E4 BadName: so no name brings a blank or an end of line into a line. */
 static bool is_name(const char *name, size_t size, size_t most)
@@ -79,10 +67,16 @@ static void print_data(FILE *line, const unsigned char *data, size_t size)
     }
 }
 
-static void print_request(FILE *line, const struct request *asked)
+int regtx_request_check(const struct regtx_request *asked)
 {
-    if (asked->tx != REGTX_ALONE)
-        fprintf(line, "tx %" PRIu32 " ", asked->tx);
+    bool is_well =
+        is_path(asked->path)
+        && (!asked->name || is_name(asked->name, strlen(asked->name), MOST_VALUE_NAME));
+    return is_well ? REGTX_OK : REGTX_WRONG_NAME;
+}
+
+void regtx_request_print(FILE *line, const struct regtx_request *asked)
+{
     fprintf(line, "%s %u:", asked->verb, (unsigned)asked->hive);
     print_name(line, asked->path);
     if (asked->name) {
@@ -97,28 +91,24 @@ static void print_request(FILE *line, const struct request *asked)
 }
 
 /* Asks a request, of the store's first session if it is alone. */
-static int ask_request(regtx_store *store, const struct request *asked)
+static int ask_request(regtx_store *store, regtx_tx tx, const struct regtx_request *asked,
+                       bool writes)
 {
-    if (!is_path(asked->path)
-        || (asked->name && !is_name(asked->name, strlen(asked->name), MOST_VALUE_NAME)))
-        return REGTX_WRONG_NAME;
-    int code = asked->tx == REGTX_ALONE ? regtx_enter(store, REGTX_FIRST_SESSION)
-                                        : regtx_enter_transaction(store, asked->tx);
-    if (code == REGTX_OK && asked->writes)
-        code = regtx_stamp(store);
+    struct regtx_lines lines;
+    int code = regtx_request_check(asked);
+    if (code == REGTX_OK)
+        code = tx == REGTX_ALONE ? regtx_enter(store, REGTX_FIRST_SESSION)
+                                 : regtx_enter_transaction(store, tx);
     if (code)
         return code;
-    char *bytes = NULL;
-    size_t size = 0;
-    FILE *line = open_memstream(&bytes, &size);
-    if (!line)
-        return REGTX_CLIENT_MEMORY;
-    print_request(line, asked);
-    bool is_whole = !ferror(line);
-    is_whole &= fclose(line) == 0;
-    code = is_whole ? regtx_exchange(store, bytes, size) : REGTX_CLIENT_MEMORY;
-    free(bytes);
-    return code;
+    regtx_lines_begin(store, &lines, writes);
+    if (lines.file && tx != REGTX_ALONE)
+        fprintf(lines.file, "tx %" PRIu32 " ", tx);
+    if (lines.file)
+        regtx_request_print(lines.file, asked);
+    lines.count++;
+    code = regtx_lines_send(store, &lines);
+    return code ? code : regtx_next(store);
 }
 
 /* The reply to a write: its change's number if it is alone, else `ok`. */
@@ -134,11 +124,11 @@ static int read_accepted(const regtx_store *store, regtx_tx tx, uint64_t *number
 int regtx_create_key(regtx_store *store, regtx_tx tx, uint8_t hive, const char *path,
                      uint32_t *levels, uint64_t *number)
 {
-    struct request asked = {tx, "create", hive, path, .writes = true};
-    int code = ask_request(store, &asked);
+    struct regtx_request asked = {.verb = "create", .hive = hive, .path = path};
+    int code = ask_request(store, tx, &asked, true);
     if (code)
         return code;
-    const char *at = store->text;
+    const char *at = store->link->text;
     uint64_t created = 0, accepted = 0;
     if (strcmp(at, "opened") != 0) {
         if (!regtx_take_word(&at, "created") || !regtx_take_number(&at, &created))
@@ -160,8 +150,8 @@ int regtx_create_key(regtx_store *store, regtx_tx tx, uint8_t hive, const char *
 int regtx_delete_key(regtx_store *store, regtx_tx tx, uint8_t hive, const char *path,
                      uint64_t *number)
 {
-    struct request asked = {tx, "delete", hive, path, .writes = true};
-    int code = ask_request(store, &asked);
+    struct regtx_request asked = {.verb = "delete", .hive = hive, .path = path};
+    int code = ask_request(store, tx, &asked, true);
     return code ? code : read_accepted(store, tx, number);
 }
 
@@ -169,16 +159,16 @@ int regtx_set_value(regtx_store *store, regtx_tx tx, uint8_t hive, const char *p
                     const char *name, uint32_t type, const void *data, size_t size,
                     uint64_t *number)
 {
-    struct request asked = {tx, "set", hive, path, name, true, true, type, data, size};
-    int code = ask_request(store, &asked);
+    struct regtx_request asked = {"set", hive, path, name, true, type, data, size};
+    int code = ask_request(store, tx, &asked, true);
     return code ? code : read_accepted(store, tx, number);
 }
 
 int regtx_delete_value(regtx_store *store, regtx_tx tx, uint8_t hive, const char *path,
                        const char *name, uint64_t *number)
 {
-    struct request asked = {tx, "unset", hive, path, name, .writes = true};
-    int code = ask_request(store, &asked);
+    struct regtx_request asked = {.verb = "unset", .hive = hive, .path = path, .name = name};
+    int code = ask_request(store, tx, &asked, true);
     return code ? code : read_accepted(store, tx, number);
 }
 
@@ -211,11 +201,11 @@ static bool take_data(const char *at, struct regtx_buffer *data)
 int regtx_get_value(regtx_store *store, regtx_tx tx, uint8_t hive, const char *path,
                     const char *name, uint32_t *type, void *data, size_t *size)
 {
-    struct request asked = {.tx = tx, .verb = "get", .hive = hive, .path = path, .name = name};
-    int code = ask_request(store, &asked);
+    struct regtx_request asked = {.verb = "get", .hive = hive, .path = path, .name = name};
+    int code = ask_request(store, tx, &asked, false);
     if (code)
         return code;
-    const char *at = store->text;
+    const char *at = store->link->text;
     uint64_t number;
     struct regtx_buffer to = {data, *size, 0};
     if (!regtx_take_word(&at, "value") || !regtx_take_number(&at, &number) || number > UINT32_MAX
@@ -247,13 +237,13 @@ static bool take_name(const char **at, struct regtx_buffer *names)
     return true;
 }
 
-static int list(regtx_store *store, const struct request *asked, char *names, size_t *size,
-                size_t *count)
+static int list(regtx_store *store, regtx_tx tx, const struct regtx_request *asked, char *names,
+                size_t *size, size_t *count)
 {
-    int code = ask_request(store, asked);
+    int code = ask_request(store, tx, asked, false);
     if (code)
         return code;
-    const char *at = store->text;
+    const char *at = store->link->text;
     uint64_t told, found = 0;
     struct regtx_buffer to = {(unsigned char *)names, *size, 0};
     if (!regtx_take_word(&at, asked->verb) || !regtx_take_number(&at, &told))
@@ -273,25 +263,25 @@ static int list(regtx_store *store, const struct request *asked, char *names, si
 int regtx_subkeys(regtx_store *store, regtx_tx tx, uint8_t hive, const char *path, char *names,
                   size_t *size, size_t *count)
 {
-    struct request asked = {.tx = tx, .verb = "keys", .hive = hive, .path = path};
-    return list(store, &asked, names, size, count);
+    struct regtx_request asked = {.verb = "keys", .hive = hive, .path = path};
+    return list(store, tx, &asked, names, size, count);
 }
 
 int regtx_value_names(regtx_store *store, regtx_tx tx, uint8_t hive, const char *path, char *names,
                       size_t *size, size_t *count)
 {
-    struct request asked = {.tx = tx, .verb = "values", .hive = hive, .path = path};
-    return list(store, &asked, names, size, count);
+    struct regtx_request asked = {.verb = "values", .hive = hive, .path = path};
+    return list(store, tx, &asked, names, size, count);
 }
 
 int regtx_key_info(regtx_store *store, regtx_tx tx, uint8_t hive, const char *path,
                    struct regtx_key_info *info)
 {
-    int code =
-        ask_request(store, &(struct request){.tx = tx, .verb = "info", .hive = hive, .path = path});
+    struct regtx_request asked = {.verb = "info", .hive = hive, .path = path};
+    int code = ask_request(store, tx, &asked, false);
     if (code)
         return code;
-    const char *at = store->text;
+    const char *at = store->link->text;
     uint64_t subkeys, values, written;
     if (!regtx_take_word(&at, "info") || !regtx_take_number(&at, &subkeys) || *at++ != ' '
         || !regtx_take_number(&at, &values) || *at++ != ' ' || !regtx_take_number(&at, &written)

@@ -18,9 +18,9 @@ static int make(const char *words[], size_t place, size_t files)
     int code = regtx_launch(words, place, files, &store);
     if (code)
         return code;
-    code = regtx_read_line(store);
+    code = regtx_read_line(store->link);
     if (code == REGTX_OK)
-        code = regtx_failure_of(store->text);
+        code = regtx_failure_of(store->link->text);
     code = regtx_judge_ok(store, code);
     int ended = regtx_end(store);
     return code ? code : ended;

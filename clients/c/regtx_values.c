@@ -45,13 +45,14 @@ static const char *const failures[] = {
     "not a reply",
     "another process opened the store",
     "cannot read file",
+    "the server is another user's",
 };
 
 const char *regtx_client_text(int code)
 {
     if (code >= REGTX_OK && code <= REGTX_FIXED)
         return refusals[code];
-    if (code >= REGTX_ENDED && code <= REGTX_CANNOT_READ)
+    if (code >= REGTX_ENDED && code <= REGTX_NOT_TRUSTED)
         return failures[code - REGTX_ENDED];
     return "no code";
 }

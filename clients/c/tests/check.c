@@ -1,6 +1,6 @@
 /* Runs all checks:
  *
- *     check PROGRAM
+ *     check PROGRAM BROKER
  *
  * Stores are made in the current folder. The last line is 'N passed, M failed'; status 0 if none
  * failed. */
@@ -14,7 +14,7 @@
 #include <string.h>
 #include <sys/stat.h>
 
-const char *program;
+const char *program, *broker;
 
 enum { TEXT = 4096, NAME = 64 };
 
@@ -157,9 +157,10 @@ int set_number(regtx_store *store, regtx_tx tx, const char *name, uint32_t numbe
 
 int main(int words, char *word[])
 {
-    if (words != 2)
+    if (words != 3)
         return 2;
     program = word[1];
+    broker = word[2];
     test_values();
     test_names();
     test_requests();
@@ -168,6 +169,8 @@ int main(int words, char *word[])
     test_trees();
     test_codes();
     test_processes();
+    test_connections();
+    test_lost_connections();
     printf("%d passed, %d failed\n", passed, failed);
     return failed ? 1 : 0;
 }

@@ -9,8 +9,8 @@
 
 void check(bool is_well, const char *what, const char *file, int line);
 
-/* The program. */
-extern const char *program;
+/* The program, and the broker that serves a store by it. */
+extern const char *program, *broker;
 
 /* A unit of work by its number. */
 regtx_uuid unit(unsigned number);
@@ -41,6 +41,30 @@ regtx_store *fake(const char *replies, const char *end);
 regtx_store *open_to_kill(void);
 void kill_run(void);
 
+/* Serves the newest store at a socket by the broker, with an option and its value, which may be
+ * NULL; answers the broker's process. */
+int serve(const char *option, const char *value);
+
+/* The socket of the newest store. */
+const char *socket_path(void);
+
+/* A connection to it. */
+regtx_store *connected(void);
+
+/* Ends a broker by a signal, and waits for it: its status, or the negative number of a signal. */
+int end_broker(int process, int number);
+
+/* Kills the program that a broker has started. */
+void kill_server(int process);
+
+/* A process that listens at the newest store's socket. It says the first of these texts at once,
+ * and each other one after something came; NULL is behind them. What came is in the file `came`, a
+ * `|` behind each time. */
+int fake_server(const char *const parts[]);
+
+/* Waits until it has ended: whether this came. */
+bool server_got(int process, const char *came);
+
 /* Writes a REG_DWORD into Software of the first hive. */
 int set_number(regtx_store *store, regtx_tx tx, const char *name, uint32_t number);
 
@@ -52,5 +76,7 @@ void test_runs(void);
 void test_trees(void);
 void test_codes(void);
 void test_processes(void);
+void test_connections(void);
+void test_lost_connections(void);
 
 #endif

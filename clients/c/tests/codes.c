@@ -57,6 +57,7 @@ static const char *header_of(int code)
     case REGTX_REPLY:
     case REGTX_OTHER_PROCESS:
     case REGTX_CANNOT_READ:
+    case REGTX_NOT_TRUSTED:
         return "client";
     default:
         return "none";

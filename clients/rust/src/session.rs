@@ -19,7 +19,7 @@ pub struct Session<'a> {
 enum Place<'a> {
     /// A session of this number in the store's run.
     In(&'a RefCell<Run>, u32),
-    Own(RefCell<Run>),
+    Own(Box<RefCell<Run>>),
 }
 
 impl<'a> Session<'a> {
@@ -27,7 +27,7 @@ impl<'a> Session<'a> {
         let mut opened = run.borrow_mut();
         opened.tell()?;
         if let Some(own) = opened.beside()? {
-            let place = Place::Own(RefCell::new(own));
+            let place = Place::Own(Box::new(RefCell::new(own)));
             return Ok(Session { place });
         }
         let number = opened.take_session();
