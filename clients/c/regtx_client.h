@@ -142,11 +142,12 @@ int regtx_connect(const char *path, int64_t server_uid, unsigned timeout_seconds
 #define REGTX_NO_USER (-1)
 
 /* Rolls back what isn't committed, makes all changes durable, moves them into the hives' files, and
- * frees the store, whatever is answered. Of a server's store it ends the connections, and returns
- * once their transactions are rolled back; it says nothing of the hives. REGTX_ENDED, if the run had ended or was killed; or what
+ * frees the store, whatever is answered. REGTX_ENDED, if the run had ended or was killed; or what
  * was refused at its end, such as REGTX_DISK_FAULT. Refusals that calls were answered are no
- * failure. NULL is closed already. In another process than the one that opened the store, this
- * frees its copy, and the run goes on: REGTX_OK. The run ends once each such copy is gone. */
+ * failure. NULL is closed already. Of a server's store it ends the connections, and returns once
+ * their transactions are rolled back; it says nothing of the hives. In another process than the one
+ * that opened the store, this frees its copy, and the run goes on: REGTX_OK. The run ends once each
+ * such copy is gone. */
 int regtx_close(regtx_store *store);
 
 /* The number of the store's last change when it was opened; 0 if there was none. */
@@ -191,9 +192,9 @@ int regtx_transact(regtx_store *store, uint32_t session, const regtx_uuid *unit,
 
 /* Does a unit of work once: the number of the change that it made, now or before; 0 if it writes
  * nothing. It begins the transaction, asks what is kept of the unit, and carries out the work only
- * if that is nothing. If another program, another session or a connection that was lost has the unit
- * at hand, or another writer is in the way, it waits and tries again as regtx_transact does. After
- * REGTX_COMMIT_UNKNOWN or REGTX_ENDED call it again of a store that was opened after that. */
+ * if that is nothing. If another program, another session or a connection that was lost has the
+ * unit at hand, or another writer is in the way, it waits and tries again as regtx_transact does.
+ * After REGTX_COMMIT_UNKNOWN or REGTX_ENDED call it again of a store that was opened after that. */
 int regtx_once(regtx_store *store, uint32_t session, const regtx_uuid *unit, unsigned tries,
                regtx_work *work, void *context, uint64_t *number);
 

@@ -119,8 +119,8 @@ int regtx_stamp(regtx_store *store);
 
 bool regtx_is_there(const regtx_store *store, regtx_tx tx);
 
-/* Begins a transaction. If kept isn't NULL, the unit's outcome is asked by the same write: its code,
- * and the number. */
+/* Begins a transaction. If kept isn't NULL, the unit's outcome is asked by the same write: its
+ * code, and the number. */
 struct regtx_kept {
     int code;
     uint64_t number;
