@@ -74,6 +74,7 @@ TESTS = [
     Test("runs", "tests/runs.py $regtx", 25),
     Test("progress", "tests/progress.py $regtx", 25),
     Test("broker", "tests/broker.py", 20),
+    Test("served", "tests/served.py $regtx", 20),
     Test("served_examples", "tests/served_examples.py $regtx", 20, ["cargo"]),
     Test("values", "tests/values.py $regtx", 20),
     Test("log_machines", "tests/log_machines.py $recoveries", 20),

@@ -28,6 +28,7 @@ import broker_frames  # noqa: E402
 import broker_service  # noqa: E402
 from broker_bench import Bench  # noqa: E402
 from broker_build import BUILD_SECONDS, SOURCES, build_result, sources_of  # noqa: E402
+from parts import results_of  # noqa: E402
 from scratch import skip, tell  # noqa: E402
 
 SANITIZERS = ["-g", "-O1", "-fsanitize=address,undefined", "-fno-sanitize-recover=all"]
@@ -44,10 +45,6 @@ PROBES, PROBE_SECONDS = 20, 30
 LONGEST_FOLDER = 40
 
 
-class Overdue(Exception):
-    """A part took too long. Nothing in a part may take it for something that merely didn't come."""
-
-
 def are_sanitizers_there(folder):
     """Whether programs that are built for the sanitizers begin here, time after time. Some systems place libraries where these
     sanitizers have their own memory, now and then."""
@@ -60,10 +57,6 @@ def are_sanitizers_there(folder):
         return False
 
 
-def give_up(*_):
-    raise Overdue(f"it took {PART_SECONDS} seconds")
-
-
 def end_all(folder):
     """Ends all of this, if a part can't even be given up."""
     for worker in multiprocessing.active_children():
@@ -74,21 +67,10 @@ def end_all(folder):
 
 
 def part_results(folder, name, part):
-    """What is wrong in a part with a build. One that takes too long is given up."""
-    signal.signal(signal.SIGALRM, give_up)
-    # and again, if the end of a part waits, too
-    signal.setitimer(signal.ITIMER_REAL, PART_SECONDS, PART_SECONDS / 10)
+    """What is wrong in a part with a build."""
     with tempfile.TemporaryDirectory(prefix=f"{part.__name__}-", dir=folder) as home:
         os.chmod(home, 0o755)
-        results = []
-        try:
-            results.extend(part(Bench(folder, name, home)))
-        # whatever else is wrong is told as well
-        except Exception as why:  # pylint: disable=broad-except
-            results.append(f"{type(why).__name__}: {why}")
-        finally:
-            signal.setitimer(signal.ITIMER_REAL, 0)
-        return [result and f"{part.__name__}: {result}" for result in results]
+        return results_of(part, Bench(folder, name, home), PART_SECONDS)
 
 
 def main():

@@ -89,17 +89,18 @@ class Lines:
 class Served:
     """A store that is served, in a folder of its own."""
 
-    def __init__(self, program: Program, broker, folder, hives=1, options=(), **given):
-        self.program, self.broker, self.options = program, broker, options
+    def __init__(self, program: Program, broker, folder, hives=1, options=(), before=(), store=None, make=True, wait=60, **given):
+        self.program, self.broker, self.options, self.before, self.seconds = program, broker, options, before, wait
         self.home = program.at(folder)
-        self.store, self.path = f"{self.home}/store", f"{self.home}/socket"
+        self.store, self.path = store or f"{self.home}/store", f"{self.home}/socket"
         self.given, self.process, self.server = given, None, None
         os.mkdir(self.home, 0o755)
-        subprocess.run([program.path, "new", self.store, ID, str(hives)], check=True, stdout=subprocess.DEVNULL, timeout=SECONDS)
+        if make:
+            subprocess.run([program.path, "new", self.store, ID, str(hives)], check=True, stdout=subprocess.DEVNULL, timeout=SECONDS)
 
     def start(self, **given):
         """Starts the broker, and waits until it is ready; answers what it said."""
-        words = [self.broker, *self.options, self.path, self.program.path, "wait", "60", "serve", self.store]
+        words = [self.broker, *self.options, self.path, *self.before, self.program.path, "wait", str(self.seconds), "serve", self.store]
         self.process = subprocess.Popen(words, stdin=subprocess.DEVNULL, stdout=subprocess.PIPE, stderr=subprocess.PIPE, **self.given,
                                         **given)
         said = self.process.stdout.readline().decode()
@@ -161,6 +162,39 @@ def served(program, broker, folder, *options, hives=1, start=True, **given):
         yield it
     finally:
         it.close()
+
+
+class Bench:
+    """Where a part of a test serves stores, and how often it tries something."""
+
+    def __init__(self, program, broker, library, home, is_full=False):
+        self.program, self.broker, self.library, self.home, self.is_full = program, broker, library, home, is_full
+        self._count = 0
+
+    def at(self, *names):
+        return os.path.join(self.home, *names)
+
+    def served(self, *options, **given):
+        self._count += 1
+        return served(self.program, self.broker, f"{self.home}/{self._count}", *options, **given)
+
+    def times(self, few, many):
+        return many if self.is_full else few
+
+
+def transaction(number, *requests):
+    """The lines of a transaction of a unit."""
+    return [f"begin t {number}", *(f"tx t {request}" for request in requests), "commit t", "close t"]
+
+
+def dword(number):
+    """A number of 32 bits as lines have it."""
+    return number.to_bytes(4, "little").hex()
+
+
+def number_of(reply):
+    """The number that a reply to a read tells; -1 if it tells none."""
+    return int.from_bytes(bytes.fromhex(reply.split(" ")[2]), "little") if reply and reply.startswith("value 4 ") else -1
 
 
 def broker_in(program):

@@ -3,8 +3,11 @@
  * SYNCS_END_AT=N   the Nth sync of a folder (from 1) isn't made: the program is ended by SIGKILL instead
  * CALLS_REPORT=F   each write, cut and sync of a plain file that is made adds to the file F the line "write NAME OFFSET SIZE", with so
  *                  many bytes behind it, "cut NAME SIZE" or "sync NAME"
- * CALLS_END_AT=N   the program is ended by SIGKILL at the Nth of these calls (from 1): after a write or a cut, before a sync */
+ * CALLS_END_AT=N   the program is ended by SIGKILL at the Nth of these calls (from 1): after a write or a cut, before a sync
+ * SYNCS_FAIL=F     while a file F is there, no sync of a plain file is made, and each fails with EIO
+ * SYNCS_TAKE=N     each sync of a plain file takes N microseconds more */
 #define _GNU_SOURCE
+#include <errno.h>
 #include <fcntl.h>
 #include <signal.h>
 #include <stdio.h>
@@ -66,8 +69,24 @@ static void note_cut(int fd, off_t length) {
     if (calls && kind_of(fd, name) == 'f') add(calls, line, sprintf(line, "cut %s %lld\n", name, (long long)length));
 }
 
-int fsync(int fd) { note_sync(fd); end_at_call(fd); return (int)syscall(SYS_fsync, fd); }
-int fdatasync(int fd) { note_sync(fd); end_at_call(fd); return (int)syscall(SYS_fdatasync, fd); }
+/* waits as long as a sync of a plain file is to take; whether it fails */
+static int fails(int fd) {
+    char name[4096];
+    const char *fail = getenv("SYNCS_FAIL"), *take = getenv("SYNCS_TAKE");
+    if ((!fail && !take) || kind_of(fd, name) != 'f') return 0;
+    if (take) usleep((unsigned)strtoul(take, 0, 10));
+    errno = EIO;
+    return fail && access(fail, F_OK) == 0;
+}
+
+static int sync_by(long call, int fd) {
+    note_sync(fd);
+    end_at_call(fd);
+    return fails(fd) ? -1 : (int)syscall(call, fd);
+}
+
+int fsync(int fd) { return sync_by(SYS_fsync, fd); }
+int fdatasync(int fd) { return sync_by(SYS_fdatasync, fd); }
 
 ssize_t pwrite64(int fd, const void *bytes, size_t size, off64_t offset) {
     ssize_t done = syscall(SYS_pwrite64, fd, bytes, size, offset);
