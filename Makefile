@@ -1,6 +1,7 @@
-# Installs the program, its manual page, its clients, the library for C and what stands over it. docs/INSTALLING.md says more.
+# Installs the program, the broker of served stores, the manual page, the clients, the library for C and what stands over it.
+# docs/INSTALLING.md says more.
 #
-#   make                              builds the program, the library and the manual page, if they are missing or stale
+#   make                              builds the programs, the library and the manual page, if they are missing or stale
 #   make install PREFIX=/usr/local    installs it; with DESTDIR=FOLDER into a folder that stands for the root
 #   make uninstall PREFIX=/usr/local  removes it, with the same DESTDIR
 #   make check                        runs the tests, after it has built without proofs what they run; TESTS="runs words" runs some
@@ -18,10 +19,14 @@ PROGRAMS =
 TESTS =
 export PREFIX DESTDIR PROGRAM LIBRARY PROGRAMS TESTS
 
+CFLAGS = -O2
 MANUAL = out/regtx.1
+# the broker and a client for the shell, and the units by which systemd starts the broker
+SERVER_PROGRAMS = out/regtxd out/regtxc
+UNITS = regtx@.service regtx@.socket
 SHARED = libregtx.so.0
 LIBRARY_FILES = regtx.h libregtx.a $(SHARED)
-PAGES = README.md docs/USING.md docs/SCRIPTS.md docs/REGFILES.md docs/LAB.md docs/SWEEP.md
+PAGES = README.md docs/USING.md docs/SCRIPTS.md docs/REGFILES.md docs/LAB.md docs/SWEEP.md docs/SERVING.md server/README.md
 # sources, pages and examples; no tests, and nothing that was built
 CLIENTS = $(wildcard clients/README.md clients/*/README.md clients/python/*.py clients/c/*.[ch] \
     clients/rust/Cargo.toml clients/rust/Cargo.lock clients/rust/src/*.rs clients/rust/examples/*.rs)
@@ -29,7 +34,7 @@ CLIENTS = $(wildcard clients/README.md clients/*/README.md clients/python/*.py c
 BINDINGS = $(wildcard bindings/README.md bindings/*/README.md bindings/python/*.py bindings/rust/Cargo.toml bindings/rust/Cargo.lock \
     bindings/rust/src/*.rs bindings/rust/examples/*.rs)
 # all that is installed, below PREFIX
-INSTALLED = bin/regtx libexec/regtx include/regtx.h lib/libregtx.a lib/$(SHARED) lib/libregtx.so lib/pkgconfig/regtx.pc share/man/man1/regtx.1 \
+INSTALLED = bin/regtx bin/regtxd bin/regtxc libexec/regtx $(UNITS:%=lib/systemd/system/%) include/regtx.h lib/libregtx.a lib/$(SHARED) lib/libregtx.so lib/pkgconfig/regtx.pc share/man/man1/regtx.1 \
     share/bash-completion/completions/regtx $(ZSH_FUNCTIONS)/_regtx \
     $(PAGES:%=share/doc/regtx/%) $(CLIENTS:%=share/regtx/%) $(BINDINGS:%=share/regtx/%)
 FOLDERS = $(sort $(patsubst %/,%,$(dir $(INSTALLED))))
@@ -40,7 +45,7 @@ SHELL = /bin/sh
 .PHONY: all install uninstall check program library
 .DELETE_ON_ERROR:
 
-all: program library $(MANUAL)
+all: program library $(MANUAL) $(SERVER_PROGRAMS)
 	@echo "regtx is built; make install PREFIX=FOLDER installs it"
 
 program:
@@ -59,8 +64,16 @@ $(MANUAL): tools/manual.py tools/markdown.py tools/product.py README.md docs/USI
 	@mkdir -p out
 	tools/manual.py >$@
 
+out/regtxd: $(filter-out server/regtxc.c,$(wildcard server/*.c)) $(wildcard server/*.h)
+	@mkdir -p out
+	$(CC) -std=c11 $(CFLAGS) -o $@ $(filter %.c,$^)
+
+out/regtxc: server/regtxc.c
+	@mkdir -p out
+	$(CC) -std=c11 $(CFLAGS) -o $@ $<
+
 # the pkg-config file comes first, since it refuses a PREFIX; the program's file isn't stripped: its last bytes say what it is
-install: program library $(MANUAL)
+install: program library $(MANUAL) $(SERVER_PROGRAMS)
 	@config=$$(tools/pkgconfig.py "$$PREFIX")
 	program=$$(realpath -e "$${PROGRAM:-$$(tools/build_quick.py --which regtx)}")
 	about=$$("$$program" about)
@@ -70,6 +83,10 @@ install: program library $(MANUAL)
 	done
 	install -m 755 "$$program" "$$root/libexec/regtx"
 	sed "s|@PROGRAM@|$$PREFIX/libexec/regtx|" tools/installed_name | install -m 755 /dev/stdin "$$root/bin/regtx"
+	install -m 755 $(SERVER_PROGRAMS) "$$root/bin"
+	for unit in $(UNITS); do
+	    sed "s|/usr/local/bin/|$${PREFIX%/}/bin/|g" "server/$$unit" | install -m 644 /dev/stdin "$$root/lib/systemd/system/$$unit"
+	done
 	install -m 644 "$$LIBRARY/regtx.h" "$$root/include/regtx.h"
 	install -m 644 "$$LIBRARY/libregtx.a" "$$LIBRARY/$(SHARED)" "$$root/lib"
 	ln -sf $(SHARED) "$$root/lib/libregtx.so"

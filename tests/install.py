@@ -5,7 +5,8 @@
 
 - version: each version that is told is the one of crates/regtx/src/about.rt.
 - files: `make install` and `make uninstall`: which files with which modes, what is refused, and what is left.
-- works: the program, the library with pkg-config, the three clients and the two bindings, each from the place where it is installed.
+- works: the program, the library with pkg-config, the three clients, the two bindings, the broker and its units, each from the place
+  where it is installed.
 - manual: the manual page has no warning of groff or mandoc, and all that the pages and the usages have.
 - completion: what bash and zsh complete after each word of each command.
 - package: a Debian package, its fields and its files; it is installed by dpkg, tried and removed, if this is root.
@@ -38,7 +39,7 @@ UNPROVED_LIBRARY = "regtx: the library for C that is installed isn't proved, as 
 # what a store prints of examples/vendor.txt
 VENDOR = "opened 0\nok\ncreated 2\nok\ncreated 2\ncommitted 1\n"
 # folders that other programs use too
-SHARED = ["bin", "include", "lib", "lib/pkgconfig", "libexec", "share", "share/bash-completion", "share/bash-completion/completions",
+SHARED = ["bin", "include", "lib", "lib/pkgconfig", "lib/systemd", "lib/systemd/system", "libexec", "share", "share/bash-completion", "share/bash-completion/completions",
           "share/doc", "share/man", "share/man/man1", "share/zsh", "share/zsh/site-functions"]
 READER = r"""
 #include <regtx.h>
@@ -199,7 +200,7 @@ def defaults(make, home):
     """Without PROGRAM and LIBRARY the program that tools/build_quick.py names is installed, and what tools/c_library.py makes if it
     is asked for what is stale."""
     copy, base = os.path.join(home, "copy"), os.path.join(home, "defaults")
-    copied([*SOURCES, "docs", "clients", "bindings", "completions", "Makefile"], copy)
+    copied([*SOURCES, "docs", "clients", "bindings", "completions", "server", "Makefile"], copy)
     for name, text in [("build_quick.py", f"echo '{make.program}'"),
                        ("c_library.py", f"mkdir -p $2 && cp {make.library}/regtx.h {make.library}/libregtx.* $2 && echo $* >>made")]:
         with open(os.path.join(copy, "tools", name), "w", encoding="ascii") as file:
@@ -315,6 +316,23 @@ def bindings(prefix, home):
     yield expect("what the bindings write", differences(modes(place), before), ([], [], []))
 
 
+def server(prefix, home):
+    """The broker serves a store by the installed program, to its client; and the units name both."""
+    bin_folder, place = os.path.join(prefix, "bin"), os.path.join(home, "served")
+    program, broker, client = (os.path.join(bin_folder, name) for name in ("regtx", "regtxd", "regtxc"))
+    os.mkdir(place, 0o755)
+    printed(program, "new", "store", ID, "1", cwd=place)
+    with subprocess.Popen([broker, "socket", program, "serve", "store"], cwd=place, stdout=subprocess.PIPE, text=True) as served:
+        yield expect("regtxd", served.stdout.readline(), "ready\n")
+        yield expect("regtxc", shell(f"echo 'create 0:A' | {client} socket", cwd=place), ("opened 0\ncreated 1 accepted 1\n", "", 0))
+        served.send_signal(signal.SIGTERM)
+        yield expect("its end", served.wait(60), 0)
+    yield expect("what is there", printed(program, "ls", "store", "0:", cwd=place), "key A\n")
+    unit = content(os.path.join(prefix, "lib/systemd/system/regtx@.service")).decode()
+    words = re.findall(r"^ExecStart=(.*)$", unit, re.M)
+    yield expect("the unit", words, [f"{broker} /run/regtx/%i.sock {program} wait 60 serve /var/lib/regtx/%i"])
+
+
 def works(make, home):
     """The installed program makes a store; the library and the clients are used from their places."""
     prefix = os.path.join(home, "works")
@@ -328,6 +346,7 @@ def works(make, home):
             (["new", "store", ID, "2"], "ok\n"), (["run", "store", os.path.join(TOP, "examples/vendor.txt")], VENDOR),
             (["get", "store", "0:Software\\Vendor", "Version"], "sz 1.0\n"), (["ls", "store", "1:Services"], "key Vendor\n")]:
         yield expect(words[0], ran(program, *words, cwd=home), (told, "", 0))
+    yield from server(prefix, home)
     yield from library(prefix, home)
     yield from clients(prefix, home)
     yield from bindings(prefix, home)

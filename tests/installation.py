@@ -9,11 +9,12 @@ from contextlib import suppress
 
 TOP = os.path.dirname(os.path.dirname(os.path.abspath(__file__)))
 SECONDS = 120
-PAGES = ["README.md", *[f"docs/{name}.md" for name in ("LAB", "REGFILES", "SCRIPTS", "SWEEP", "USING")]]
+PAGES = ["README.md", *[f"docs/{name}.md" for name in ("LAB", "REGFILES", "SCRIPTS", "SERVING", "SWEEP", "USING")], "server/README.md"]
+UNITS = [f"lib/systemd/system/regtx@.{kind}" for kind in ("service", "socket")]
 MANUAL, ZSH, VENDOR_ZSH = "share/man/man1/regtx.1", "share/zsh/site-functions/_regtx", "share/zsh/vendor-completions/_regtx"
 # what has no client and no binding among it, with the modes
-FILES = {"bin/regtx": 0o755, "libexec/regtx": 0o755, "lib/libregtx.so": None, **dict.fromkeys([
-    "include/regtx.h", "lib/libregtx.a", "lib/libregtx.so.0", "lib/pkgconfig/regtx.pc", MANUAL, ZSH,
+FILES = {**dict.fromkeys(["bin/regtx", "bin/regtxd", "bin/regtxc", "libexec/regtx"], 0o755), "lib/libregtx.so": None, **dict.fromkeys([
+    *UNITS, "include/regtx.h", "lib/libregtx.a", "lib/libregtx.so.0", "lib/pkgconfig/regtx.pc", MANUAL, ZSH,
     "share/bash-completion/completions/regtx", *[f"share/doc/regtx/{page}" for page in PAGES],
 ], 0o644)}
 # what the manual page is made of
@@ -84,6 +85,7 @@ def source_of(name, make):
     named = {
         "bin/regtx": None, "libexec/regtx": make.program, MANUAL: os.path.join(TOP, "out", "regtx.1"), ZSH: os.path.join(TOP, "completions", "_regtx"),
         "share/bash-completion/completions/regtx": os.path.join(TOP, "completions", "regtx.bash"), "lib/pkgconfig/regtx.pc": None,
+        "bin/regtxd": os.path.join(TOP, "out", "regtxd"), "bin/regtxc": os.path.join(TOP, "out", "regtxc"), **dict.fromkeys(UNITS),
         # a link that the installation makes
         "lib/libregtx.so": os.path.join(make.library, "libregtx.so.0"),
     }

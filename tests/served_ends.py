@@ -1,17 +1,21 @@
 """The ends of a served store: of the program, of the broker, of its disk, and who gets in. Parts of tests/served.py."""
 import os
 import random
+import re
 import shutil
 import signal
 import socket
+import subprocess
 import threading
 import time
 
 from broker_bench import as_other
-from scratch import NOBODY, expect, mounted, skip
+from broker_build import built
+from scratch import NOBODY, TOP, expect, mounted, skip
 from served_store import dword, number_of, transaction, unit, until
 
 COMMITTERS = 8
+EXAMPLE = re.compile(r"^```\n(\$ .*?)^```$", re.MULTILINE | re.DOTALL)
 # a stop takes some moments; far more on a machine that does much else
 STOP_SECONDS = 30
 MEBIBYTE, DISK_BYTES = 1_048_576, 2_097_152
@@ -305,4 +309,23 @@ def refused(it, title):
     yield expect(f"{title}: the store is free", it.replies("keys 0:"), ["opened 0", "keys 0"])
 
 
-PARTS = [killed_program, killed_broker, stops, full_disk, failing_syncs, kept_under_way, kept_is_durable, doors]
+def examples(bench):
+    """The first example of each page, as a shell carries it out."""
+    os.mkdir(bench.at("bin"))
+    for name, path in (("regtx", bench.program.path), ("regtxd", bench.broker), ("regtxc", built("regtxc", bench.home))):
+        os.symlink(path, bench.at("bin", name))
+    for number, page in enumerate(("docs/SERVING.md", "server/README.md")):
+        with open(os.path.join(TOP, page), encoding="utf-8") as file:
+            shown = EXAMPLE.search(file.read())[1].splitlines()
+        place = bench.at(f"example{number}")
+        os.mkdir(place, 0o755)
+        commands = [line.removeprefix("$ ") for line in shown if line.startswith("$ ")]
+        # what is begun in the background is waited for, and what is ended, too
+        waits = {"&": "until test -S run/app.sock; do sleep 0.01; done", "1": "wait"}
+        script = "\n".join(f"{command}\n{waits.get(command[-1], '')}" for command in commands)
+        ran = subprocess.run(["bash", "-mc", script], cwd=place, stdin=subprocess.DEVNULL, capture_output=True, text=True, timeout=60,
+                             env=dict(os.environ, PATH=f"{bench.at('bin')}:{os.environ['PATH']}"))
+        yield expect(page, (ran.stdout.splitlines(), ran.returncode), ([line for line in shown if not line.startswith("$ ")], 0))
+
+
+PARTS = [killed_program, killed_broker, stops, full_disk, failing_syncs, kept_under_way, kept_is_durable, doors, examples]
