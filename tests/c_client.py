@@ -5,8 +5,9 @@
 
 The client is built without warnings into a folder that goes with this, and once more for the sanitizers of addresses and of undefined
 behaviour. Each build carries out the checks of clients/c/tests over real stores, some of which the broker of server/ serves. The
-programs of the page are compiled and run twice, the example must print what the page shows, and the program or the example is killed again and again while the example
-installs parts of a product: tests/client_trials.py. The last line is 'N passed, N failed'; status 0 if none failed.
+programs of the page are compiled and run twice, the example must print what the page shows, and the program or the example is
+killed again and again while the example installs parts of a product: tests/client_trials.py. The last line is 'N passed, N failed';
+status 0 if none failed.
 """
 import glob
 import os

@@ -16,8 +16,8 @@
 - times: what a key's last write was at.
 - hints: what programs tell on standard error.
 - connections, gathered, exchanges, once_of_both: connections to a store that is served, what is sent together, and work done once.
-- refused_connections, lost_connections, interrupted_connections, forks_of_connections, killed_servers: how connections don't begin, and
-  how they end.
+- refused_connections, lost_connections, ended_transactions, interrupted_connections, forks_of_connections, killed_servers: how
+  connections don't begin, and how they and their transactions end.
 - commands: stores that are made, imported and upgraded.
 - ends: programs that end early, that add a line or a status at their end, or that are interrupted; a full disk, a store in use.
 - calls: a run with one commit is ended at each of its calls on files in turn, and another run says whether it is done.
@@ -47,7 +47,7 @@ import regtx  # noqa: E402
 from connections import connections, exchanges, gathered, once_of_both  # noqa: E402
 from lives import dropped, forks, hints, times  # noqa: E402
 from lost import (  # noqa: E402
-    forks_of_connections, interrupted_connections, killed_servers, lost_connections, refused_connections)
+    ended_transactions, forks_of_connections, interrupted_connections, killed_servers, lost_connections, refused_connections)
 from ours import ID, expect_error, leave, raised, script, store_of, wrapper  # noqa: E402
 from regtx import Kind, Store, Value  # noqa: E402
 from served_store import broker_in, served, short_folder  # noqa: E402
@@ -639,8 +639,8 @@ def main():
         library = noting_library(program)
         parts = {part.__name__: part(program) for part in (
             values, names, refusals, scopes, sessions, trees, conflicts, dropped, forks, times, hints, connections, gathered, exchanges,
-            once_of_both, refused_connections, lost_connections, interrupted_connections, forks_of_connections, killed_servers, commands,
-            ends, pages)}
+            once_of_both, refused_connections, lost_connections, ended_transactions, interrupted_connections, forks_of_connections,
+            killed_servers, commands, ends, pages)}
         parts |= {"calls": calls(program, library), "kills": kills(program, library, random.Random(seed))}
         finish([tell(part, list(caught(results))) for part, results in parts.items()])
 

@@ -178,6 +178,27 @@ static void lines_are_sent_together(void)
     check_sent(done, true, 2, 9, "begin 1 " UNIT "\nkept " UNIT "\n|close 1\n|");
 }
 
+static int delete_key(regtx_store *store, regtx_tx tx, void *context)
+{
+    return regtx_delete_key(store, tx, 0, context, NULL);
+}
+
+static void a_transaction_that_the_server_ended_is_begun_again(void)
+{
+    static const char *const parts[] = {opened, "ok\n", "E9 NoSuchHandle\n", "E9 NoSuchHandle\n",
+                                        "ok\n", "ok\n", "committed 1\nok\n", NULL};
+    regtx_uuid uuid = unit(1);
+    uint64_t number = 0;
+    int process;
+    regtx_store *store = to_fake(parts, &process);
+    /* as it is at first, so that no line tells it */
+    CHECK(regtx_at(store, 0) == REGTX_OK);
+    CHECK(regtx_transact(store, 0, &uuid, 2, delete_key, "K", &number) == REGTX_OK && number == 1);
+    regtx_close(store);
+    CHECK(server_got(process, "begin 1 " UNIT "\n|tx 1 delete 0:K\n|close 1\n|begin 1 " UNIT
+                              "\n|tx 1 delete 0:K\n|commit 1\nclose 1\n|"));
+}
+
 static void a_reply_that_takes_too_long_ends_the_connection(void)
 {
     static const char *const parts[] = {opened, "", "", NULL};
@@ -278,6 +299,7 @@ void test_lost_connections(void)
     a_commit_without_an_answer_is_unknown();
     a_commit_that_is_not_sent_is_not_done();
     lines_are_sent_together();
+    a_transaction_that_the_server_ended_is_begun_again();
     a_reply_that_takes_too_long_ends_the_connection();
     a_killed_server_is_told_and_work_is_done_once();
     a_fork_refuses_what_it_did_not_open();

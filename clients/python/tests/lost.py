@@ -121,6 +121,28 @@ def lost_connections(program):
     yield expect("the server sees its end", server.end(), [b"flush\n", b""])
 
 
+def ended_transactions(program):
+    """A transaction that the server ended is begun again, by `transact` and by `once`."""
+    def serve(client):
+        """Answers each line; the first line in a transaction, and the line that ends it, by E9."""
+        client.sendall(b"opened 0\n")
+        words = []
+        while got := client.recv(1 << 18):
+            for line in got.decode().splitlines():
+                word = line.partition(" ")[0]
+                words += [] if word == "at" else [word]
+                is_lost = words.count("tx") == 1 and word in ("tx", "close")
+                client.sendall(b"E9 NoSuchHandle\n" if is_lost else {"commit": b"committed 1\n", "kept": b"E2 NotFound\n"}.get(word, b"ok\n"))
+        return words
+
+    for title, call, begin in [("transact", lambda store: store.transact(lambda t: t.delete_key("0:K")), ["begin"]),
+                               ("once", lambda store: store.once(ID, lambda t: t.delete_key("0:K")), ["begin", "kept"])]:
+        server = Server(program.at("fake"), serve)
+        with Store.connect(server.path) as store:
+            yield expect(title, call(store), 1)
+        yield expect(f"the lines of {title}", server.end(), [*begin, "tx", "close", *begin, "tx", "commit", "close"])
+
+
 class Alarm(Exception):
     """Interrupts a call, as Ctrl-C does."""
 

@@ -4,7 +4,7 @@ use crate::reply::{number, understood};
 use crate::requests::scope::Scope;
 use crate::run::{Answer, Run};
 use crate::writes::together;
-use crate::{Error, Uuid, Writes};
+use crate::{Error, Refusal, Uuid, Writes};
 use std::cell::{Cell, RefCell};
 
 /// A transaction: its writes become one change by [`commit`](Self::commit), over all hives.
@@ -209,8 +209,11 @@ impl Drop for Transaction<'_> {
     fn drop(&mut self) {
         let mut run = self.run.borrow_mut();
         if self.is_held.get() {
-            let closed = self.close(&mut run);
-            run.keep(closed);
+            match self.close(&mut run) {
+                // a server may have ended it, to make room in its history
+                Err(Error::Refused(Refusal::NoSuchHandle, _)) if run.is_served() => {}
+                closed => run.keep(closed),
+            }
         }
         run.free_label(self.label);
     }

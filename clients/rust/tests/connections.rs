@@ -355,6 +355,30 @@ fn lines_are_sent_together() {
 }
 
 #[test]
+fn a_transaction_that_the_server_ended_is_begun_again() {
+    let (answer, came) = talk(
+        &[
+            "opened 0\n",
+            "ok\n",
+            "E9 NoSuchHandle\n",
+            "E9 NoSuchHandle\n",
+            "ok\n",
+            "ok\n",
+            "committed 1\nok\n",
+        ],
+        |store| {
+            let delete = |tx: &Transaction<'_>| tx.delete_key(Key::new(0, "K"));
+            // the moment is 0 at first, so that no line tells it
+            store.at(Some(0))?;
+            store.transact(&unit(1), 2, delete)
+        },
+    );
+    assert_eq!(answer.unwrap(), Some(1));
+    assert_eq!(came[1..3], ["tx 0 delete 0:K\n", "close 0\n"]);
+    assert_eq!(came.len(), 6);
+}
+
+#[test]
 fn threads_count_together() {
     fn count(tx: &Transaction<'_>) -> Result<(), Error> {
         // from this on no other transaction writes values of the key, so that what is read stays
