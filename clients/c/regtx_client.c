@@ -89,7 +89,7 @@ int regtx_session_end(regtx_store *store, uint32_t session)
     store->sessions[session] = false;
     for (size_t at = 0; at < TRANSACTIONS; at++)
         if (store->transactions[at].session == session)
-            store->transactions[at].is_there = false;
+            store->transactions[at].is_there = store->transactions[at].is_named = false;
     if (store->path)
         return regtx_link_hang_up(store, session);
     if (store->current == session)
@@ -97,11 +97,16 @@ int regtx_session_end(regtx_store *store, uint32_t session)
     return regtx_judge_ok(store, regtx_ask(store, "end %" PRIu32 "\n", session));
 }
 
+static bool is_used(const regtx_store *store, regtx_tx tx)
+{
+    return store->transactions[tx - 1].is_there || store->transactions[tx - 1].is_named;
+}
+
 int regtx_find_place(regtx_store *store, uint32_t session, regtx_tx *tx)
 {
     if (!is_open(store, session))
         return REGTX_NO_SUCH_HANDLE;
-    for (*tx = 1; regtx_is_there(store, *tx);)
+    for (*tx = 1; *tx <= TRANSACTIONS && is_used(store, *tx);)
         ++*tx;
     return *tx > TRANSACTIONS ? REGTX_NO_SEAT : regtx_enter(store, session);
 }
@@ -112,10 +117,10 @@ void regtx_take_place(regtx_store *store, regtx_tx tx, uint32_t session)
     store->transactions[tx - 1].session = session;
 }
 
-void regtx_forget(regtx_store *store, regtx_tx tx)
+void regtx_forget(regtx_store *store, regtx_tx tx, int closed)
 {
-    if (regtx_is_there(store, tx))
-        store->transactions[tx - 1].is_there = false;
+    store->transactions[tx - 1].is_there = false;
+    store->transactions[tx - 1].is_named = closed != REGTX_OK && closed != REGTX_NO_SUCH_HANDLE;
 }
 
 /* Reads the reply to a begin, and that to a question for the unit's outcome. */
@@ -165,7 +170,8 @@ static int release(regtx_store *store, regtx_tx tx)
     int code = regtx_enter_transaction(store, tx);
     if (code == REGTX_OK)
         code = regtx_judge_ok(store, regtx_ask(store, "close %" PRIu32 "\n", tx));
-    regtx_forget(store, tx);
+    if (regtx_is_there(store, tx))
+        regtx_forget(store, tx, code);
     return code;
 }
 
@@ -204,7 +210,7 @@ int regtx_commit_lines(regtx_store *store, struct regtx_lines *lines, regtx_tx t
     code = regtx_next(store);
     if (code == REGTX_OK)
         code = regtx_read_number(store, "committed", number);
-    regtx_settle(store);
+    regtx_forget(store, tx, regtx_judge_ok(store, regtx_next(store)));
     /* what was refused before it left it nothing to do, and a loss leaves it open */
     if (first != REGTX_OK && !store->link->broken)
         return first;
@@ -219,8 +225,9 @@ int regtx_commit(regtx_store *store, regtx_tx tx, uint64_t *number)
         regtx_lines_begin(store, &lines, true);
         code = regtx_commit_lines(store, &lines, tx, number);
     }
-    /* it is freed there too, or the run has ended, and each later call says so */
-    regtx_forget(store, tx);
+    /* nothing was sent; if this fails, too, each later call says so */
+    if (regtx_is_there(store, tx))
+        release(store, tx);
     return code;
 }
 

@@ -183,12 +183,6 @@ int regtx_next(regtx_store *store)
     return code;
 }
 
-void regtx_settle(regtx_store *store)
-{
-    while (store->link->owed > 0 && !store->link->broken)
-        regtx_next(store);
-}
-
 int regtx_ask(regtx_store *store, const char *format, ...)
 {
     enum { SHORT_LINE = 96 };

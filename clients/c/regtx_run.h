@@ -39,6 +39,7 @@ struct regtx_store {
     bool sessions[SESSIONS];
     struct {
         bool is_there;
+        bool is_named; /* its label names a transaction there, though it is gone here */
         uint32_t session;
     } transactions[TRANSACTIONS];
     uint64_t opened_at;
@@ -99,9 +100,6 @@ int regtx_lines_send(regtx_store *store, struct regtx_lines *lines);
  * no line is sent any more. */
 int regtx_next(regtx_store *store);
 
-/* Reads the replies that nobody asked for. */
-void regtx_settle(regtx_store *store);
-
 /* Sends one short line by its format, and reads its reply. */
 int regtx_ask(regtx_store *store, const char *format, ...);
 
@@ -129,10 +127,13 @@ int regtx_begin(regtx_store *store, uint32_t session, const regtx_uuid *unit,
                 struct regtx_kept *kept, regtx_tx *tx);
 
 /* Finds a place for a transaction, and makes the session the current one. It is taken once the
- * transaction is begun, and forgotten once it has ended. REGTX_NO_SUCH_HANDLE, REGTX_NO_SEAT. */
+ * transaction is begun. REGTX_NO_SUCH_HANDLE, REGTX_NO_SEAT. */
 int regtx_find_place(regtx_store *store, uint32_t session, regtx_tx *tx);
 void regtx_take_place(regtx_store *store, regtx_tx tx, uint32_t session);
-void regtx_forget(regtx_store *store, regtx_tx tx);
+
+/* A transaction is gone. Its place is free if its close was answered so: else its label may name it
+ * still, and what is sent with the begin of another one would reach it. */
+void regtx_forget(regtx_store *store, regtx_tx tx, int closed);
 
 /* Commits a transaction and frees its place, by lines that are sent together; behind those that
  * were added already, and whose replies are judged first. */

@@ -183,8 +183,7 @@ static int commit_writes(struct job *job, regtx_tx tx, uint64_t *number)
     regtx_lines_begin(job->store, &lines, true);
     add_part(&lines, tx, job->writes->bytes, job->writes->bytes + job->writes->size);
     int code = regtx_commit_lines(job->store, &lines, tx, number);
-    regtx_forget(job->store, tx);
-    return code;
+    return undo(job->store, tx, code);
 }
 
 /* Begins a transaction of writes, and commits. */

@@ -199,6 +199,29 @@ static void a_transaction_that_the_server_ended_is_begun_again(void)
                               "\n|tx 1 delete 0:K\n|commit 1\nclose 1\n|"));
 }
 
+/* What is sent with the begin of a second transaction, which is refused, must not reach a first one
+ * that couldn't be closed. */
+static void a_label_that_is_in_use_is_not_given_again(void)
+{
+    static const char *const parts[] = {
+        opened, "ok\n", "E1 NoMemory\n",
+        "E7 Conflict\nE9 NoSuchHandle\nE9 NoSuchHandle\nE9 NoSuchHandle\n", NULL};
+    regtx_uuid uuid = unit(1);
+    regtx_writes *writes = NULL;
+    regtx_tx tx = 0;
+    int process;
+    regtx_store *store = to_fake(parts, &process);
+    CHECK(regtx_at(store, 0) == REGTX_OK && regtx_writes_new(&writes) == REGTX_OK);
+    CHECK(regtx_writes_delete_key(writes, 0, "K") == REGTX_OK);
+    CHECK(regtx_transaction(store, 0, &uuid, &tx) == REGTX_OK && tx == 1);
+    CHECK(regtx_rollback(store, tx) == REGTX_NO_MEMORY);
+    CHECK(regtx_transact_writes(store, 0, &uuid, 1, writes, NULL) == REGTX_CONFLICT);
+    regtx_writes_free(writes);
+    regtx_close(store);
+    CHECK(server_got(process, "begin 1 " UNIT "\n|close 1\n|begin 2 " UNIT
+                              "\ntx 2 delete 0:K\ncommit 2\nclose 2\n|"));
+}
+
 static void a_reply_that_takes_too_long_ends_the_connection(void)
 {
     static const char *const parts[] = {opened, "", "", NULL};
@@ -300,6 +323,7 @@ void test_lost_connections(void)
     a_commit_that_is_not_sent_is_not_done();
     lines_are_sent_together();
     a_transaction_that_the_server_ended_is_begun_again();
+    a_label_that_is_in_use_is_not_given_again();
     a_reply_that_takes_too_long_ends_the_connection();
     a_killed_server_is_told_and_work_is_done_once();
     a_fork_refuses_what_it_did_not_open();

@@ -156,14 +156,16 @@ impl<'a> Transaction<'a> {
         // a commit that isn't sent isn't done
         let may_send = run.may_send();
         self.is_held.set(may_send && self.is_held.get());
-        let answers = match run.write_all(self.session, lines, before) {
-            Ok(answers) => {
-                self.is_held.set(false);
-                answers
-            }
+        let mut answers = match run.write_all(self.session, lines, before) {
+            Ok(answers) => answers.into_iter(),
             Err(why) => return Err(self.judge_unanswered(why, may_send)),
         };
-        let mut answers = answers.into_iter();
+        // a close that was refused is tried again by the drop
+        let closed = answers.as_slice().get(before + 1);
+        self.is_held.set(matches!(
+            closed,
+            Some(Err(why)) if !matches!(why, Error::Refused(Refusal::NoSuchHandle, _))
+        ));
         for answer in answers.by_ref().take(before) {
             answer?;
         }
@@ -208,14 +210,23 @@ fn judge_write(answer: Answer) -> Result<(), Error> {
 impl Drop for Transaction<'_> {
     fn drop(&mut self) {
         let mut run = self.run.borrow_mut();
-        if self.is_held.get() {
-            match self.close(&mut run) {
-                // a server may have ended it, to make room in its history
-                Err(Error::Refused(Refusal::NoSuchHandle, _)) if run.is_served() => {}
-                closed => run.keep(closed),
-            }
+        let closed = if self.is_held.get() {
+            self.close(&mut run)
+        } else {
+            Ok(())
+        };
+        let is_gone = match &closed {
+            Ok(()) | Err(Error::Refused(Refusal::NoSuchHandle, _)) => true,
+            Err(_) => false,
+        };
+        // a label that still names this transaction is never another one's
+        if is_gone {
+            run.free_label(self.label);
         }
-        run.free_label(self.label);
+        // a server may have ended it, to make room in its history
+        if !(is_gone && run.is_served()) {
+            run.keep(closed);
+        }
     }
 }
 

@@ -379,6 +379,30 @@ fn a_transaction_that_the_server_ended_is_begun_again() {
 }
 
 #[test]
+fn a_label_that_is_in_use_is_not_given_again() {
+    // the second transaction is refused, and what is sent with its begin must not reach the first
+    let (answer, came) = talk(
+        &[
+            "opened 0\n",
+            "ok\n",
+            "E1 NoMemory\n",
+            "E7 Conflict\nE9 NoSuchHandle\nE9 NoSuchHandle\nE9 NoSuchHandle\n",
+        ],
+        |store| {
+            let mut writes = Writes::new();
+            writes.delete_key(Key::new(0, "K"))?;
+            store.at(Some(0))?;
+            let refused = store.transaction(&unit(1))?.rollback();
+            assert!(matches!(refused, Err(Error::Refused(Refusal::NoMemory, _))));
+            store.transact_writes(&unit(1), 1, &writes)
+        },
+    );
+    assert!(refused(&answer, Refusal::Conflict));
+    assert!(came[0].starts_with("begin 0 ") && came[1] == "close 0\n");
+    assert!(came[2].starts_with("begin 1 ") && came[2].ends_with("\ncommit 1\nclose 1\n"));
+}
+
+#[test]
 fn threads_count_together() {
     fn count(tx: &Transaction<'_>) -> Result<(), Error> {
         // from this on no other transaction writes values of the key, so that what is read stays
