@@ -88,8 +88,11 @@ def place_of_operator(bench):
             more = it.lines()
         yield expect("30 clients of another user", {client.first for client in clients}, {"opened 0"})
         yield expect("one more of it", (more.first, more.read()), ("E10 NoSeat", None))
-        yield expect("the broker's user", it.lines().first, "opened 0")
+        operator = it.lines()
+        yield expect("the broker's user", operator.first, "opened 0")
         yield expect("and no more", it.lines().first, "E10 NoSeat")
+        for client in [operator, *clients]:
+            client.close()
 
 
 def killed_clients(bench):
