@@ -1,4 +1,4 @@
-"""Programs that speak the frames of server/README.md, as `regtx serve` will: what tests/broker.py has the broker start.
+"""Programs that speak the frames of server/README.md, as `regtx serve` does: what tests/broker.py has the broker start.
 
     framed_programs.py echo FAULTS        answers what it is sent
     framed_programs.py random FAULTS N    answers as clients ask it, in pieces, an order and at moments of the seed N
