@@ -13,7 +13,7 @@ from installation import (MANUAL, TOP, VENDOR_ZSH, ZSH, content, differences, en
 from scratch import are_there, as_other, expect, skip
 
 SYMBOL = re.compile(r"@GLIBC_([\d.]+)")
-LINKED = ["usr/libexec/regtx", "usr/lib/libregtx.so.0"]
+LINKED = ["usr/libexec/regtx", "usr/lib/libregtx.so.0", "usr/bin/regtxd", "usr/bin/regtxc"]
 # folders of the system to which a package may add, and what other programs may add there at the same time
 SYSTEM, PASSING = ["/usr", "/etc", "/var/lib/dpkg/info"], "__pycache__"
 LOCK_SECONDS = 120

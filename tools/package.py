@@ -20,9 +20,10 @@ from product import changed, description, summary, version  # noqa: E402
 
 MAINTAINER = "Nojaldreg <nojaldreg@example.invalid>"
 # files with symbols that the C library has to have, and the page that is kept compressed
-LINKED, MANUAL = ["usr/libexec/regtx", "usr/lib/libregtx.so.0"], "usr/share/man/man1/regtx.1"
+LINKED, MANUAL = ["usr/libexec/regtx", "usr/lib/libregtx.so.0", "usr/bin/regtxd", "usr/bin/regtxc"], "usr/share/man/man1/regtx.1"
 SYMBOL = re.compile(r"\bGLIBC_(\d+(?:\.\d+)+)\b")
-ALSO = "The package has the program, its manual page, its clients for Python, Rust and C, bindings for Python and Rust, and a library for C: hives in memory."
+ALSO = ("The package has the program, its manual page, the broker that serves a store to several programs, its clients for Python, Rust and C, "
+        "bindings for Python and Rust, and a library for C: hives in memory.")
 # where the zsh of Debian looks for completions of packages
 ZSH_FUNCTIONS = "ZSH_FUNCTIONS=share/zsh/vendor-completions"
 # a library came or went
