@@ -11,6 +11,7 @@
 - kept_under_way, kept_is_durable: what is told of a commit before that is answered.
 - generations: a history that becomes full.
 - doors: who gets in; examples: those of the pages.
+- frames_by_hand: the program without the broker.
 
 With --full there are as many turns as make a lapse of a second or a hundredth show; without it the gate's. Parts are carried out side
 by side, and each is given up after PART_SECONDS. The last line is 'N passed, N failed'; status 0 if none failed.
@@ -26,12 +27,13 @@ sys.dont_write_bytecode = True
 sys.path.insert(0, os.path.join(TOP, "tests"))
 import served_clients  # noqa: E402
 import served_ends  # noqa: E402
+import served_frames  # noqa: E402
 import served_generations  # noqa: E402
 from parts import results_of  # noqa: E402
 from scratch import finish, memory, noting_library, program_at, skip, tell  # noqa: E402
 from served_store import Bench, broker_in, short_folder  # noqa: E402
 
-PARTS = {part.__name__: part for part in [*served_clients.PARTS, *served_ends.PARTS, *served_generations.PARTS]}
+PARTS = {part.__name__: part for part in [*served_clients.PARTS, *served_ends.PARTS, *served_generations.PARTS, *served_frames.PARTS]}
 # these come first
 LONGEST = ["generations", "killed_program", "killed_clients", "once", "stops", "kept_under_way", "unread"]
 PART_SECONDS, FULL_SECONDS = 240, 1_500
