@@ -1,6 +1,7 @@
-/* regtxc: sends standard input to a store that is served, and prints the replies.
+/* regtxc: sends standard input, or one line by its words, to a store that is served, and prints the
+   replies.
 
-       regtxc [-u USER] SOCKET
+       regtxc [-u USER] SOCKET [WORD ..]
 
    Statuses are those of `regtx run`: 0; 1 if a reply was a refusal, or the service couldn't be
    reached or read; 2 if a line was none. README.md of this folder says more. */
@@ -25,6 +26,8 @@ enum {
     CHUNK = 65536,
     /* `line N: not understood` has less, and so have the beginnings of refusals */
     START = 48,
+    /* the service takes no longer line, its LF left out */
+    MOST_LINE = 4194304,
     REFUSED = 1,
     WRONG = 2,
 };
@@ -34,7 +37,7 @@ enum { INPUT, SERVER, OUTPUT, POLLED };
 /* what was read and isn't written yet */
 struct buffer {
     size_t at, len;
-    char bytes[CHUNK];
+    char *bytes;
 };
 
 /* the replies that came: how many, and the beginning of the one that isn't whole yet */
@@ -45,11 +48,16 @@ struct replies {
     bool is_explained; /* a line was none, or there was a refusal in the place of `opened` */
 };
 
-static struct buffer lines, answers;
+/* a blank in a name, as lines have it */
+static const char blank[] = "%0020";
+
+static char line_room[CHUNK], answer_room[CHUNK];
+static struct buffer lines = {.bytes = line_room}, answers = {.bytes = answer_room};
 static struct replies replies;
 static unsigned long long asked; /* lines that were read, those without an end left out */
 static bool is_in_line;          /* the last byte that was read ended no line */
 static bool has_input = true, has_end, may_send = true, is_over;
+static bool holds_first; /* the first line is kept back until it is whole */
 static int server = -1, status;
 
 static void say(const char *format, ...)
@@ -139,7 +147,7 @@ static void end_lines(void)
 
 static void read_input(void)
 {
-    ssize_t got = read(STDIN_FILENO, lines.bytes, sizeof lines.bytes);
+    ssize_t got = read(STDIN_FILENO, lines.bytes, CHUNK);
     if (got < 0 && (errno == EINTR || errno == EAGAIN))
         return;
     if (got < 0) {
@@ -170,17 +178,34 @@ static void send_lines(void)
         give_up("the service");
 }
 
+/* Drops `opened N`, which answers no word. Any other first line is shown, and so is a part of one
+   that never becomes whole. */
+static void hold_first(void)
+{
+    const char *end = memchr(answers.bytes, '\n', answers.len);
+    holds_first = !end && !is_over && answers.len < CHUNK;
+    if (holds_first)
+        answers.at = answers.len;
+    else if (end && begins(answers.bytes, answers.len, "opened "))
+        answers.at = (size_t)(end - answers.bytes) + 1;
+    else
+        answers.at = 0;
+}
+
 static void read_answers(void)
 {
-    ssize_t got = recv(server, answers.bytes, sizeof answers.bytes, 0);
+    size_t held = holds_first ? answers.len : 0;
+    ssize_t got = recv(server, answers.bytes + held, CHUNK - held, 0);
     if (got < 0 && (errno == EINTR || errno == EAGAIN))
         return;
     if (got < 0 && errno != ECONNRESET)
         give_up("the service");
     is_over = got <= 0;
-    answers.at = 0;
-    answers.len = got > 0 ? (size_t)got : 0;
-    look_at_replies(answers.bytes, answers.len);
+    answers.at = held;
+    answers.len = held + (got > 0 ? (size_t)got : 0);
+    look_at_replies(answers.bytes + held, answers.len - held);
+    if (holds_first)
+        hold_first();
 }
 
 /* No more than a pipe takes without waiting, once it is told to have room: whoever writes this
@@ -230,6 +255,50 @@ static void turn(void)
         print_answers();
     if (polled[SERVER].revents && is_empty(&answers))
         read_answers();
+}
+
+/* --- one line by its words --- */
+
+static _Noreturn void refuse_words(const char *why)
+{
+    say("%s", why);
+    exit(WRONG);
+}
+
+/* A blank within a word parts no words. Only names have blanks, and lines spell them so: no line has
+   to be known for that, and a blank anywhere else makes a line that is none, as ever. */
+static void add_word(const char *word)
+{
+    for (; *word; word++) {
+        if (*word == '\n')
+            refuse_words("a word has a line feed");
+        if (*word == ' ') {
+            memcpy(lines.bytes + lines.len, blank, strlen(blank));
+            lines.len += strlen(blank);
+        } else {
+            lines.bytes[lines.len++] = *word;
+        }
+    }
+}
+
+/* Makes the words the only line that is sent. */
+static void take_words(char *const *words, int count)
+{
+    size_t room = 0;
+    for (int at = 0; at < count; at++)
+        room += strlen(words[at]) * strlen(blank) + 1;
+    lines.bytes = malloc(room);
+    if (!lines.bytes)
+        give_up("the line");
+    for (int at = 0; at < count; at++) {
+        add_word(words[at]);
+        lines.bytes[lines.len++] = at + 1 < count ? ' ' : '\n';
+    }
+    if (lines.len - 1 > MOST_LINE)
+        refuse_words("the line has more than 4,194,304 bytes");
+    asked = 1;
+    has_input = false;
+    holds_first = true;
 }
 
 /* --- the connection --- */
@@ -297,14 +366,17 @@ int main(int count, char **words)
     const uid_t *wanted = NULL;
     int letter;
     bool is_right = true;
-    while ((letter = getopt(count, words, "u:")) != -1) {
+    /* `+`: what begins with - after SOCKET is a word of the line */
+    while ((letter = getopt(count, words, "+u:")) != -1) {
         is_right &= letter == 'u' && read_user(optarg, &user);
         wanted = &user;
     }
-    if (!is_right || count - optind != 1) {
-        fputs("usage: regtxc [-u USER] SOCKET\n", stderr);
+    if (!is_right || optind >= count) {
+        fputs("usage: regtxc [-u USER] SOCKET [WORD ..]\n", stderr);
         return WRONG;
     }
+    if (count - optind > 1)
+        take_words(words + optind + 1, count - optind - 1);
     for (int fd = STDIN_FILENO; fd <= STDERR_FILENO; fd++)
         if (fcntl(fd, F_GETFD) < 0)
             return REFUSED; /* the connection would be taken for it */
