@@ -265,8 +265,8 @@ static _Noreturn void refuse_words(const char *why)
     exit(WRONG);
 }
 
-/* A blank within a word parts no words. Only names have blanks, and lines spell them so: no line has
-   to be known for that, and a blank anywhere else makes a line that is none, as ever. */
+/* A blank within a word parts no words. Only names have blanks, and lines spell them so. So no line
+   has to be known for that, and a blank anywhere else makes a line that is none, as ever. */
 static void add_word(const char *word)
 {
     for (; *word; word++) {

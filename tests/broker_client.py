@@ -25,7 +25,36 @@ ENDS = [
     ("a last line without its end", b"opened 0\nok\n", b"a\nb", 2, "no end (LF)"),
     ("a line without its end alone", b"opened 0\n", b"b", 2, "no end (LF)"),
 ]
-WORDS = [[], ["a", "b"], ["-u", "no-such-user", "a"], ["-u", "", "a"], ["-u", "-1", "a"], ["-x", "a"], ["-u"]]
+WORDS = [[], ["-u", "no-such-user", "a"], ["-u", "", "a"], ["-u", "-1", "a"], ["-x", "a"], ["-u"], ["--"]]
+# what the server says of one line by its words, what of that is printed, the status, and what is told of it
+REPLIES = [
+    ("a reply", b"opened 12\nvalue 1 3100\n", b"value 1 3100\n", 0, ""),
+    ("a refusal", b"opened 0\nE2 NotFound\n", b"E2 NotFound\n", 1, ""),
+    ("a line that is none", b"opened 0\nline 1: not understood\n", b"line 1: not understood\n", 2, ""),
+    ("a reply as the first line", b"opened 0\nopened\n", b"opened\n", 0, ""),
+    ("no place", b"E10 NoSeat\n", b"E10 NoSeat\n", 1, ""),
+    ("a store that failed", b"E14 Faulted\n", b"E14 Faulted\n", 1, ""),
+    ("a first line that is neither", b"openeds 0\nok\n", b"openeds 0\nok\n", 0, ""),
+    ("a long first line", b"a" * 100_000 + b"\nok\n", b"a" * 100_000 + b"\nok\n", 0, ""),
+    ("no reply", b"opened 0\n", b"", 1, "0 of 1"),
+    ("no word at all", b"", b"", 1, "0 of 1"),
+    ("a part of the first line", b"opened 0", b"opened 0", 1, "0 of 1"),
+]
+# words, and the line that is sent: docs/SCRIPTS.md says how names have a blank
+SPELLED = [
+    (["get", "0:A", "v"], b"get 0:A v\n"),
+    (["flush"], b"flush\n"),
+    (["get", "0:Some Vendor", " v "], b"get 0:Some%0020Vendor %0020v%0020\n"),
+    (["get", "0:Some%0020Vendor", "@"], b"get 0:Some%0020Vendor @\n"),
+    (["keys 0:"], b"keys%00200:\n"),
+    (["get", "0:A", "-v"], b"get 0:A -v\n"),
+    (["-u", "root", "--", "-x"], b"-u root -- -x\n"),
+    (["get", "0:A", ""], b"get 0:A \n"),
+    ([""], b"\n"),
+    (["a\tb\r", b"\xff\x01\\"], b"a\tb\r \xff\x01\\\n"),
+]
+# the longest line, by docs/SERVING.md; how many bytes a program's word has at most; and how many words of blanks such a line has room for
+MOST_LINE, MOST_WORD, BLANKS = 4_194_304, 131_071, 6
 
 
 class Server(threading.Thread):
@@ -82,6 +111,64 @@ def statuses(bench):
     for path in ("/no/such/socket", "s" * 108):
         found = bench.run(path, input=b"")
         yield expect("no service", (found[:2], path in found[2]), ((1, b""), True))
+
+
+def by_words(bench):
+    """One line by its words: what is sent and printed of it, and its status."""
+    with open(f"{bench.home}/unread", "w+b") as unread:
+        unread.write(b"b\n")
+        for title, said, printed, status, told in REPLIES:
+            unread.seek(0)
+            server = Server(f"{bench.home}/fake", saying(said))
+            found = bench.run(server.path, "a", "b", stdin=unread)
+            yield expect(title, (found[:2], told in found[2], bool(found[2]) == bool(told)), ((status, printed), True, True))
+            yield expect(f"{title}: what was sent", (server.end(), unread.tell()), (b"a b\n", 0))
+    for words, line in SPELLED:
+        for before in ([], ["--"], ["-u", str(os.geteuid())]):
+            server = Server(f"{bench.home}/fake", saying(b"opened 0\nok\n"))
+            found = bench.run(*before, server.path, *words, stdin=subprocess.DEVNULL)
+            yield expect(f"{before} {words}", (found, server.end()), ((0, b"ok\n", ""), line))
+    server = Server(f"{bench.home}/fake", in_pieces)
+    found = bench.run(server.path, "a", stdin=subprocess.DEVNULL)
+    yield expect("bytes one by one", (found, server.end()), ((0, b"ok\n", ""), b"a\n"))
+
+
+def longest_words():
+    """The words of a line of MOST_LINE bytes. A program gets fewer bytes of words, so most of these are blanks, which take five."""
+    words = BLANKS * [" " * MOST_WORD]
+    left = MOST_LINE - (BLANKS * MOST_WORD * len("%0020") + BLANKS - 1)
+    while left > 0:
+        words.append("a" * min(MOST_WORD, left - 1))
+        left -= len(words[-1]) + 1
+    return words
+
+
+def in_pieces(client):
+    """Says each byte by itself, the first ones before it reads."""
+    for byte in b"opened 0\nok":
+        client.sendall(bytes([byte]))
+        # so that most are read by themselves, on which nothing rests
+        time.sleep(0.01)
+    found = read_all(client)
+    client.sendall(b"\n")
+    return found
+
+
+def wrong_words(bench):
+    """What makes no line, or one that is too long, is refused before the service is looked for."""
+    for words in (["get", "0:A", "a\nb"], ["\n"], ["keys", "0:\n"]):
+        found = bench.run("/no/such/socket", *words, stdin=subprocess.DEVNULL)
+        yield expect(f"{words}", found, (2, b"", "regtxc: a word has a line feed\n"))
+    words = longest_words()
+    server = Server(f"{bench.home}/fake", saying(b"opened 0\nok\n"))
+    found = bench.run(server.path, *words, stdin=subprocess.DEVNULL)
+    line = server.end()
+    yield expect("the longest line", (found, len(line), line.count(b"%0020")), ((0, b"ok\n", ""), MOST_LINE + 1, BLANKS * MOST_WORD))
+    found = bench.run("/no/such/socket", *words[:-1], words[-1] + "a", stdin=subprocess.DEVNULL)
+    yield expect("a line that is too long", found, (2, b"", "regtxc: the line has more than 4,194,304 bytes\n"))
+    server = Server(f"{bench.home}/fake", cut_off)
+    found = bench.run(server.path, *words, stdin=subprocess.DEVNULL)
+    yield expect("a server that reads no more", found, (1, b"E6 TooLarge\n", ""))
 
 
 def first(client):
@@ -147,15 +234,16 @@ def peers(bench):
     said, refusal = b"opened 0\nok\n", f"regtxc: the service belongs to user {NOBODY}: -u {NOBODY} trusts it\n"
     for given, is_trusted in [([], False), (["-u", str(NOBODY)], True), (["-u", "nobody"], True), (["-u", "0"], False),
                               (["-u", "12345"], False)]:
-        with as_other():
-            server = Server(f"{bench.home}/theirs/socket", saying(said))
-        status, printed, told = bench.run(*given, server.path, input=b"secret\n")
-        wanted = (0, said, "", b"secret\n") if is_trusted else (1, b"", refusal, b"")
-        yield expect(f"a service of another user, {given}", (status, printed, told, server.end()), wanted)
+        for words, replies in (([], said), (["secret"], b"ok\n")):
+            with as_other():
+                server = Server(f"{bench.home}/theirs/socket", saying(said))
+            status, printed, told = bench.run(*given, server.path, *words, input=b"" if words else b"secret\n")
+            wanted = (0, replies, "", b"secret\n") if is_trusted else (1, b"", refusal, b"")
+            yield expect(f"a service of another user, {given} {words}", (status, printed, told, server.end()), wanted)
     for given, is_trusted in [([], True), (["-u", "0"], True), (["-u", "root"], True), (["-u", str(NOBODY)], False)]:
         server = Server(f"{bench.home}/fake", saying(said))
         found = bench.run(*given, server.path, input=b"a\n")[0]
         yield expect(f"a service of root, {given}", (found, server.end()), (0, b"a\n") if is_trusted else (1, b""))
 
 
-PARTS = [statuses, duplex, asks, peers]
+PARTS = [statuses, by_words, wrong_words, duplex, asks, peers]
