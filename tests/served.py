@@ -6,6 +6,7 @@
 - two_processes, threads_of_lines: programs that commit at once; places: 31 clients, and one more.
 - killed_clients, once, idle: clients that die with lines unread, in a transaction or within a commit; work that is done once.
 - unread, long_lines, lines: a client that doesn't read, a line without an end, and each line that is answered otherwise than in a run.
+- by_words: lines that a shell sends one by one.
 - killed_program, killed_broker, stops: what is there after each end.
 - full_disk, failing_syncs: what is told after a fault.
 - kept_under_way, kept_is_durable: what is told of a commit before that is answered.

@@ -10,6 +10,7 @@ import threading
 import time
 
 from broker_bench import as_other
+from broker_build import built
 from scratch import TOP, expect
 from served_store import SECONDS, Lines, dword, number_of, transaction, unit, until
 
@@ -19,6 +20,34 @@ SYNC_TAKES = 200
 MEBIBYTE, MOST_LINE, MOST_OPEN = 1_048_576, 4_194_304, 33
 # what a served session may take of memory beside what it has, in kB
 MOST_MEMORY = 24_576
+UNIT = unit("words")
+# words of a shell's lines, one after another, and the status and the reply to each
+WORDS = [
+    (["get", "0:A", "v"], 1, "E2 NotFound\n"),
+    (["create", "0:A"], 0, "created 1 accepted 1\n"),
+    (["set", "0:A", "v", "1", "3100"], 0, "accepted 2\n"),
+    (["get", "0:A", "v"], 0, "value 1 3100\n"),
+    (["create", "0:Some Vendor"], 0, "created 1 accepted 3\n"),
+    (["set", "0:Some%0020Vendor", "a b", "3", "-"], 0, "accepted 4\n"),
+    (["set", "0:Some Vendor", "-v", "4", "01000000"], 0, "accepted 5\n"),
+    (["set", "0:Some Vendor", "--", "4", "02000000"], 0, "accepted 6\n"),
+    (["values", "0:Some Vendor"], 0, "values 3 -- -v a%0020b\n"),
+    (["get", "0:Some Vendor", "-v"], 0, "value 4 01000000\n"),
+    (["get", "0:Some Vendor", "--"], 0, "value 4 02000000\n"),
+    (["set", "0:A", "", "3", "00"], 2, "line 1: not understood\n"),
+    (["keys"], 2, "line 1: not understood\n"),
+    (["keys 0:"], 2, "line 1: not understood\n"),
+    (["--"], 2, "line 1: not understood\n"),
+    (["-u", "root"], 2, "line 1: not understood\n"),
+    ([""], 2, "line 1: not understood\n"),
+    (["delete", "0:A\ncreate 0:B"], 2, ""),
+    # a transaction ends with its connection
+    (["begin", "t", UNIT], 0, "ok\n"),
+    (["tx", "t", "create", "0:B"], 1, "E9 NoSuchHandle\n"),
+    (["begin", "u", UNIT], 0, "ok\n"),
+    (["flush"], 0, "flushed 6\n"),
+    (["keys", "0:"], 0, "keys 2 A Some%0020Vendor\n"),
+]
 # a program that commits transactions over two hives, and tells their numbers
 COMMITTER = """
 import sys
@@ -251,6 +280,24 @@ def lines(bench):
         yield expect("the stop", it.end()[0], 0)
 
 
+def by_words(bench):
+    """Lines of a shell by their words, each on a connection of its own."""
+    client = built("regtxc", bench.home)
+    with bench.served() as it:
+        for given, status, reply in WORDS:
+            yield expect(" ".join(given), carried_out(client, it, given), (status, reply))
+        yield expect("the stop", it.end()[0], 0)
+    yield expect("afterwards", it.replies("keys 0:"), ["opened 6", "keys 2 A Some%0020Vendor"])
+    yield expect("no service", carried_out(client, it, ["keys", "0:"]), (1, ""))
+    with bench.served("-n", "1") as it, it.lines():
+        yield expect("no place", carried_out(client, it, ["keys", "0:"]), (1, "E10 NoSeat\n"))
+
+
+def carried_out(client, it, given):
+    ran = subprocess.run([client, it.path, *given], input=b"create 0:Unread\n", capture_output=True, timeout=SECONDS)
+    return ran.returncode, ran.stdout.decode()
+
+
 def units(it, one, two):
     """A unit of work is at hand in one session at a time, until it is committed, rolled back or closed, or the session ends."""
     mine = unit("mine")
@@ -354,4 +401,4 @@ def threads_of_lines(bench):
     yield expect("the last values", [number_of(reply) for reply in found], CLIENTS * [turns - 1])
 
 
-PARTS = [two_processes, places, killed_clients, unread, long_lines, lines, once, idle, threads_of_lines]
+PARTS = [two_processes, places, killed_clients, unread, long_lines, lines, by_words, once, idle, threads_of_lines]
