@@ -35,8 +35,8 @@ pub record HasServed (sole : Bool) (origin : EngineView) (trees : List TreeMap) 
   pub replies : List ReplyLine
   pub answered : AnswersLines sole origin trees number hives mid lines replies new
 
--- A client's session was opened at this moment, after all that its thread had seen. It served lines. At last it was ended,
--- whatever ended the lines.
+-- A client's session was opened at this moment, after all that its thread had seen. It served lines. At last its end was
+-- asked for, whatever ended the lines, and was granted or refused; or there was no memory for it.
 pub record HasSession (sole : Bool) (origin : EngineView) (trees : List TreeMap) (number hives : ℕ) (was : Sight) (moment : ℕ) (is : Sight) : Type 0 where
   pub first : Script
   pub begun : IsBegun sole origin trees number hives was moment first
