@@ -33,8 +33,10 @@ pub fn serve_store<
     let (frames, (disk, served)) = serve_beside_input(rt, alloc, disk, &desks);
     let ran = match frames {
         FramesEnd::Broken => Ok(Status::Wrong),
-        _ if desks.has_failed(rt) => Ok(Status::Refused),
-        _ => served,
+        // what the broker sent since wasn't read
+        FramesEnd::NoMemory => tell(rt, Refusal::NoMemory),
+        FramesEnd::Ended if desks.has_failed(rt) => Ok(Status::Refused),
+        FramesEnd::Ended => served,
     };
     hint_at(rt, output, folder, &disk, &ran);
     Ok(output.status(rt, ran))
