@@ -64,9 +64,13 @@ def wrong_output(programs, may_lack):
     yield expect("how many", PARTS - may_lack <= len(ports) == len(settings), True)
     views = [re.fullmatch(r"revision (\d+): (\d+) parts, ports ?(.*)", line) for line in seen]
     # whatever was seen belonged together: the ports of so many changes, and of parts that were there
+    torn = []
     for view in views:
         found = sorted(map(int, view[3].split()))
-        yield expect(view[0], (found, int(view[2]) >= len(found)), (list(range(FIRST_PORT, FIRST_PORT + int(view[1]))), True))
+        if found != list(range(FIRST_PORT, FIRST_PORT + int(view[1]))) or int(view[2]) < len(found):
+            torn.append(view[0])
+    # one check for all: how many views there are is the schedule's
+    yield expect("views of no one moment", torn, [])
     yield expect("the last view", views[-1][1], str(PARTS))
 
 
