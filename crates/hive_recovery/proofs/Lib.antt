@@ -5,3 +5,5 @@ pub mod Planned
 pub mod States
 pub mod Swapped
 pub mod Clean
+pub mod Runs
+pub mod Newest

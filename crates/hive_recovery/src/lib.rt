@@ -18,4 +18,4 @@ pub use carrying::carry_out;
 pub use log::{Log, LogHead, read_log};
 pub use planning::{RecoveryPlan, plan};
 pub use report::LogEnding;
-pub use sequence::missing_number;
+pub use sequence::{LogRun, missing_number};

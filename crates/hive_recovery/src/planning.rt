@@ -1,14 +1,15 @@
 //! Which entries are applied.
-ghost use Rattle.std.specs.Prelude.{◌≡◌, ◌⊎◌, ◌<◌, ◌≤◌, ◌-◌, true, [], slice_index_or, Ok, Err, None, length, take, IfOk, IfErr, IfSome, IfNone, option_map};
+ghost use Rattle.std.specs.Prelude.{◌≡◌, ◌⊎◌, ◌<◌, ◌≤◌, true, List, slice_get, Ok, Err, Some, length, take, IfOk, IfErr, IfSome, IfNone, option_map};
 ghost use Rattle.refusals.specs.declared.refusal.Refusal.TheVariants.{NoMemory};
 ghost use Rattle.base_block.specs.Judgements.{IsPrimary};
 ghost use Rattle.base_block.specs.Layout.{block_at, is_clean_block};
 ghost use Rattle.hive_recovery.specs.declared.log.Log.{Log};
+ghost use Rattle.hive_recovery.specs.Runs.{AreRunsOf};
 ghost use Rattle.hive_recovery.specs.Plans.{seen, is_torn_block, plan_of, plan_by_block, replayed, torn_plan, unclean_plan, newest_of, is_newer, no_log, log_replayed, NothingChosen, IsPlanRefused};
 
 use crate::log::Log;
 use crate::sector::recovered;
-use crate::sequence::{append, is_below, number_after, sequence_from};
+use crate::sequence::{LogRun, is_below, last_of, number_after, sequence_from, whole_log};
 use base_block::{BaseBlock, SequenceNumber, Signature};
 use hive_log_entries::LogEntry;
 use refusals::{Cause, Refusal};
@@ -21,6 +22,8 @@ pub struct RecoveryPlan<'a> {
     pub sector: [u8; 512],
     /// The entries that are applied, one after the other; none if the hive is clean.
     pub entries: Vec<LogEntry<'a>>,
+    /// Which runs of logs these entries are.
+    pub runs: Vec<LogRun>,
     /// Its bytes of bins data.
     pub bins_size: u32,
 }
@@ -32,6 +35,7 @@ pub struct RecoveryPlan<'a> {
 /// that of the recovered hive is refused. Otherwise refused for want of memory alone.
 pub fn plan<'a>(alloc: Global, file: &[u8], logs: &[Log<'a>]) -> Result<RecoveryPlan<'a>, Refusal>
     ensures chosen { IfOk result (λ plan. plan_of file.now logs.now ≡ Ok (seen plan)) }
+    ensures runs { IfOk result (λ plan. AreRunsOf logs.now plan.runs.items plan.entries.items) }
     ensures clean { IfOk result (λ plan. is_clean_block (block_at plan.sector) ≡ true) }
     ensures judged { IfOk result (λ plan. IsPrimary (block_at plan.sector)) }
     ensures refused { IfErr result (IsPlanRefused file.now logs.now) }
@@ -50,6 +54,7 @@ pub fn plan<'a>(alloc: Global, file: &[u8], logs: &[Log<'a>]) -> Result<Recovery
 // chooses, and leaves the new base block unjudged
 fn choose<'a>(alloc: Global, file: &[u8], logs: &[Log<'a>]) -> Result<RecoveryPlan<'a>, Refusal>
     ensures chosen { IfOk result (λ plan. plan_of file.now logs.now ≡ Ok (seen plan)) }
+    ensures runs { IfOk result (λ plan. AreRunsOf logs.now plan.runs.items plan.entries.items) }
     ensures clean { IfOk result (λ plan. is_clean_block (block_at plan.sector) ≡ true) }
     ensures refused { IfErr result (NothingChosen file.now logs.now) }
 {
@@ -76,6 +81,7 @@ fn choose_by_block<'a>(
 ) -> Result<RecoveryPlan<'a>, Refusal>
     requires { block.now ≡ block_at sector }
     ensures chosen { IfOk result (λ plan. plan_by_block sector block.now logs.now ≡ Ok (seen plan)) }
+    ensures runs { IfOk result (λ plan. AreRunsOf logs.now plan.runs.items plan.entries.items) }
     ensures clean { IfOk result (λ plan. is_clean_block (block_at plan.sector) ≡ true) }
     ensures refused { IfErr result (λ why. (why ≡ NoMemory) ⊎ (plan_by_block sector block.now logs.now ≡ Err why)) }
 {
@@ -86,6 +92,7 @@ fn choose_by_block<'a>(
         return Ok(RecoveryPlan {
             sector,
             entries: Vec::new(alloc),
+            runs: Vec::new(alloc),
             bins_size: block.bins_size,
         });
     }
@@ -121,11 +128,12 @@ fn choose_in_sequence<'a>(
     logs: &[Log<'a>],
 ) -> Result<RecoveryPlan<'a>, Refusal>
     ensures chosen { IfOk result (λ plan. unclean_plan sector.now from.0 logs.now ≡ Ok (seen plan)) }
+    ensures runs { IfOk result (λ plan. AreRunsOf logs.now plan.runs.items plan.entries.items) }
     ensures clean { IfOk result (λ plan. is_clean_block (block_at plan.sector) ≡ true) }
     ensures refused { IfErr result (λ why. (why ≡ NoMemory) ⊎ (unclean_plan sector.now from.0 logs.now ≡ Err why)) }
 {
-    let entries = sequence_from(alloc, logs, from)?;
-    replay(sector, entries)
+    let found = sequence_from(alloc, logs, from)?;
+    replay(sector, found.entries, found.runs)
 }
 
 #[tactic(auto, unfolding(crate::specs::Plans::torn_plan))]
@@ -136,11 +144,12 @@ fn choose_newest<'a>(
     logs: &[Log<'a>],
 ) -> Result<RecoveryPlan<'a>, Refusal>
     ensures chosen { IfOk result (λ plan. torn_plan block.now logs.now ≡ Ok (seen plan)) }
+    ensures runs { IfOk result (λ plan. AreRunsOf logs.now plan.runs.items plan.entries.items) }
     ensures clean { IfOk result (λ plan. is_clean_block (block_at plan.sector) ≡ true) }
     ensures refused { IfErr result (λ why. (why ≡ NoMemory) ⊎ (torn_plan block.now logs.now ≡ Err why)) }
 {
     match newest(logs) {
-        Some(log) => choose_log(alloc, log),
+        Some((place, log)) => choose_log(alloc, place, log),
         None => Err(why_no_log(block)),
     }
 }
@@ -156,32 +165,43 @@ fn why_no_log(block: &BaseBlock) -> Refusal
     }
 }
 
-// all entries of a log
-fn choose_log<'a>(alloc: Global, log: &Log<'a>) -> Result<RecoveryPlan<'a>, Refusal>
+// all entries of the log at a place
+fn choose_log<'a>(
+    alloc: Global,
+    place: usize,
+    log: &Log<'a>,
+) -> Result<RecoveryPlan<'a>, Refusal>
     ensures chosen { IfOk result (λ plan. log_replayed log.now ≡ Ok (seen plan)) }
+    ensures runs { IfOk result (λ plan. (logs : List Log) → slice_get logs place ≡ Some log.now →
+        AreRunsOf logs plan.runs.items plan.entries.items) }
     ensures clean { IfOk result (λ plan. is_clean_block (block_at plan.sector) ≡ true) }
     ensures refused { IfErr result (λ why. (why ≡ NoMemory) ⊎ (log_replayed log.now ≡ Err why)) }
 {
     let Some(sector) = first_sector(log.bytes) else {
         return Err(Refusal::from(Cause::BadLog));
     };
-    let mut entries = Vec::new(alloc);
-    append(&mut entries, &log.entries)?;
-    replay(&sector, entries)
+    let found = whole_log(alloc, place, log)?;
+    replay(&sector, found.entries, found.runs)
 }
 
-// the log whose last entry has the greatest number
-fn newest<'l, 'a>(logs: &'l [Log<'a>]) -> Option<&'l Log<'a>>
-    ensures { option_map (λ log. log.now) result ≡ newest_of None logs.now }
+// the log whose last entry has the greatest number, and its place
+fn newest<'l, 'a>(logs: &'l [Log<'a>]) -> Option<(usize, &'l Log<'a>)>
+    ensures newest { option_map (λ found. found.1.now) result ≡ newest_of None logs.now }
+    ensures there { IfSome result (λ found. slice_get logs.now found.0 ≡ Some found.1.now) }
 {
     let mut best = None;
+    let mut place = 0;
     'logs: for index in 0..logs.len() {
         let log = &logs[index];
         if is_ahead(best, log) {
             best = Some(log);
+            place = index;
         }
     }
-    best
+    match best {
+        Some(log) => Some((place, log)),
+        None => None,
+    }
 }
 
 // whether a log is newer than the newest before it
@@ -203,8 +223,13 @@ fn is_ahead(best: Option<&Log<'_>>, log: &Log<'_>) -> bool
 
 #[tactic(auto, unfolding(crate::specs::Plans::replayed))]
 // entries over a hive with a first sector
-fn replay<'a>(sector: &[u8; 512], entries: Vec<LogEntry<'a>>) -> Result<RecoveryPlan<'a>, Refusal>
+fn replay<'a>(
+    sector: &[u8; 512],
+    entries: Vec<LogEntry<'a>>,
+    runs: Vec<LogRun>,
+) -> Result<RecoveryPlan<'a>, Refusal>
     ensures chosen { IfOk result (λ plan. replayed sector.now entries.entry.items ≡ Ok (seen plan)) }
+    ensures same { IfOk result (λ plan. (plan.entries.items ≡ entries.entry.items) × (plan.runs ≡ runs)) }
     ensures clean { IfOk result (λ plan. is_clean_block (block_at plan.sector) ≡ true) }
     ensures refused { IfErr result (λ why. replayed sector.now entries.entry.items ≡ Err why) }
 {
@@ -217,15 +242,7 @@ fn replay<'a>(sector: &[u8; 512], entries: Vec<LogEntry<'a>>) -> Result<Recovery
     Ok(RecoveryPlan {
         sector: recovered(sector, number, bins_size),
         entries,
+        runs,
         bins_size,
     })
-}
-
-#[tactic(auto, using(crate::proofs::Planned::any_default))]
-// the last entry
-fn last_of<'l, 'a>(entries: &'l [LogEntry<'a>]) -> &'l LogEntry<'a>
-    requires { 0 < length entries.now }
-    ensures { result.now ≡ slice_index_or entries.now (length entries.now - 1) [] }
-{
-    &entries[entries.len() - 1]
 }

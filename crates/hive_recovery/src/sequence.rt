@@ -1,5 +1,8 @@
 //! Entries in the order of their numbers.
-ghost use Rattle.std.specs.Prelude.{◌≡◌, ◌++◌, List, ℕ, length, map, option_map, IfOk, OnOk};
+ghost use Rattle.std.specs.Prelude.{◌≡◌, ◌<◌, ◌-◌, ◌++◌, List, [], ℕ, true, Some, length, slice_get, slice_index_or, map, option_map, IfOk, OnOk, IfSome, IfNone};
+ghost use Rattle.hive_log_entries.specs.Entries.{number_of};
+ghost use Rattle.hive_recovery.specs.declared.log.Log.{Log};
+ghost use Rattle.hive_recovery.specs.Runs.{AreLastOf, AreRunsOf};
 ghost use Rattle.hive_recovery.specs.Sequences.{is_older, left_from, begins, number_behind, first_with, in_sequence, entries_of, missing_of};
 
 use crate::log::Log;
@@ -14,40 +17,148 @@ pub(crate) fn is_below(number: SequenceNumber, other: SequenceNumber) -> bool
     number.0.wrapping_sub(other.0) >= 0x8000_0000
 }
 
+/// A run of a log's entries that are applied: those from one on, up to the log's last.
+#[derive(Clone, Copy)]
+pub struct LogRun {
+    /// The place of the log among the logs, from 0 on.
+    pub log: usize,
+    /// The number of the run's first entry.
+    pub first: SequenceNumber,
+    /// The number of its last entry.
+    pub last: SequenceNumber,
+}
+
+/// Entries that are applied, and which runs of logs they are.
+#[derive(Drop)]
+pub(crate) struct Sequence<'a> {
+    /// The entries, one after the other.
+    pub(crate) entries: Vec<LogEntry<'a>>,
+    /// The runs, in the same order.
+    pub(crate) runs: Vec<LogRun>,
+}
+
+// what a log has from a number on, and the log's place
+#[derive(Clone, Copy)]
+struct Part<'l, 'a> {
+    log: usize,
+    entries: &'l [LogEntry<'a>],
+}
+
 /// The entries from a number on whose turn comes one after the other, of all logs: first those of a log that has the number,
 /// and then those of a log that has the number behind them, and so on.
 pub(crate) fn sequence_from<'a>(
     alloc: Global,
     logs: &[Log<'a>],
     from: SequenceNumber,
-) -> Result<Vec<LogEntry<'a>>, AllocError>
-    ensures { IfOk result (λ entries. entries.items ≡ in_sequence (length logs.now) from.0 from.0 (map entries_of logs.now)) }
+) -> Result<Sequence<'a>, AllocError>
+    ensures entries { IfOk result (λ found. found.entries.items ≡ in_sequence (length logs.now) from.0 from.0 (map entries_of logs.now)) }
+    ensures runs { IfOk result (λ found. AreRunsOf logs.now found.runs.items found.entries.items) }
 {
     let mut entries = Vec::new(alloc);
+    let mut runs = Vec::new(alloc);
     let mut next = from;
     'rounds: for _round in 0..logs.len() {
-        let more = next_log(logs, from, next);
-        append(&mut entries, more)?;
-        next = number_after(more, next);
+        next = add_round(&mut entries, &mut runs, logs, from, next)?;
     }
-    Ok(entries)
+    Ok(Sequence { entries, runs })
 }
 
-// what the first log that goes on with a number has from the old number on; nothing if none does
-fn next_log<'l, 'a>(
+// adds what the first log has that goes on with a number; answers the number behind it
+fn add_round<'a>(
+    entries: &mut Vec<LogEntry<'a>>,
+    runs: &mut Vec<LogRun>,
+    logs: &[Log<'a>],
+    from: SequenceNumber,
+    next: SequenceNumber,
+) -> Result<SequenceNumber, AllocError>
+    ensures entries { OnOk result (entries.new.items ≡ entries.old.items ++ first_with from.0 next.0 (map entries_of logs.now)) }
+    ensures next { IfOk result (λ then. then.0 ≡ number_behind next.0 (first_with from.0 next.0 (map entries_of logs.now))) }
+    ensures runs { OnOk result (AreRunsOf logs.now runs.old.items entries.old.items → AreRunsOf logs.now runs.new.items entries.new.items) }
+{
+    let Some(part) = next_part(logs, from, next) else {
+        return Ok(next);
+    };
+    append(entries, part.entries)?;
+    push_run(runs, &part)?;
+    Ok(number_after(part.entries, next))
+}
+
+/// All entries of a log, which is at a place among others.
+pub(crate) fn whole_log<'a>(
+    alloc: Global,
+    place: usize,
+    log: &Log<'a>,
+) -> Result<Sequence<'a>, AllocError>
+    ensures entries { IfOk result (λ found. found.entries.items ≡ entries_of log.now) }
+    ensures runs { IfOk result (λ found. (logs : List Log) → slice_get logs place ≡ Some log.now →
+        AreRunsOf logs found.runs.items found.entries.items) }
+{
+    let mut entries = Vec::new(alloc);
+    append(&mut entries, &log.entries)?;
+    let mut runs = Vec::new(alloc);
+    let part = Part {
+        log: place,
+        entries: &log.entries,
+    };
+    push_run(&mut runs, &part)?;
+    Ok(Sequence { entries, runs })
+}
+
+// puts the run of a part behind others, if the part has entries
+fn push_run(runs: &mut Vec<LogRun>, part: &Part<'_, '_>) -> Result<(), AllocError>
+    ensures { OnOk result ((logs : List Log) (entries : List (List ℕ)) → AreLastOf logs part.now.log part.now.entries.now →
+        AreRunsOf logs runs.old.items entries → AreRunsOf logs runs.new.items (entries ++ part.now.entries.now)) }
+{
+    if part.entries.is_empty() {
+        return Ok(());
+    }
+    runs.push(run_of(part.log, part.entries))?;
+    Ok(())
+}
+
+// the run that entries of the log at a place are
+fn run_of(log: usize, entries: &[LogEntry<'_>]) -> LogRun
+    requires { 0 < length entries.now }
+    ensures log { result.log ≡ log }
+    ensures first { begins result.first.0 entries.now ≡ true }
+    ensures last { result.last ≡ number_of (slice_index_or entries.now (length entries.now - 1) []) }
+{
+    LogRun {
+        log,
+        first: entries[0].number(),
+        last: last_of(entries).number(),
+    }
+}
+
+#[tactic(auto, using(crate::proofs::Planned::any_default))]
+/// The last entry.
+pub(crate) fn last_of<'l, 'a>(entries: &'l [LogEntry<'a>]) -> &'l LogEntry<'a>
+    requires { 0 < length entries.now }
+    ensures { result.now ≡ slice_index_or entries.now (length entries.now - 1) [] }
+{
+    &entries[entries.len() - 1]
+}
+
+// what the first log that goes on with a number has from the old number on
+fn next_part<'l, 'a>(
     logs: &'l [Log<'a>],
     from: SequenceNumber,
     next: SequenceNumber,
-) -> &'l [LogEntry<'a>]
-    ensures { result.now ≡ first_with from.0 next.0 (map entries_of logs.now) }
+) -> Option<Part<'l, 'a>>
+    ensures some { IfSome result (λ part. part.entries.now ≡ first_with from.0 next.0 (map entries_of logs.now)) }
+    ensures last { IfSome result (λ part. AreLastOf logs.now part.log part.entries.now) }
+    ensures none { IfNone result (first_with from.0 next.0 (map entries_of logs.now) ≡ []) }
 {
     'logs: for index in 0..logs.len() {
         let left = entries_left(&logs[index].entries, from);
         if begins_with(left, next) {
-            return left;
+            return Some(Part {
+                log: index,
+                entries: left,
+            });
         }
     }
-    &[]
+    None
 }
 
 // the entries from the first on that isn't below a number

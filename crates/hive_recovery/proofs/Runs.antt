@@ -1,0 +1,31 @@
+-- Runs of logs, one behind the other.
+use Rattle.std.proofs.Common.{◌≡◌, ℕ, Bool, true, false, if◌then◌else◌, List, [], ◌∷◌, ◌++◌, length, refl, sym, ◌∙◌, ap, subst, append_assoc}
+use Rattle.std.proofs.lemmas.List.{append-nil}
+use Rattle.hive_recovery.specs.Runs.{AreLastOf, IsRunOf, AreRunsOf}
+use Rattle.hive_recovery.specs.Sequences.{entries_of, is_older, left_from}
+use Rattle.hive_log_entries.specs.Entries.{number_of}
+use Rattle.hive_recovery.specs.declared.log.Log.{Log}
+use Rattle.hive_recovery.specs.declared.sequence.LogRun.{LogRun}
+
+-- one run more
+pub run_more : (logs : List Log) (runs : List LogRun) (run : LogRun) (entries part : List (List ℕ)) → AreRunsOf logs runs entries → IsRunOf logs run part → AreRunsOf logs (runs ++ run ∷ []) (entries ++ part)
+run_more logs [] run entries part none one = (part, [], ap (λ begun. begun ++ part) none ∙ sym (append-nil part), one, refl)
+run_more logs (first ∷ rest) run entries part (own, more, same, of_log, others) one =
+    (own, more ++ part, ap (λ begun. begun ++ part) same ∙ append_assoc own more part, of_log, run_more logs rest run more part others one)
+
+-- no run more
+pub runs_same : (logs : List Log) (runs : List LogRun) (entries part : List (List ℕ)) → part ≡ [] → AreRunsOf logs runs entries → AreRunsOf logs runs (entries ++ part)
+runs_same logs runs entries part none are =
+    let Are : List (List ℕ) → Type 0 = λ all. AreRunsOf logs runs all in
+    subst Are (sym (append-nil entries) ∙ ap (λ more. entries ++ more) (sym none)) are
+
+-- what is left from a number on are the last entries
+pub left_last : (number : ℕ) (entries : List (List ℕ)) → (before : List (List ℕ)) × (entries ≡ before ++ left_from number entries)
+left_last number [] = ([], refl)
+left_last number (entry ∷ rest) =
+    let Left : Bool → Type 0 = λ older. (before : List (List ℕ)) × (entry ∷ rest ≡ before ++ (if older then left_from number rest else entry ∷ rest)) in
+    let found = left_last number rest in
+    elim (is_older (number_of entry).0 number) as Left [
+      | true ↦ (entry ∷ found.0, ap (λ after. entry ∷ after) found.1)
+      | false ↦ ([], refl)
+    ]
