@@ -48,6 +48,23 @@ abbrev pub image_lines : ImageError → List ℕ
 image_lines image_error.NoMemory = refused_lines refusal.NoMemory []
 image_lines (image_error.Fault fault) = refused_lines fault.refusal (offset_text (4096 + fault.at) ++ key_text fault.path.items)
 
+-- where bins and cells don't tile, without a line's end
+abbrev pub tile_reason : TileFault → List ℕ
+tile_reason (tile_fault.Bin at) = refusal_text (refusal.HiveDamaged 0 cause.BadBin) ++ offset_text at
+tile_reason (tile_fault.Cell at) = refusal_text (refusal.HiveDamaged 0 cause.BadCell) ++ offset_text at
+
+-- why there is no tree, and where, without a line's end
+abbrev pub image_reason : ImageError → List ℕ
+image_reason image_error.NoMemory = refusal_text refusal.NoMemory
+image_reason (image_error.Fault fault) = refusal_text fault.refusal ++ (offset_text (4096 + fault.at) ++ key_text fault.path.items)
+
+-- why a file holds no tree, and where; nothing if it holds one
+abbrev pub reason_text : Finding → List ℕ
+reason_text (finding.Refused why) = refusal_text why
+reason_text (finding.Untiled fault) = tile_reason fault
+reason_text (finding.Unwalked cells error) = image_reason error
+reason_text (finding.Walked cells keys) = []
+
 -- the free cells
 abbrev pub free_text : ℕ → ℕ → List ℕ
 free_text free free_bytes = (decimal free ++ codes " free with ") ++ (decimal free_bytes ++ codes " bytes\n")

@@ -4,7 +4,7 @@ ghost use Rattle.std.specs.Io.KnownBytes.{Appends};
 ghost use Rattle.refusals.specs.Refusals.{refusal_text};
 ghost use Rattle.tree_printer.specs.TreeTexts.{path_text};
 ghost use Rattle.key_walk.specs.KeyPaths.{names_on};
-ghost use Rattle.hive_check.specs.ReportTexts.{cells_line, finding_text, free_text, image_lines, key_text, keys_line, keys_lines, weight_line, offset_text, refused_lines, tile_lines, weight_verdict, advice_line, unread_lines};
+ghost use Rattle.hive_check.specs.ReportTexts.{cells_line, finding_text, free_text, image_lines, key_text, keys_line, keys_lines, weight_line, offset_text, refused_lines, tile_lines, weight_verdict, advice_line, unread_lines, reason_text, tile_reason, image_reason};
 
 use crate::advice::{advice, file_advice};
 use crate::cell_counts::{BINS_AT, CellCounts, TileFault};
@@ -36,6 +36,60 @@ pub fn write_finding<W: Write>(writer: &mut W, is_log: bool, finding: &Finding) 
             write_verdict(writer, keys.weight)
         }
     }
+}
+
+/// Writes why a file holds no tree, and where that stands in it; nothing if it holds one. No line is ended.
+pub fn write_reason<W: Write>(writer: &mut W, finding: &Finding) -> io::Result<()>
+    ensures { OnOk result (Appends (W.contents writer.old) (W.contents writer.new)
+        (reason_text finding.now)) }
+{
+    match finding {
+        Finding::Refused(refusal) => write_refusal(writer, *refusal),
+        Finding::Untiled(fault) => write_tile_reason(writer, *fault),
+        Finding::Unwalked(_, error) => write_image_reason(writer, error),
+        Finding::Walked(..) => Ok(()),
+    }
+}
+
+// where bins and cells don't tile
+fn write_tile_reason<W: Write>(writer: &mut W, fault: TileFault) -> io::Result<()>
+    ensures { OnOk result (Appends (W.contents writer.old) (W.contents writer.new)
+        (tile_reason fault)) }
+{
+    match fault {
+        TileFault::Bin { at } => write_placed(writer, Refusal::from(Cause::BadBin), at),
+        TileFault::Cell { at } => write_placed(writer, Refusal::from(Cause::BadCell), at),
+    }
+}
+
+// a refusal, and an offset in the file
+fn write_placed<W: Write>(writer: &mut W, refusal: Refusal, at: usize) -> io::Result<()>
+    ensures { OnOk result (Appends (W.contents writer.old) (W.contents writer.new)
+        (refusal_text refusal ++ offset_text at)) }
+{
+    write_refusal(writer, refusal)?;
+    write_offset(writer, at)
+}
+
+// why there is no tree, and where
+fn write_image_reason<W: Write>(writer: &mut W, error: &ImageError) -> io::Result<()>
+    ensures { OnOk result (Appends (W.contents writer.old) (W.contents writer.new)
+        (image_reason error.now)) }
+{
+    match error {
+        ImageError::NoMemory => write_refusal(writer, Refusal::NoMemory),
+        ImageError::Fault(fault) => write_fault_reason(writer, fault),
+    }
+}
+
+// a fault of a key, and where it stands
+fn write_fault_reason<W: Write>(writer: &mut W, fault: &Fault) -> io::Result<()>
+    ensures { OnOk result (Appends (W.contents writer.old) (W.contents writer.new)
+        (refusal_text fault.now.refusal ++ (offset_text (4096 + fault.now.at) ++ key_text fault.now.path.items))) }
+{
+    write_refusal(writer, fault.refusal)?;
+    write_offset(writer, BINS_AT + fault.at as usize)?;
+    write_key(writer, &fault.path)
 }
 
 // why a file has no bins data, which may be a log by its base block, and what to do

@@ -22,3 +22,19 @@ one_round start made more total logs count round number next then is_made is_mor
     ∙ append_assoc start (first_with number next logs) (in_sequence (count - (round + 1)) number (number_behind next (first_with number next logs)) logs)
     ∙ ap (λ rounds. start ++ in_sequence rounds number next logs) (sym left)
     ∙ before
+
+behind_both : (next : ℕ) (entries more : List (List ℕ)) → number_behind next (entries ++ more) ≡ number_behind (number_behind next entries) more
+behind_both next [] more = refl
+behind_both next (entry ∷ rest) more = behind_both (number_after (number_of entry).0) rest more
+
+-- after one round the rounds that are left lead to the same number
+pub next_round : (count round number next then total : ℕ) (logs : List (List (List ℕ))) → then ≡ number_behind next (first_with number next logs) → round < count → number_behind next (in_sequence (count - round) number next logs) ≡ total →
+    number_behind then (in_sequence (count - (round + 1)) number then logs) ≡ total
+next_round count round number next then total logs is less before =
+    let left : count - round ≡ suc (count - (round + 1)) = omega (arith, less) in
+    let more = first_with number next logs in
+    let rest = in_sequence (count - (round + 1)) number (number_behind next more) logs in
+    ap (λ behind. number_behind behind (in_sequence (count - (round + 1)) number behind logs)) is
+    ∙ sym (behind_both next more rest)
+    ∙ ap (λ rounds. number_behind next (in_sequence rounds number next logs)) (sym left)
+    ∙ before

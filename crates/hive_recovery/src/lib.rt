@@ -17,5 +17,5 @@ pub use bins::recovered_bins;
 pub use carrying::carry_out;
 pub use log::{Log, LogHead, read_log};
 pub use planning::{RecoveryPlan, plan};
-pub use report::LogEnding;
-pub use sequence::{LogRun, missing_number};
+pub use report::{EntryNumbers, LogEnding};
+pub use sequence::{LogRun, missing_number, next_number};

@@ -1,10 +1,10 @@
 //! Which entries are applied.
-ghost use Rattle.std.specs.Prelude.{◌≡◌, ◌⊎◌, ◌<◌, ◌≤◌, true, List, slice_get, Ok, Err, Some, length, take, IfOk, IfErr, IfSome, IfNone, option_map};
+ghost use Rattle.std.specs.Prelude.{◌≡◌, ◌⊎◌, ◌<◌, ◌≤◌, true, List, Ok, Err, length, take, IfOk, IfErr, IfSome, IfNone, option_map};
 ghost use Rattle.refusals.specs.declared.refusal.Refusal.TheVariants.{NoMemory};
 ghost use Rattle.base_block.specs.Judgements.{IsPrimary};
 ghost use Rattle.base_block.specs.Layout.{block_at, is_clean_block};
 ghost use Rattle.hive_recovery.specs.declared.log.Log.{Log};
-ghost use Rattle.hive_recovery.specs.Runs.{AreRunsOf};
+ghost use Rattle.hive_recovery.specs.Runs.{AreRunsOf, IsNumbered};
 ghost use Rattle.hive_recovery.specs.Plans.{seen, is_torn_block, plan_of, plan_by_block, replayed, torn_plan, unclean_plan, newest_of, is_newer, no_log, log_replayed, NothingChosen, IsPlanRefused};
 
 use crate::log::Log;
@@ -149,7 +149,7 @@ fn choose_newest<'a>(
     ensures refused { IfErr result (λ why. (why ≡ NoMemory) ⊎ (torn_plan block.now logs.now ≡ Err why)) }
 {
     match newest(logs) {
-        Some((place, log)) => choose_log(alloc, place, log),
+        Some((number, log)) => choose_log(alloc, number, log),
         None => Err(why_no_log(block)),
     }
 }
@@ -165,14 +165,10 @@ fn why_no_log(block: &BaseBlock) -> Refusal
     }
 }
 
-// all entries of the log at a place
-fn choose_log<'a>(
-    alloc: Global,
-    place: usize,
-    log: &Log<'a>,
-) -> Result<RecoveryPlan<'a>, Refusal>
+// all entries of a log, which has a number among others
+fn choose_log<'a>(alloc: Global, number: usize, log: &Log<'a>) -> Result<RecoveryPlan<'a>, Refusal>
     ensures chosen { IfOk result (λ plan. log_replayed log.now ≡ Ok (seen plan)) }
-    ensures runs { IfOk result (λ plan. (logs : List Log) → slice_get logs place ≡ Some log.now →
+    ensures runs { IfOk result (λ plan. (logs : List Log) → IsNumbered logs number log.now →
         AreRunsOf logs plan.runs.items plan.entries.items) }
     ensures clean { IfOk result (λ plan. is_clean_block (block_at plan.sector) ≡ true) }
     ensures refused { IfErr result (λ why. (why ≡ NoMemory) ⊎ (log_replayed log.now ≡ Err why)) }
@@ -180,26 +176,26 @@ fn choose_log<'a>(
     let Some(sector) = first_sector(log.bytes) else {
         return Err(Refusal::from(Cause::BadLog));
     };
-    let found = whole_log(alloc, place, log)?;
+    let found = whole_log(alloc, number, log)?;
     replay(&sector, found.entries, found.runs)
 }
 
-// the log whose last entry has the greatest number, and its place
+// the log whose last entry has the greatest number, with its number among the logs
 fn newest<'l, 'a>(logs: &'l [Log<'a>]) -> Option<(usize, &'l Log<'a>)>
     ensures newest { option_map (λ found. found.1.now) result ≡ newest_of None logs.now }
-    ensures there { IfSome result (λ found. slice_get logs.now found.0 ≡ Some found.1.now) }
+    ensures there { IfSome result (λ found. IsNumbered logs.now found.0 found.1.now) }
 {
     let mut best = None;
-    let mut place = 0;
+    let mut number = 0;
     'logs: for index in 0..logs.len() {
         let log = &logs[index];
         if is_ahead(best, log) {
             best = Some(log);
-            place = index;
+            number = index + 1;
         }
     }
     match best {
-        Some(log) => Some((place, log)),
+        Some(log) => Some((number, log)),
         None => None,
     }
 }

@@ -1,10 +1,12 @@
 //! How logs ended, for people.
-ghost use Rattle.std.specs.Prelude.{◌≡◌};
-ghost use Rattle.hive_recovery.specs.Endings.{ending_of};
+ghost use Rattle.std.specs.Prelude.{◌≡◌, Some};
+ghost use Rattle.hive_recovery.specs.Endings.{ending_of, ending_text, fault_text, numbers_of};
+ghost use Rattle.hive_recovery.specs.Sequences.{entries_of};
 
 use crate::log::{Log, LogHead};
+use crate::sequence::last_of;
 use base_block::{FileType, SequenceNumber};
-use hive_log_entries::{EntryEnd, LogEnd};
+use hive_log_entries::{EntryEnd, LogEnd, LogEntry};
 use std::fmt;
 
 /// How a log ended. Each variant is a line of a report.
@@ -38,7 +40,23 @@ pub enum LogEnding {
     },
 }
 
+/// The numbers of entries, one after the other.
+#[derive(Clone, Copy)]
+pub struct EntryNumbers {
+    /// That of the first.
+    pub first: SequenceNumber,
+    /// That of the last.
+    pub last: SequenceNumber,
+}
+
 impl Log<'_> {
+    /// The numbers of its entries; none if it has no entry.
+    pub fn numbers(&self) -> Option<EntryNumbers>
+        ensures { result ≡ numbers_of (entries_of self.now) }
+    {
+        numbers_in(&self.entries)
+    }
+
     /// How the log ended.
     pub fn ending(&self) -> LogEnding
         ensures { result ≡ ending_of self.now.head self.now.ended_at self.now.end }
@@ -58,8 +76,23 @@ impl Log<'_> {
     }
 }
 
+// the numbers of entries
+fn numbers_in(entries: &[LogEntry<'_>]) -> Option<EntryNumbers>
+    ensures { result ≡ numbers_of entries.now }
+{
+    if entries.is_empty() {
+        return None;
+    }
+    Some(EntryNumbers {
+        first: entries[0].number(),
+        last: last_of(entries).number(),
+    })
+}
+
 // what is said of the first test that fails
-fn text_of(why: EntryEnd) -> &'static str {
+fn text_of(why: EntryEnd) -> &'static str
+    ensures { result.now ≡ fault_text why }
+{
     match why {
         EntryEnd::NoLetters => "no letters",
         EntryEnd::WrongSize => "wrong size",
@@ -72,6 +105,8 @@ fn text_of(why: EntryEnd) -> &'static str {
 }
 
 impl fmt::Display for LogEnding {
+    ghost output = { λ ending. Some (ending_text ending) };
+
     fn fmt<W: fmt::Write>(&self, f: &mut fmt::Formatter<W>) -> fmt::Result {
         match self {
             LogEnding::Empty => write!(f, "empty"),

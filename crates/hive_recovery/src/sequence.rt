@@ -1,9 +1,9 @@
 //! Entries in the order of their numbers.
-ghost use Rattle.std.specs.Prelude.{◌≡◌, ◌<◌, ◌-◌, ◌++◌, List, [], ℕ, true, Some, length, slice_get, slice_index_or, map, option_map, IfOk, OnOk, IfSome, IfNone};
+ghost use Rattle.std.specs.Prelude.{◌≡◌, ◌<◌, ◌-◌, ◌++◌, List, [], ℕ, true, length, slice_index_or, map, option_map, IfOk, OnOk, IfSome, IfNone};
 ghost use Rattle.hive_log_entries.specs.Entries.{number_of};
 ghost use Rattle.hive_recovery.specs.declared.log.Log.{Log};
-ghost use Rattle.hive_recovery.specs.Runs.{AreLastOf, AreRunsOf};
-ghost use Rattle.hive_recovery.specs.Sequences.{is_older, left_from, begins, number_behind, first_with, in_sequence, entries_of, missing_of};
+ghost use Rattle.hive_recovery.specs.Runs.{AreLastOf, AreRunsOf, IsNumbered};
+ghost use Rattle.hive_recovery.specs.Sequences.{is_older, left_from, begins, number_behind, first_with, in_sequence, entries_of, missing_of, next_of};
 
 use crate::log::Log;
 use base_block::SequenceNumber;
@@ -20,7 +20,7 @@ pub(crate) fn is_below(number: SequenceNumber, other: SequenceNumber) -> bool
 /// A run of a log's entries that are applied: those from one on, up to the log's last.
 #[derive(Clone, Copy)]
 pub struct LogRun {
-    /// The place of the log among the logs, from 0 on.
+    /// The number of the log among the logs, from 1 on.
     pub log: usize,
     /// The number of the run's first entry.
     pub first: SequenceNumber,
@@ -37,7 +37,7 @@ pub(crate) struct Sequence<'a> {
     pub(crate) runs: Vec<LogRun>,
 }
 
-// what a log has from a number on, and the log's place
+// what a log has from a number on, and the log's number among the logs
 #[derive(Clone, Copy)]
 struct Part<'l, 'a> {
     log: usize,
@@ -83,21 +83,21 @@ fn add_round<'a>(
     Ok(number_after(part.entries, next))
 }
 
-/// All entries of a log, which is at a place among others.
+/// All entries of a log, which has a number among others.
 pub(crate) fn whole_log<'a>(
     alloc: Global,
-    place: usize,
+    number: usize,
     log: &Log<'a>,
 ) -> Result<Sequence<'a>, AllocError>
     ensures entries { IfOk result (λ found. found.entries.items ≡ entries_of log.now) }
-    ensures runs { IfOk result (λ found. (logs : List Log) → slice_get logs place ≡ Some log.now →
+    ensures runs { IfOk result (λ found. (logs : List Log) → IsNumbered logs number log.now →
         AreRunsOf logs found.runs.items found.entries.items) }
 {
     let mut entries = Vec::new(alloc);
     append(&mut entries, &log.entries)?;
     let mut runs = Vec::new(alloc);
     let part = Part {
-        log: place,
+        log: number,
         entries: &log.entries,
     };
     push_run(&mut runs, &part)?;
@@ -116,7 +116,7 @@ fn push_run(runs: &mut Vec<LogRun>, part: &Part<'_, '_>) -> Result<(), AllocErro
     Ok(())
 }
 
-// the run that entries of the log at a place are
+// the run that entries of the log of a number are
 fn run_of(log: usize, entries: &[LogEntry<'_>]) -> LogRun
     requires { 0 < length entries.now }
     ensures log { result.log ≡ log }
@@ -153,7 +153,7 @@ fn next_part<'l, 'a>(
         let left = entries_left(&logs[index].entries, from);
         if begins_with(left, next) {
             return Some(Part {
-                log: index,
+                log: index + 1,
                 entries: left,
             });
         }
@@ -221,4 +221,29 @@ pub fn missing_number(
         return None;
     }
     Some(next)
+}
+
+/// The number of the entry that would be applied next, behind those that [`plan`](crate::plan) applies from a number on.
+pub fn next_number(logs: &[Log<'_>], from: SequenceNumber) -> SequenceNumber
+    ensures { result.0 ≡ next_of from.0 logs.now }
+{
+    let mut next = from;
+    'rounds: for _round in 0..logs.len() {
+        next = number_after_round(logs, from, next);
+    }
+    next
+}
+
+// the number behind what the first log has that goes on with a number
+fn number_after_round(
+    logs: &[Log<'_>],
+    from: SequenceNumber,
+    next: SequenceNumber,
+) -> SequenceNumber
+    ensures { result.0 ≡ number_behind next.0 (first_with from.0 next.0 (map entries_of logs.now)) }
+{
+    match next_part(logs, from, next) {
+        Some(part) => number_after(part.entries, next),
+        None => next,
+    }
 }

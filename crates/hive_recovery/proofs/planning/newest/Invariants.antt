@@ -1,9 +1,10 @@
 use Rattle.std.proofs.Common.{◌≡◌, None, drop}
-use Rattle.std.specs.Prelude.{option_map, IfSome, slice_get, Some}
+use Rattle.std.specs.Prelude.{option_map, IfSome}
 use Rattle.hive_recovery.specs.Plans.{newest_of}
+use Rattle.hive_recovery.specs.Runs.{IsNumbered}
 use Rattle.hive_recovery.proofs.planning.newest.Given as goal
 
 abbrev pub invariant-logs : goal.invariant-logs
 invariant-logs l =
     (newest_of (option_map (λ log. log.now) l.best) (drop l.index l.logs) ≡ newest_of None l.logs)
-    × IfSome l.best (λ log. slice_get l.logs l.place ≡ Some log.now)
+    × IfSome l.best (λ log. IsNumbered l.logs l.number log.now)

@@ -12,6 +12,6 @@ returns-then-begins_with-clause-last c =
     record {
       log = c.index-logs-index.result;
       before = found.0;
-      there = slice_get_read c.args.logs.now (length c.args.logs.now) c.logs.index c.index-logs-index.result refl c.logs-test.true c.index-logs-index.is;
+      there = (c.logs.index, refl, slice_get_read c.args.logs.now (length c.args.logs.now) c.logs.index c.index-logs-index.result refl c.logs-test.true c.index-logs-index.is);
       end = found.1 ∙ ap (λ left. found.0 ++ left) (ap (λ (log : Log). left_from number (entries_of log)) c.index-logs-index.is ∙ sym (c.entries_left-left.ensures ∙ ap (left_from number) c.deref.ensures.value));
     }

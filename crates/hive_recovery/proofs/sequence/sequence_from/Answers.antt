@@ -7,8 +7,7 @@ pub rounds-preserved : goal.rounds-preserved
 rounds-preserved c =
     let logs = map entries_of c.args.logs.now in
     let number = c.args.from.0 in
-    let next = c.rounds.next.0 in
-    (
+    let next = c.rounds.next.0 in (
       one_round c.rounds.entries.items c.add_round.new.entries.items (first_with number next logs) (in_sequence (length c.args.logs.now) number number logs) logs (length c.args.logs.now) c.rounds._round number next c.in_ok-next.next.0 c.in_ok-next.ensures.entries refl c.in_ok-next.ensures.next c.rounds-test.true c.rounds.invariant.0,
       c.in_ok-next.ensures.runs c.rounds.invariant.1,
     )
