@@ -18,6 +18,9 @@ pub enum CommandError<'a> {
     /// A file that the command line names can't be read.
     #[error("cannot read file")]
     CannotReadFile(Hint<'a>),
+    /// A new file that the command line names can't be made, written or synced, or it is there already.
+    #[error("cannot write file")]
+    CannotWriteFile(Hint<'a>),
     /// No store can be made in the folder that the command line names: the folder can't be made or locked, or it has a
     /// store.
     #[error("cannot make store")]
@@ -36,6 +39,7 @@ impl<'a> CommandError<'a> {
         match self {
             CommandError::WrongWords | CommandError::WrongWord(_) => Status::Wrong,
             CommandError::CannotReadFile(_)
+            | CommandError::CannotWriteFile(_)
             | CommandError::CannotMakeStore(_)
             | CommandError::CannotOpenStore(_)
             | CommandError::Refused(_) => Status::Refused,
@@ -46,6 +50,7 @@ impl<'a> CommandError<'a> {
     pub fn hint(&self) -> Option<Hint<'a>> {
         match self {
             CommandError::CannotReadFile(hint)
+            | CommandError::CannotWriteFile(hint)
             | CommandError::CannotMakeStore(hint)
             | CommandError::CannotOpenStore(hint) => Some(*hint),
             CommandError::WrongWord(word) => Some(Hint::of(word, Why::NotUnderstood)),

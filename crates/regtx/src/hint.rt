@@ -22,6 +22,8 @@ pub enum Why {
     NoFolder,
     /// The word isn't understood.
     NotUnderstood,
+    /// What is being written under this name is there already, with `.part` behind the name.
+    PartIsThere,
 }
 
 /// Such a line, for example `regtx: store/hive00.log: Permission denied`.
@@ -126,6 +128,9 @@ impl Why {
             Why::NoFile => words.push_str("no such file")?,
             Why::NoFolder => words.push_str("no such folder")?,
             Why::NotUnderstood => words.push_str("not understood")?,
+            Why::PartIsThere => {
+                words.push_str("with .part behind is there already: a run left it that was killed")?
+            }
         }
         if let Some(end) = words.find(" (os error ") {
             words.truncate(end);

@@ -22,6 +22,8 @@ mod input_file;
 mod kept_command;
 mod key_words;
 mod lock_wait;
+mod new_file;
+mod recover_command;
 mod script_commands;
 mod serve_command;
 mod store_commands;
@@ -46,6 +48,7 @@ use crate::hint::Hint;
 use crate::input_file::opened;
 use crate::kept_command::{parse_kept, tell_kept};
 use crate::lock_wait::{Access, LockWait, take_wait};
+use crate::recover_command::recover_hive;
 use crate::script_commands::{InMemory, play_script, run_script};
 use crate::serve_command::serve_store;
 use crate::store_commands::{import_store, new_store, upgrade_store};
@@ -174,6 +177,7 @@ fn run<
         Task::Read { folder, reading } => read_store(rt, output, reader, folder, reading),
         Task::Write { folder, writing } => write_store(rt, output, opener, folder, writing),
         Task::Check { source } => check(rt, output, reader, source),
+        Task::Recover { hive, paths } => recover_hive(rt, output, hive, &paths),
         Task::About => print_about(rt, output),
         Task::Usage { word } => print_usages(rt, output, word),
     }

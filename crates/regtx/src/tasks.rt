@@ -95,6 +95,13 @@ pub enum Task<'a> {
         /// The folder of a store, or the path of a hive's file.
         source: &'a str,
     },
+    /// `recover HIVE LOG.. OUT`: a hive that wasn't closed cleanly is to be recovered to a new file.
+    Recover {
+        /// The path of the hive's file.
+        hive: &'a str,
+        /// The paths of its logs, and that of the new file.
+        paths: Vec<&'a str>,
+    },
     /// `about`: what the program is.
     About,
     /// `usage [WORD]`: how a command is used, or each of them.

@@ -18,7 +18,7 @@ impl fmt::Display for Usage {
 }
 
 /// How each command is used.
-pub const USAGES: [Usage; 28] = [
+pub const USAGES: [Usage; 29] = [
     Usage {
         name: "new",
         call: "new DIR ID COUNT",
@@ -128,6 +128,11 @@ pub const USAGES: [Usage; 28] = [
         name: "check",
         call: "check SOURCE",
         does: "reports what a store or a hive's file has, and whether it is whole",
+    },
+    Usage {
+        name: "recover",
+        call: "recover HIVE LOG.. OUT",
+        does: "makes a clean hive of one that wasn't closed, by its logs",
     },
     Usage {
         name: "play",

@@ -89,6 +89,10 @@ fn parse_file_task<'a>(
         "check" => Ok(Task::Check {
             source: text(given, "SOURCE")?,
         }),
+        "recover" => Ok(Task::Recover {
+            hive: text(given, "HIVE")?,
+            paths: words_after(alloc, given)?,
+        }),
         "about" => Ok(Task::About),
         "usage" => Ok(Task::Usage {
             word: given.get_str("COMMAND"),
@@ -141,6 +145,7 @@ fn command<'a>(alloc: Global) -> Result<Command<'a>, AllocError> {
     let all = with_export(alloc, all, "export-json")?;
     let all = with_export(alloc, all, "export-tsv")?;
     let all = with_one(alloc, all, "check", "SOURCE")?;
+    let all = with_recover(alloc, all)?;
     let all = with_usage(alloc, all)?;
     all.subcommand(Command::new(alloc, "about"))
 }
@@ -164,6 +169,12 @@ fn with_export<'a>(
 ) -> Result<Command<'a>, AllocError> {
     let export = Command::new(alloc, name).arg(one(alloc, "SOURCE"))?;
     all.subcommand(export.arg(others(alloc))?)
+}
+
+// the same, and `recover`
+fn with_recover<'a>(alloc: Global, all: Command<'a>) -> Result<Command<'a>, AllocError> {
+    let recover = Command::new(alloc, "recover").arg(one(alloc, "HIVE"))?;
+    all.subcommand(recover.arg(others(alloc))?)
 }
 
 // the same, and `usage`

@@ -1,0 +1,41 @@
+-- What is told of a hive's file and of its logs.
+use Rattle.std.specs.Prelude.{◌≡◌, ℕ, nat_lt, Bool, not, ◌&&◌, if◌then◌else◌, List, length, take, map, Option, Some, None, option_map}
+use Rattle.base_block.specs.Layout.{block_at, is_clean_block}
+use Rattle.base_block.specs.declared.block.BaseBlock.{BaseBlock}
+use Rattle.base_block.specs.declared.fields.SequenceNumber.{SequenceNumber}
+use Rattle.hive_recovery.specs.Endings.{ending_of, numbers_of}
+use Rattle.hive_recovery.specs.Plans.{is_torn_block}
+use Rattle.hive_recovery.specs.Sequences.{entries_of, left_from, missing_of, next_of}
+use Rattle.hive_recovery.specs.declared.log.Log.{Log}
+use Rattle.recovery_report.specs.Outcomes.{IsOutcome}
+use Rattle.recovery_report.specs.declared.recovery.LogReport.{LogReport}
+use Rattle.recovery_report.specs.declared.recovery.Recovery.{Recovery}
+use Rattle.recovery_report.specs.declared.recovery.Waiting.{Waiting}
+
+-- the base block of a file, if it has a first sector
+abbrev pub first_block : List ℕ → Option BaseBlock
+first_block file = if nat_lt (length file) 512 then None else Some (block_at (take 512 file))
+
+-- a block is whole, and not clean
+abbrev pub is_unclean : BaseBlock → Bool
+is_unclean block = not (is_torn_block block) && not (is_clean_block block)
+
+-- the number from which entries are applied, and the number behind all that are; none if the block is torn or clean
+abbrev pub waiting_of : Option BaseBlock → List Log → Option Waiting
+waiting_of None logs = None
+waiting_of (Some block) logs = if is_unclean block then Some (record { from = block.secondary; next = record { 0 = next_of block.secondary.0 logs } }) else None
+
+-- the number for want of which a log isn't gone on with: the next one, if all that the log has is behind that
+abbrev pub missing_in : Option Waiting → Log → Option SequenceNumber
+missing_in None log = None
+missing_in (Some waiting) log = option_map (λ number. record { 0 = number }) (missing_of waiting.next.0 (left_from waiting.from.0 (entries_of log)))
+
+-- what is told of a log
+abbrev pub log_report : Option Waiting → Log → LogReport
+log_report waiting log = record { numbers = numbers_of (entries_of log); ending = ending_of log.head log.ended_at log.end; missing = missing_in waiting log }
+
+-- a recovery is true of a hive's file and logs
+pub record IsRecoveryOf (file : List ℕ) (logs : List Log) (found : Recovery) : Type 0 where
+  pub block : found.block ≡ first_block file
+  pub logs_are : found.logs.items ≡ map (log_report (waiting_of (first_block file) logs)) logs
+  pub outcome_is : IsOutcome file logs found.runs.items found.outcome

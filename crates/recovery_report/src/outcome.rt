@@ -1,0 +1,99 @@
+//! What comes of a recovery.
+ghost use Rattle.std.specs.Prelude.{◌≡◌, ◌⊎◌, List, ℕ, true, Ok};
+ghost use Rattle.hive_recovery.specs.Plans.{seen};
+ghost use Rattle.recovery_report.specs.Outcomes.{IsOutcome, IsMade, IsJudged, held_as};
+
+use base_block::SequenceNumber;
+use hive_check::{Finding, HiveReport, report_of};
+use hive_recovery::{Log, LogRun, RecoveryPlan, carry_out, plan};
+use refusals::Refusal;
+use std::alloc::Global;
+
+/// The file of a hive that is clean.
+#[derive(Drop)]
+pub struct HiveFile {
+    /// All its bytes.
+    pub bytes: Vec<u8>,
+    /// Both its sequence numbers.
+    pub number: SequenceNumber,
+}
+
+/// What comes of a recovery.
+#[derive(Drop)]
+pub enum Outcome {
+    /// The hive was clean. Its file has these bytes, without what followed the bins data.
+    Clean(HiveFile),
+    /// Entries were applied. The recovered hive's file has these bytes.
+    Recovered(HiveFile),
+    /// The recovered bytes hold no hive, for what is found of them.
+    NoHive(Finding),
+    /// There are no recovered bytes, for this reason.
+    Refused(Refusal),
+}
+
+/// What comes of a recovery, and which runs of logs were applied.
+#[derive(Drop)]
+pub(crate) struct RunsOutcome {
+    /// The runs.
+    pub(crate) runs: Vec<LogRun>,
+    /// What comes of it.
+    pub(crate) outcome: Outcome,
+}
+
+/// What comes of the recovery of a hive's file by logs.
+pub(crate) fn outcome_of(alloc: Global, file: &[u8], logs: &[Log<'_>]) -> RunsOutcome
+    ensures { IsOutcome file.now logs.now result.runs.items result.outcome }
+{
+    match plan(alloc, file, logs) {
+        Ok(chosen) => {
+            let outcome = made(alloc, file, &chosen);
+            RunsOutcome {
+                runs: chosen.runs,
+                outcome,
+            }
+        }
+        Err(why) => RunsOutcome {
+            runs: Vec::new(alloc),
+            outcome: Outcome::Refused(why),
+        },
+    }
+}
+
+// what comes of a plan
+fn made(alloc: Global, file: &[u8], chosen: &RecoveryPlan<'_>) -> Outcome
+    ensures { IsMade file.now (seen chosen.now) result }
+{
+    match carry_out(alloc, file, chosen) {
+        Ok(bytes) => judged(alloc, bytes, chosen.entries.is_empty()),
+        Err(why) => Outcome::Refused(why),
+    }
+}
+
+// what is found of recovered bytes, which are those of the hive as it was if nothing was applied
+fn judged(alloc: Global, bytes: Vec<u8>, was_clean: bool) -> Outcome
+    ensures { IsJudged bytes.items was_clean result }
+{
+    let report = match report_of(alloc, &mut bytes.as_slice()) {
+        Ok(report) => report,
+        Err(_) => return Outcome::Refused(Refusal::NoMemory),
+    };
+    let HiveReport { block, finding } = report;
+    match (block, finding) {
+        (Some(block), Finding::Walked(..)) => {
+            let number = block.block.primary;
+            held(HiveFile { bytes, number }, was_clean)
+        }
+        (_, finding) => Outcome::NoHive(finding),
+    }
+}
+
+// the file of a hive, as it was or recovered
+fn held(file: HiveFile, was_clean: bool) -> Outcome
+    ensures { result ≡ held_as file was_clean }
+{
+    if was_clean {
+        Outcome::Clean(file)
+    } else {
+        Outcome::Recovered(file)
+    }
+}

@@ -1,0 +1,165 @@
+//! The lines of a recovery's report.
+ghost use Rattle.std.specs.Prelude.{◌+◌, ◌<◌, ◌^◌, length, OnOk};
+ghost use Rattle.std.specs.Io.KnownBytes.{Appends};
+ghost use Rattle.recovery_report.specs.ReportTexts.{state_text, version_text, numbers_text, whole_line, block_line, entries_text, missing_text, log_line, log_lines, run_line, run_lines, steps_text, ending_line};
+
+use crate::outcome::Outcome;
+use crate::recovery::{LogReport, Recovery};
+use base_block::{BaseBlock, SequenceNumber, Signature};
+use hive_check::write_reason;
+use hive_recovery::{EntryNumbers, LogRun};
+use std::io::{self, Write};
+
+/// Writes all lines of a recovery but the last: the base block, each log, and each run of entries that was applied.
+pub fn write_steps<W: Write>(writer: &mut W, found: &Recovery) -> io::Result<()>
+    ensures { OnOk result (Appends (W.contents writer.old) (W.contents writer.new) (steps_text found.now)) }
+{
+    write_block(writer, &found.block)?;
+    write_logs(writer, 1, &found.logs)?;
+    write_runs(writer, &found.runs)
+}
+
+/// Writes the last line: what came of a recovery.
+pub fn write_ending<W: Write>(writer: &mut W, outcome: &Outcome) -> io::Result<()>
+    ensures { OnOk result (Appends (W.contents writer.old) (W.contents writer.new) (ending_line outcome.now)) }
+{
+    match outcome {
+        Outcome::Clean(file) => {
+            let number = file.number.0;
+            writeln!(writer, "clean {number}")
+        }
+        Outcome::Recovered(file) => {
+            let number = file.number.0;
+            writeln!(writer, "recovered {number}")
+        }
+        Outcome::NoHive(finding) => {
+            write_reason(writer, finding)?;
+            writer.write_all(b"\n")
+        }
+        Outcome::Refused(why) => writeln!(writer, "{why}"),
+    }
+}
+
+// the base block, if there is one
+fn write_block<W: Write>(writer: &mut W, block: &Option<BaseBlock>) -> io::Result<()>
+    ensures { OnOk result (Appends (W.contents writer.old) (W.contents writer.new) (block_line block.now)) }
+{
+    match block {
+        Some(block) if block.signature != Signature::REGF => {
+            writer.write_all(b"torn base block: letters\n")
+        }
+        Some(block) if !block.sum_is_right => writer.write_all(b"torn base block: sum\n"),
+        Some(block) => write_whole(writer, block),
+        None => Ok(()),
+    }
+}
+
+// a base block that isn't torn
+fn write_whole<W: Write>(writer: &mut W, block: &BaseBlock) -> io::Result<()>
+    ensures { OnOk result (Appends (W.contents writer.old) (W.contents writer.new) (whole_line block.now)) }
+{
+    write_version(writer, block.major, block.minor)?;
+    write_numbers(writer, block.primary, block.secondary)?;
+    write_state(writer, block.is_clean())
+}
+
+fn write_version<W: Write>(writer: &mut W, major: u32, minor: u32) -> io::Result<()>
+    ensures { OnOk result (Appends (W.contents writer.old) (W.contents writer.new) (version_text major minor)) }
+{
+    write!(writer, "hive {major}.{minor}")
+}
+
+fn write_numbers<W: Write>(
+    writer: &mut W,
+    primary: SequenceNumber,
+    secondary: SequenceNumber,
+) -> io::Result<()>
+    ensures { OnOk result (Appends (W.contents writer.old) (W.contents writer.new) (numbers_text primary.0 secondary.0)) }
+{
+    let primary = primary.0;
+    let secondary = secondary.0;
+    write!(writer, ", numbers {primary} and {secondary}")
+}
+
+fn write_state<W: Write>(writer: &mut W, is_clean: bool) -> io::Result<()>
+    ensures { OnOk result (Appends (W.contents writer.old) (W.contents writer.new) (state_text is_clean)) }
+{
+    if is_clean {
+        writer.write_all(b", clean\n")
+    } else {
+        writer.write_all(b", not clean\n")
+    }
+}
+
+// logs, which are numbered from one on
+fn write_logs<W: Write>(writer: &mut W, number: usize, logs: &[LogReport]) -> io::Result<()>
+    requires { number + length logs.now < 2 ^ 64 }
+    ensures { OnOk result (Appends (W.contents writer.old) (W.contents writer.new) (log_lines number logs.now)) }
+{
+    match logs.split_first() {
+        None => Ok(()),
+        Some((log, rest)) => {
+            write_log(writer, number, log)?;
+            write_logs(writer, number + 1, rest)
+        }
+    }
+}
+
+// a log of a number
+fn write_log<W: Write>(writer: &mut W, number: usize, log: &LogReport) -> io::Result<()>
+    ensures { OnOk result (Appends (W.contents writer.old) (W.contents writer.new) (log_line number log.now)) }
+{
+    write!(writer, "log {number}: ")?;
+    write_entries(writer, log.numbers)?;
+    let ending = log.ending;
+    write!(writer, "{ending}")?;
+    write_missing(writer, log.missing)
+}
+
+fn write_entries<W: Write>(writer: &mut W, numbers: Option<EntryNumbers>) -> io::Result<()>
+    ensures { OnOk result (Appends (W.contents writer.old) (W.contents writer.new) (entries_text numbers)) }
+{
+    match numbers {
+        Some(numbers) => {
+            let first = numbers.first.0;
+            let last = numbers.last.0;
+            write!(writer, "entries {first} to {last}, then ")
+        }
+        None => Ok(()),
+    }
+}
+
+fn write_missing<W: Write>(writer: &mut W, missing: Option<SequenceNumber>) -> io::Result<()>
+    ensures { OnOk result (Appends (W.contents writer.old) (W.contents writer.new) (missing_text missing)) }
+{
+    match missing {
+        Some(number) => {
+            let number = number.0;
+            writeln!(writer, ", {number} is missing")
+        }
+        None => writer.write_all(b"\n"),
+    }
+}
+
+// runs that were applied
+fn write_runs<W: Write>(writer: &mut W, runs: &[LogRun]) -> io::Result<()>
+    ensures { OnOk result (Appends (W.contents writer.old) (W.contents writer.new) (run_lines runs.now)) }
+{
+    match runs.split_first() {
+        None => Ok(()),
+        Some((run, rest)) => {
+            write_run(writer, run)?;
+            write_runs(writer, rest)
+        }
+    }
+}
+
+fn write_run<W: Write>(writer: &mut W, run: &LogRun) -> io::Result<()>
+    ensures { OnOk result (Appends (W.contents writer.old) (W.contents writer.new) (run_line run.now)) }
+{
+    let first = run.first.0;
+    let last = run.last.0;
+    write!(writer, "applied {first} to {last}")?;
+    let log = run.log;
+    writeln!(writer, " of log {log}")
+}

@@ -1,0 +1,113 @@
+//! What the word `recover` does: a hive's file and its logs are read, and the recovered hive's file is made.
+//!
+//! `recovery_report` recovers, over bytes in memory. Nothing is written but the new file.
+use crate::command_error::CommandError;
+use crate::files::{Source, Trouble, last_error};
+use crate::hint::Hint;
+use crate::input_file::opened;
+use crate::new_file::make_file;
+use crate::terminal::TerminalOutput;
+use hive_recovery::read_log;
+use recovery_report::{Outcome, Recovery, recover, write_ending, write_steps};
+use refusals::Refusal;
+use refusals::limits::MOST_BINS_BYTES;
+use reply_lines::Status;
+use std::alloc::Global;
+use std::io::{self, BufWriter, Eprint, Input, Read, Write};
+use std::rt::Files;
+
+/// The most logs of a hive.
+pub const MOST_LOGS: usize = 8;
+
+/// The bytes of a hive's file up to the end of the largest bins data. None of what follows is part of a hive.
+const MOST_FILE_BYTES: usize = 4_096 + MOST_BINS_BYTES;
+
+/// The most bytes of a log: twice those of the largest bins data.
+const MOST_LOG_BYTES: usize = 2 * MOST_BINS_BYTES;
+
+/// Recovers the hive in a file by 1 to 8 logs. The paths are those of the logs, and then that of the new file, which may not be
+/// there.
+pub fn recover_hive<'a, R: Files + Input + Print + Eprint + AllocGlobal>(
+    rt: &R,
+    output: TerminalOutput,
+    hive: &'a str,
+    paths: &[&'a str],
+) -> Result<Status, CommandError<'a>> {
+    let Some((out, logs)) = paths.split_last() else {
+        return Err(CommandError::WrongWords);
+    };
+    if logs.is_empty() || logs.len() > MOST_LOGS {
+        return Err(CommandError::WrongWords);
+    }
+    let found = recovery_of(rt, hive, logs)?;
+    let mut writer = BufWriter::new(rt.alloc(), io::writer(rt))?;
+    if let Err(error) = write_steps(&mut writer, &found) {
+        return Ok(output.status(rt, Err(error)));
+    }
+    let status = finish(rt, rt.alloc(), &found.outcome, *out, &mut writer)?;
+    let ended = write_ending(&mut writer, &found.outcome);
+    let told = ended.and_then(|_| writer.flush());
+    Ok(output.status(rt, told.map(|_| status)))
+}
+
+// makes the new file, if there is a recovered hive; the lines so far are shown before that
+fn finish<'a, R: Files, W: Write>(
+    rt: &R,
+    alloc: Global,
+    outcome: &Outcome,
+    out: &'a str,
+    writer: &mut W,
+) -> Result<Status, CommandError<'a>> {
+    let _ = writer.flush();
+    match outcome {
+        Outcome::Clean(file) | Outcome::Recovered(file) => {
+            make_file(rt, alloc, out, &file.bytes)?;
+            Ok(Status::Clean)
+        }
+        Outcome::NoHive(_) | Outcome::Refused(_) => Ok(Status::Refused),
+    }
+}
+
+// what comes of the hive and the logs in files
+fn recovery_of<'a, R: Files + Input + AllocGlobal>(
+    rt: &R,
+    hive: &'a str,
+    paths: &[&'a str],
+) -> Result<Recovery, CommandError<'a>> {
+    let alloc = rt.alloc();
+    let file = bytes_of(rt, hive, MOST_FILE_BYTES)?;
+    let mut contents = Vec::new(alloc);
+    for path in paths {
+        let bytes = bytes_of(rt, *path, MOST_LOG_BYTES + 1)?;
+        if bytes.len() > MOST_LOG_BYTES {
+            return Err(CommandError::Refused(Refusal::TooLarge));
+        }
+        contents.push(bytes)?;
+    }
+    let mut logs = Vec::new(alloc);
+    for bytes in &contents {
+        match read_log(alloc, bytes) {
+            Ok(log) => logs.push(log)?,
+            Err(why) => return Err(CommandError::Refused(why)),
+        }
+    }
+    Ok(recover(alloc, &file, &logs)?)
+}
+
+// the first bytes of a file, at most so many
+fn bytes_of<'a, R: Files + Input + AllocGlobal>(
+    rt: &R,
+    path: &'a str,
+    most: usize,
+) -> Result<Vec<u8>, CommandError<'a>> {
+    let trouble = Trouble::new(None);
+    let mut bytes = Vec::new(rt.alloc());
+    let mut file = Source::new(opened(rt, path)?, &trouble).take(most as u64);
+    match file.read_to_end(&mut bytes) {
+        Ok(_) => Ok(bytes),
+        Err(error) if error.kind() == io::ErrorKind::OutOfMemory => {
+            Err(CommandError::Refused(Refusal::NoMemory))
+        }
+        Err(_) => Err(CommandError::CannotReadFile(Hint::denied(path, last_error(&trouble)))),
+    }
+}

@@ -1,0 +1,343 @@
+#!/usr/bin/env python3
+"""Recovers hives of machines that were switched off, with the built program:
+
+    tests/recovered_hives.py PROGRAM
+
+A machine's states are hives that runs/hives/maker.py makes, and its logs are laid out by tests/marvin.py. What is wanted comes from
+the states and from which entries stand, never from a reader. The last line is 'N passed, N failed', and the status is 0 if none
+failed.
+
+- machines: one log or two, in any order, whole, cut or spoiled; primary files of which each page is of some state.
+- lost: machines of which one entry is missing in the middle: an earlier state, whole, or a refusal.
+- reports: all lines that are printed, and the status.
+- refusals: hives and logs of which nothing is made.
+- outputs: new files that are there already, can't be written, or fill the device; inputs that are only read.
+- kills: runs that are killed at any moment.
+- memory: each allocation refused in turn.
+"""
+import os
+import random
+import resource
+import signal
+import struct
+import subprocess
+import sys
+import time
+
+TOP = os.path.dirname(os.path.dirname(os.path.abspath(__file__)))
+sys.dont_write_bytecode = True
+sys.path[:0] = [os.path.join(TOP, "tests"), os.path.join(TOP, "runs", "hives")]
+from log_machines import HEAD, block, recovered  # noqa: E402
+from maker import SPLITS_FROM, Cells, Key, Value, key_of  # noqa: E402
+from marvin import BIN, PAGE, SECTOR, entry  # noqa: E402
+from scratch import are_there, as_other, expect, finish, limited, mounted, program_at, refusal_shim, tell  # noqa: E402
+
+BAD_LOG, BAD_BASE, TRUNCATED = (f"E15 HiveDamaged 0 {cause}" for cause in ("BadLog", "BadBase", "Truncated"))
+ROOT_BYTES = 77
+# how many machines are recovered
+MACHINES = int(os.environ.get("MACHINES", "400"))
+
+
+class Machine:
+    """States of a hive, and the entry of each step: that of the step from state i has the number base + i."""
+
+    def __init__(self, seed, steps=4, base=100, minor=5):
+        self.chance, self.base, self.minor = random.Random(seed), base, minor
+        self.keys = [self.key(number) for number in range(self.chance.randint(2, 8))]
+        self.rest = bytes(HEAD - SECTOR)
+        self.states, self.entries = [], []
+        self.write()
+        for _ in range(steps):
+            self.change()
+            self.write()
+            self.entries.append(self.step(len(self.states) - 2))
+
+    def key(self, number):
+        """A key, whose values' data fill pages."""
+        values = [Value(f"v{at}", 3, self.chance.randbytes(self.chance.choice([3, 100, 3_000, 9_000]))) for at in range(self.chance.randint(1, 3))]
+        return Key(f"key{number}", number, values=values)
+
+    def change(self):
+        """A key comes, goes, or has other values."""
+        at = self.chance.randrange(len(self.keys))
+        kind = self.chance.randrange(4)
+        if kind == 0:
+            self.keys.append(self.key(len(self.states) + 100))
+        elif kind == 1 and len(self.keys) > 1:
+            del self.keys[at]
+        else:
+            self.keys[at] = self.key(int(self.keys[at].name[3:]))
+
+    def write(self):
+        # the root's record stands in the first cell, as no entry tells another place; its cell behind its subkeys is left as it is
+        cells = Cells(0, self.minor >= SPLITS_FROM)
+        self.root = cells.put(bytes(ROOT_BYTES), "root")
+        last = key_of(cells, Key("r", len(self.states), list(self.keys)), {})
+        cells.fill(self.root, cells.bytes[last + 4:last + 4 + ROOT_BYTES])
+        self.states.append(cells.bins())
+
+    def step(self, at):
+        """The entry of the pages that two states have otherwise."""
+        old, new = self.states[at], self.states[at + 1]
+        changed = [place for place in range(0, len(new), PAGE) if old[place:place + PAGE] != new[place:place + PAGE]] or [0]
+        return entry(self.base + at, len(new), [(place, new[place:place + PAGE]) for place in changed], bytes(self.chance.choice([0, 600])))
+
+    def primary(self, kept, upto):
+        """A primary file that was last written whole at a state; since then each page was written at one up to another state."""
+        bins, pages = self.states[kept], []
+        for at in range(0, len(bins), PAGE):
+            written = [state[at:at + PAGE] for state in self.states[kept:upto + 1] if len(state) > at]
+            pages.append(self.chance.choice(written))
+        number = self.base + kept
+        return block(number + 1, number, len(bins), minor=self.minor, root=self.root) + self.rest + b"".join(pages)
+
+    def log(self, entries):
+        return block(self.base, self.base, len(self.states[0]), kind=6, minor=self.minor, root=self.root) + b"".join(entries)
+
+    def wanted(self, primary, last):
+        """The file that recovery of entries up to one gives."""
+        state = self.states[last + 1]
+        return recovered(primary[:SECTOR], self.base + last, len(state)) + self.rest + state
+
+
+class Runs:
+    """The program, what it printed, and the file that it made."""
+
+    def __init__(self, program):
+        self.program = program
+
+    def recover(self, primary, *logs, out="out", **given):
+        """The lines, the status, and the file or None."""
+        names = [self.program.put(f"log{at}", log) for at, log in enumerate(logs, 1)]
+        if os.path.exists(self.program.at(out)):
+            os.remove(self.program.at(out))
+        told, status = self.program.run("recover", self.program.put("hive", primary), *names, out, **given)
+        return told.decode().splitlines(), status, self.file(out)
+
+    def file(self, name):
+        if not os.path.exists(self.program.at(name)):
+            return None
+        with open(self.program.at(name), "rb") as file:
+            return file.read()
+
+    def is_file(self, title, primary, logs, wanted):
+        """What is wrong if a file is wanted."""
+        lines, status, found = self.recover(primary, *logs)
+        if (found, status) == (wanted, 0):
+            return None
+        return f"{title}: status {status}, {'no file' if found is None else 'another file'}: {lines[-3:]}"
+
+    def is_refused(self, title, primary, logs, wanted):
+        lines, status, found = self.recover(primary, *logs)
+        return expect(title, (lines[-1:], status, found), ([wanted], 1, None))
+
+
+def machines(runs):
+    for seed in range(MACHINES):
+        machine = Machine(seed, base=[100, 2**32 - 2, 0, 7][seed % 4], minor=3 + seed % 3)
+        entries, last, chance = machine.entries, len(machine.entries) - 1, machine.chance
+        kept = chance.randrange(len(entries))
+        kind = ["whole", "two logs", "cut", "spoiled"][seed // 4 % 4]
+        title = f"machine {seed}, {kind}, kept {kept}"
+        log = machine.log(entries)
+        if kind == "whole":
+            primary = machine.primary(kept, last + 1)
+            yield runs.is_file(title, primary, [log], machine.wanted(primary, last))
+        elif kind == "two logs":
+            cut = chance.randint(1, last)
+            logs = [machine.log(entries[:cut]), machine.log(entries[cut:])]
+            chance.shuffle(logs)
+            primary = machine.primary(kept, last + 1)
+            yield runs.is_file(title, primary, logs, machine.wanted(primary, last))
+        else:
+            # the first entries stand
+            stands = chance.randint(0, last)
+            begin = SECTOR + sum(map(len, entries[:stands]))
+            place = chance.randrange(begin, begin + len(entries[stands]))
+            bad = log[:place] if kind == "cut" else log[:place] + bytes([log[place] ^ 1 << chance.randrange(8)]) + log[place + 1:]
+            if kept < stands:
+                primary = machine.primary(kept, stands)
+                yield runs.is_file(f"{title}, {stands} stand", primary, [bad], machine.wanted(primary, stands - 1))
+            else:
+                yield runs.is_refused(f"{title}, {stands} stand", machine.primary(kept, kept), [bad], BAD_LOG)
+
+
+def lost(runs):
+    """Machines that lost an entry: no hive comes of it that none of the states is."""
+    for seed in range(MACHINES // 4):
+        machine = Machine(10_000 + seed, steps=5)
+        gone = machine.chance.randrange(len(machine.entries))
+        logs = [machine.log(machine.entries[:gone]), machine.log(machine.entries[gone + 1:])]
+        machine.chance.shuffle(logs)
+        if gone == 0:
+            yield runs.is_refused(f"machine {seed}, first lost", machine.primary(0, 0), logs, BAD_LOG)
+        else:
+            primary = machine.primary(0, gone)
+            yield runs.is_file(f"machine {seed}, {gone} lost", primary, logs, machine.wanted(primary, gone - 1))
+
+
+def reports(runs):
+    machine = Machine(20_000, steps=3)
+    first, second, third = machine.entries
+    head = "hive 1.5, numbers 101 and 100, not clean"
+    ends = [SECTOR + sum(map(len, part)) for part in (machine.entries, [first], [second, third], [third])]
+    primary = machine.primary(0, 0)
+    yield expect("whole", runs.recover(primary, machine.log(machine.entries))[:2], (
+        [head, f"log 1: entries 100 to 102, then no letters at 0x{ends[0]:x}", "applied 100 to 102 of log 1", "recovered 102"], 0))
+    yield expect("two logs", runs.recover(primary, machine.log([second, third]), machine.log([first]), b"")[:2], (
+        [head, f"log 1: entries 101 to 102, then no letters at 0x{ends[2]:x}", f"log 2: entries 100 to 100, then no letters at 0x{ends[1]:x}",
+         "log 3: empty", "applied 100 to 100 of log 2", "applied 101 to 102 of log 1", "recovered 102"], 0))
+    yield expect("a gap", runs.recover(primary, machine.log([first]), machine.log([third]))[:2], (
+        [head, f"log 1: entries 100 to 100, then no letters at 0x{ends[1]:x}", f"log 2: entries 102 to 102, then no letters at 0x{ends[3]:x}, 101 is missing",
+         "applied 100 to 100 of log 1", "recovered 100"], 0))
+    yield expect("nothing fits", runs.recover(primary, machine.log([third]))[:2], (
+        [head, f"log 1: entries 102 to 102, then no letters at 0x{ends[3]:x}, 100 is missing", BAD_LOG], 1))
+    clean = block(9, 9, len(machine.states[0]), root=machine.root) + machine.rest + machine.states[0]
+    lines, status, found = runs.recover(clean + b"more", machine.log([third]))
+    yield expect("clean", (lines, status, found), (
+        ["hive 1.5, numbers 9 and 9, clean", f"log 1: entries 102 to 102, then no letters at 0x{ends[3]:x}", "clean 9"], 0, clean))
+    torn = primary[:300] + bytes([primary[300] ^ 1]) + primary[301:]
+    log = machine.log(machine.entries)
+    yield expect("torn sum", runs.recover(torn, log)[:2], (
+        ["torn base block: sum", f"log 1: entries 100 to 102, then no letters at 0x{ends[0]:x}", "applied 100 to 102 of log 1", "recovered 102"], 0))
+    yield expect("torn letters", runs.recover(bytes(SECTOR) + primary[SECTOR:], b"")[:2], (["torn base block: letters", "log 1: empty", BAD_BASE], 1))
+    # recover of what recover made
+    once = runs.recover(primary, log)[2]
+    yield expect("once more", runs.recover(once, log)[1:], (0, once))
+    yield expect("it is whole", runs.program.run("check", runs.program.put("once", once))[1], 0)
+    for name in are_there("reports", "hivexml", "reglookup"):
+        ended = subprocess.run([name, runs.program.at("once")], capture_output=True)
+        yield expect(name, (ended.returncode, b"key1" in ended.stdout), (0, True))
+
+
+def refusals(runs):
+    machine = Machine(30_000, steps=2)
+    primary, log = machine.primary(0, 0), machine.log(machine.entries)
+    cases = [
+        ("a file of 511 bytes", primary[:511], [log], TRUNCATED),
+        ("a file of 4,095 bytes", primary[:4_095], [log], TRUNCATED),
+        ("no log fits", primary, [b""], BAD_LOG),
+        ("a log in the hive's place", log, [log], "E17 Unsupported"),
+        ("another version", block(101, 100, len(machine.states[0]), minor=6) + primary[SECTOR:], [log], "E17 Unsupported"),
+        ("too large", block(101, 100, 2**26 + BIN) + primary[SECTOR:], [log], "E6 TooLarge"),
+        ("a wrong bin", primary, [machine.log([entry(100, BIN, [(0, b"x" * PAGE)])])], f"{BAD_LOG[:-6]}BadBin at 0x1000"),
+    ]
+    state = bytearray(machine.states[1])
+    root = machine.root
+    state[root + 4:root + 6] = b"xx"
+    cases.append(("a wrong root", primary, [machine.log([entry(100, len(state), [(0, bytes(state))])])],
+                  f"{BAD_LOG[:-6]}BadRecord at 0x{HEAD + root:x} in the root"))
+    for title, file, logs, why in cases:
+        yield runs.is_refused(title, file, logs, why)
+    runs.program.put("hive", primary)
+    for title, words in (("two words", ["hive", "out"]), ("one word", ["hive"]), ("no word", []), ("nine logs", ["hive", *["log1"] * 9, "out"])):
+        yield expect(title, runs.program.run("recover", *words), (b"wrong words\n", 2))
+    yield expect("eight logs", runs.program.run("recover", runs.program.put("hive", primary), *[runs.program.put("log1", log)] * 8, "eight")[1], 0)
+    for title, words in (("no hive", ["none", "log1", "out"]), ("no log", ["hive", "none", "out"]), ("a folder", ["hive", ".", "out"])):
+        yield expect(title, runs.program.run("recover", *words), (b"cannot read file\n", 1))
+
+
+def outputs(runs):
+    machine = Machine(40_000)
+    primary, log = machine.primary(0, 0), machine.log(machine.entries)
+    program, wanted = runs.program, machine.wanted(primary, len(machine.entries) - 1)
+
+    def ends(title, *words, **given):
+        """What is wrong if a run doesn't end with `cannot write file`."""
+        told, status = program.run("recover", *words, **given)
+        return expect(title, (told.splitlines()[-1:], status), ([b"cannot write file"], 1))
+
+    hive, its_log = program.put("hive", primary), program.put("log1", log)
+    program.put("there", b"something")
+    yield ends("a file", hive, its_log, "there")
+    yield expect("it stays", runs.file("there"), b"something")
+    yield ends("the hive itself", hive, its_log, hive)
+    yield expect("the hive stays", runs.file("hive"), primary)
+    for title, target in (("a link", "there"), ("a link to nothing", "nothing")):
+        os.symlink(target, program.at("link"))
+        yield ends(title, hive, its_log, "link")
+        yield expect(f"{title} stays", os.readlink(program.at("link")), target)
+        os.remove(program.at("link"))
+    os.mkdir(program.at("folder"))
+    yield ends("a folder", hive, its_log, "folder")
+    yield ends("no folder", hive, its_log, "none/out")
+    program.put("new.part", b"part")
+    yield ends("a part", hive, its_log, "new")
+    yield expect("the part stays", (runs.file("new.part"), runs.file("new")), (b"part", None))
+    hints = program.run("recover", hive, its_log, "new", environment={"REGTX_HINTS": "1"})[0]
+    yield expect("the part is told", hints, b"regtx: new: with .part behind is there already: a run left it that was killed\n")
+    yield ends("a small limit", hive, its_log, "new2", **limited(resource.RLIMIT_FSIZE, 5_000))
+    yield expect("nothing is left", (runs.file("new2"), runs.file("new2.part")), (None, None))
+    with mounted(program, 8_192) as full:
+        if full:
+            yield ends("a full device", hive, its_log, f"{full}/out")
+            yield expect("nothing is left there", os.listdir(program.at(full)), [])
+    # inputs in a folder that can't be written, read by somebody else
+    os.mkdir(program.at("inputs"))
+    program.put("inputs/hive", primary)
+    program.put("inputs/log", log)
+    for name in ("inputs/hive", "inputs/log"):
+        os.chmod(program.at(name), 0o444)
+    os.chmod(program.at("inputs"), 0o555)
+    os.mkdir(program.at("results"))
+    os.chmod(program.at("results"), 0o777)
+    yield expect("inputs that are only read", program.run("recover", "inputs/hive", "inputs/log", "results/out", **as_other())[1], 0)
+    yield expect("the result", runs.file("results/out"), wanted)
+    yield expect("inputs stay", (runs.file("inputs/hive"), runs.file("inputs/log")), (primary, log))
+    yield expect("no part is left", os.listdir(program.at("results")), ["out"])
+    os.chmod(program.at("inputs"), 0o755)
+
+
+def kills(runs):
+    """Runs that are killed: the new file isn't there, or is whole."""
+    machine = Machine(50_000, steps=6)
+    primary, log = machine.primary(0, 0), machine.log(machine.entries)
+    program, wanted = runs.program, machine.wanted(primary, len(machine.entries) - 1)
+    program.put("hive", primary)
+    program.put("log1", log)
+    found = {None: 0, wanted: 0}
+    for number in range(200):
+        for name in ("killed", "killed.part"):
+            if os.path.exists(program.at(name)):
+                os.remove(program.at(name))
+        run = subprocess.Popen([program.path, "recover", "hive", "log1", "killed"], cwd=program.home, stdout=subprocess.DEVNULL)
+        time.sleep(machine.chance.random() * 0.012)
+        run.send_signal(signal.SIGKILL)
+        run.wait()
+        left = runs.file("killed")
+        if left not in found:
+            yield f"kill {number}: another file of {len(left)} bytes"
+            continue
+        found[left] += 1
+        yield None
+    print(f"kills: {found[None]} left no file, {found[wanted]} a whole one")
+
+
+def memory(runs):
+    """Recoveries in which each allocation in turn is refused."""
+    machine, shim, report = Machine(60_000), refusal_shim(), runs.program.at("report")
+    primary, logs = machine.primary(0, 0), [machine.log(machine.entries[:2]), machine.log(machine.entries[2:])]
+    wanted = machine.wanted(primary, len(machine.entries) - 1)
+    for number in range(1, 2_000):
+        given = {"LD_PRELOAD": shim, "FAILALLOC_AT": str(number), "FAILALLOC_REPORT": report}
+        lines, status, found = runs.recover(primary, *logs, environment=given)
+        with open(report, encoding="ascii") as file:
+            if "refused=0" in file.read():
+                yield expect("no allocation refused", (status, found), (0, wanted))
+                return
+        # a file of which all can't be reserved is read in smaller parts
+        if (status, found) != (0, wanted):
+            yield expect(f"allocation {number}", (lines[-1:], status, found), (["E1 NoMemory"], 1, None))
+    yield "each allocation was refused"
+
+
+def main():
+    if len(sys.argv) != 2:
+        sys.exit(__doc__)
+    with program_at(sys.argv[1], "recovered-") as program:
+        runs = Runs(program)
+        finish([tell(part.__name__, list(part(runs))) for part in (machines, lost, reports, refusals, outputs, kills, memory)])
+
+
+if __name__ == "__main__":
+    main()
