@@ -26,7 +26,7 @@ SERVER_PROGRAMS = out/regtxd out/regtxc
 UNITS = regtx@.service regtx@.socket
 SHARED = libregtx.so.0
 LIBRARY_FILES = regtx.h libregtx.a $(SHARED)
-PAGES = README.md docs/USING.md docs/SCRIPTS.md docs/REGFILES.md docs/LAB.md docs/SWEEP.md docs/SERVING.md server/README.md
+PAGES = README.md docs/USING.md docs/SCRIPTS.md docs/REGFILES.md docs/LAB.md docs/SWEEP.md docs/SERVING.md docs/RECOVERING.md server/README.md
 # sources, pages and examples; no tests, and nothing that was built
 CLIENTS = $(wildcard clients/README.md clients/*/README.md clients/python/*.py clients/c/*.[ch] \
     clients/rust/Cargo.toml clients/rust/Cargo.lock clients/rust/src/*.rs clients/rust/examples/*.rs)

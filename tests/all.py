@@ -78,6 +78,7 @@ TESTS = [
     Test("served_examples", "tests/served_examples.py $regtx", 20, ["cargo"]),
     Test("values", "tests/values.py $regtx", 20),
     Test("log_machines", "tests/log_machines.py $recoveries", 20),
+    Test("recovered_hives", "tests/recovered_hives.py $regtx", 25),
     Test("retries", "$trials retries && tools/failalloc.py each $trials retries", 5),
     Test("checks", "tests/checks.py $regtx", 12),
     Test("python_client", "tests/python_client.py $regtx", 10),

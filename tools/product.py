@@ -13,7 +13,8 @@ USAGE = re.compile(r'^    Usage \{\n        name: "(.+)",\n        call: "(.+)",
 TITLE = re.compile(r"\A# regtx: (?:an? )?(.+)\n\n(.+(?:\n.+)*)")
 # what completes a word of a usage
 KINDS = {
-    "DIR": "folders", "OLD": "folders", "NEW": "folders", "FILE": "files", "SCRIPT": "files", "SOURCE": "files", "TYPE": "types",
+    "DIR": "folders", "OLD": "folders", "NEW": "folders", "FILE": "files", "SCRIPT": "files", "SOURCE": "files", "HIVE": "files",
+    "LOG": "files", "OUT": "files", "TYPE": "types",
     "COMMAND": "commands", "ID": "nothing", "COUNT": "nothing", "HIVE:PATH": "nothing", "NAME": "nothing", "VALUE": "nothing",
     "PREFIX=HIVE": "nothing", "SECONDS": "nothing", "once": "nothing",
 }

@@ -8,9 +8,9 @@ use Rattle.hive_recovery.specs.Plans.{is_torn_block}
 use Rattle.hive_recovery.specs.Sequences.{entries_of, left_from, missing_of, next_of}
 use Rattle.hive_recovery.specs.declared.log.Log.{Log}
 use Rattle.recovery_report.specs.Outcomes.{IsOutcome}
-use Rattle.recovery_report.specs.declared.recovery.LogReport.{LogReport}
-use Rattle.recovery_report.specs.declared.recovery.Recovery.{Recovery}
-use Rattle.recovery_report.specs.declared.recovery.Waiting.{Waiting}
+use Rattle.recovery_report.specs.declared.report.LogReport.{LogReport}
+use Rattle.recovery_report.specs.declared.report.Recovery.{Recovery}
+use Rattle.recovery_report.specs.declared.report.Waiting.{Waiting}
 
 -- the base block of a file, if it has a first sector
 abbrev pub first_block : List ℕ → Option BaseBlock

@@ -11,8 +11,8 @@ use Rattle.hive_recovery.specs.declared.report.EntryNumbers.{EntryNumbers}
 use Rattle.hive_recovery.specs.declared.sequence.LogRun.{LogRun}
 use Rattle.recovery_report.specs.declared.outcome.Outcome.{Outcome}
 use Rattle.recovery_report.specs.declared.outcome.Outcome.TheVariants as outcome
-use Rattle.recovery_report.specs.declared.recovery.LogReport.{LogReport}
-use Rattle.recovery_report.specs.declared.recovery.Recovery.{Recovery}
+use Rattle.recovery_report.specs.declared.report.LogReport.{LogReport}
+use Rattle.recovery_report.specs.declared.report.Recovery.{Recovery}
 
 -- versions and numbers of a whole base block, and whether it is clean
 abbrev pub state_text : Bool → List ℕ

@@ -6,9 +6,9 @@
 #![tactic(auto)]
 
 mod outcome;
-mod recovery;
+mod report;
 mod report_text;
 
 pub use outcome::{HiveFile, Outcome};
-pub use recovery::{LogReport, Recovery, recover};
+pub use report::{LogReport, Recovery, recover};
 pub use report_text::{write_ending, write_steps};

@@ -4,7 +4,7 @@ ghost use Rattle.std.specs.Io.KnownBytes.{Appends};
 ghost use Rattle.recovery_report.specs.ReportTexts.{state_text, version_text, numbers_text, whole_line, block_line, entries_text, missing_text, log_line, log_lines, run_line, run_lines, steps_text, ending_line};
 
 use crate::outcome::Outcome;
-use crate::recovery::{LogReport, Recovery};
+use crate::report::{LogReport, Recovery};
 use base_block::{BaseBlock, SequenceNumber, Signature};
 use hive_check::write_reason;
 use hive_recovery::{EntryNumbers, LogRun};

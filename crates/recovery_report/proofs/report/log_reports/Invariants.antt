@@ -1,6 +1,6 @@
 use Rattle.std.proofs.Common.{◌≡◌, map, take}
 use Rattle.recovery_report.specs.Recoveries.{log_report}
-use Rattle.recovery_report.proofs.recovery.log_reports.Given as goal
+use Rattle.recovery_report.proofs.report.log_reports.Given as goal
 
 -- what is told of the logs so far
 abbrev pub invariant-logs : goal.invariant-logs
