@@ -1,5 +1,5 @@
 -- Runs of logs, one behind the other.
-use Rattle.std.proofs.Common.{◌≡◌, ℕ, Bool, true, false, if◌then◌else◌, List, [], ◌∷◌, ◌++◌, length, refl, sym, ◌∙◌, ap, subst, append_assoc}
+use Rattle.std.proofs.Common.{◌≡◌, ℕ, Bool, true, false, if◌then◌else◌, List, [], ◌∷◌, ◌++◌, length, refl, sym, ◌∙◌, ap, append_assoc}
 use Rattle.std.proofs.lemmas.List.{append-nil}
 use Rattle.hive_recovery.specs.Runs.{AreLastOf, IsRunOf, AreRunsOf}
 use Rattle.hive_recovery.specs.Sequences.{entries_of, is_older, left_from}
@@ -12,12 +12,6 @@ pub run_more : (logs : List Log) (runs : List LogRun) (run : LogRun) (entries pa
 run_more logs [] run entries part none one = (part, [], ap (λ begun. begun ++ part) none ∙ sym (append-nil part), one, refl)
 run_more logs (first ∷ rest) run entries part (own, more, same, of_log, others) one =
     (own, more ++ part, ap (λ begun. begun ++ part) same ∙ append_assoc own more part, of_log, run_more logs rest run more part others one)
-
--- no run more
-pub runs_same : (logs : List Log) (runs : List LogRun) (entries part : List (List ℕ)) → part ≡ [] → AreRunsOf logs runs entries → AreRunsOf logs runs (entries ++ part)
-runs_same logs runs entries part none are =
-    let Are : List (List ℕ) → Type 0 = λ all. AreRunsOf logs runs all in
-    subst Are (sym (append-nil entries) ∙ ap (λ more. entries ++ more) (sym none)) are
 
 -- what is left from a number on are the last entries
 pub left_last : (number : ℕ) (entries : List (List ℕ)) → (before : List (List ℕ)) × (entries ≡ before ++ left_from number entries)

@@ -14,19 +14,19 @@ use Rattle.hive_recovery.specs.Recovered.{recovered_file}
 use Rattle.hive_recovery.specs.Runs.{AreRunsOf}
 use Rattle.hive_recovery.specs.declared.log.Log.{Log}
 use Rattle.hive_recovery.specs.declared.sequence.LogRun.{LogRun}
-use Rattle.recovery_report.specs.declared.outcome.HiveFile.{HiveFile}
-use Rattle.recovery_report.specs.declared.outcome.Outcome.{Outcome}
-use Rattle.recovery_report.specs.declared.outcome.Outcome.TheVariants as outcome
+use Rattle.recovery_report.specs.declared.outcome.CleanHive.{CleanHive}
+use Rattle.recovery_report.specs.declared.outcome.RecoveryOutcome.{RecoveryOutcome}
+use Rattle.recovery_report.specs.declared.outcome.RecoveryOutcome.TheVariants as outcome
 
 -- a file is that of a clean hive: it holds a tree, no path of which is too long, and this is both its numbers
-pub record IsHiveFile (file : HiveFile) : Type 0 where
+pub record IsCleanHive (file : CleanHive) : Type 0 where
   pub tree : TreeMap
   pub holds : FileHoldsShallowTree file.bytes.items tree
   pub first : (block_of file.bytes.items).primary ≡ file.number
   pub second : (block_of file.bytes.items).secondary ≡ file.number
 
 -- a file of a hive, as it was or recovered
-abbrev pub held_as : HiveFile → Bool → Outcome
+abbrev pub held_as : CleanHive → Bool → RecoveryOutcome
 held_as file was_clean = if was_clean then outcome.Clean file else outcome.Recovered file
 
 -- a finding isn't that of a tree
@@ -35,16 +35,16 @@ IsNoTree (finding.Walked cells keys) = ⊥
 IsNoTree _ = Unit {0}
 
 -- what is true of recovered bytes, which are the hive's as it was if nothing was applied
-abbrev pub IsJudged : List ℕ → Bool → Outcome → Type 0
-IsJudged bytes was_clean (outcome.Clean file) = (file.bytes.items ≡ bytes) × IsHiveFile file × (was_clean ≡ true)
-IsJudged bytes was_clean (outcome.Recovered file) = (file.bytes.items ≡ bytes) × IsHiveFile file × (was_clean ≡ false)
-IsJudged bytes was_clean (outcome.NoHive its) = IsFinding bytes its × IsNoTree its
-IsJudged bytes was_clean (outcome.Refused why) = why ≡ refusal.NoMemory
+abbrev pub IsOutcomeOfBytes : List ℕ → Bool → RecoveryOutcome → Type 0
+IsOutcomeOfBytes bytes was_clean (outcome.Clean file) = (file.bytes.items ≡ bytes) × IsCleanHive file × (was_clean ≡ true)
+IsOutcomeOfBytes bytes was_clean (outcome.Recovered file) = (file.bytes.items ≡ bytes) × IsCleanHive file × (was_clean ≡ false)
+IsOutcomeOfBytes bytes was_clean (outcome.NoHive its) = IsFinding bytes its × IsNoTree its
+IsOutcomeOfBytes bytes was_clean (outcome.Refused why) = why ≡ refusal.NoMemory
 
 -- what is true of a plan: the recovered bytes are those that it makes; or it makes none, for this reason, or for want of memory
-abbrev pub IsMade : List ℕ → PlanSeen → Outcome → Type 0
-IsMade file plan its =
-    ((out : List ℕ) × (recovered_file file plan ≡ Ok out) × IsJudged out (length plan.entries == 0) its)
+abbrev pub IsOutcomeOfPlan : List ℕ → PlanSeen → RecoveryOutcome → Type 0
+IsOutcomeOfPlan file plan its =
+    ((out : List ℕ) × (recovered_file file plan ≡ Ok out) × IsOutcomeOfBytes out (length plan.entries == 0) its)
     ⊎ ((why : Refusal) × (its ≡ outcome.Refused why) × ((why ≡ refusal.NoMemory) ⊎ (recovered_file file plan ≡ Err why)))
 
 -- a hive's file and logs have this plan, and these are its runs of entries
@@ -52,7 +52,7 @@ abbrev pub IsPlanOf : List ℕ → List Log → List LogRun → PlanSeen → Typ
 IsPlanOf file logs runs plan = (plan_of file logs ≡ Ok plan) × AreRunsOf logs runs plan.entries
 
 -- what is true of a hive's file and logs: this is what comes of their plan; or there is none, for this reason
-abbrev pub IsOutcome : List ℕ → List Log → List LogRun → Outcome → Type 0
+abbrev pub IsOutcome : List ℕ → List Log → List LogRun → RecoveryOutcome → Type 0
 IsOutcome file logs runs its =
-    ((plan : PlanSeen) × IsPlanOf file logs runs plan × IsMade file plan its)
+    ((plan : PlanSeen) × IsPlanOf file logs runs plan × IsOutcomeOfPlan file plan its)
     ⊎ ((why : Refusal) × (its ≡ outcome.Refused why) × (runs ≡ []) × IsPlanRefused file logs why)

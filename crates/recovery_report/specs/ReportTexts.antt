@@ -9,8 +9,8 @@ use Rattle.hive_check.specs.ReportTexts.{reason_text}
 use Rattle.hive_recovery.specs.Endings.{ending_text}
 use Rattle.hive_recovery.specs.declared.report.EntryNumbers.{EntryNumbers}
 use Rattle.hive_recovery.specs.declared.sequence.LogRun.{LogRun}
-use Rattle.recovery_report.specs.declared.outcome.Outcome.{Outcome}
-use Rattle.recovery_report.specs.declared.outcome.Outcome.TheVariants as outcome
+use Rattle.recovery_report.specs.declared.outcome.RecoveryOutcome.{RecoveryOutcome}
+use Rattle.recovery_report.specs.declared.outcome.RecoveryOutcome.TheVariants as outcome
 use Rattle.recovery_report.specs.declared.report.LogReport.{LogReport}
 use Rattle.recovery_report.specs.declared.report.Recovery.{Recovery}
 
@@ -66,7 +66,7 @@ abbrev pub steps_text : Recovery → List ℕ
 steps_text found = block_line found.block ++ (log_lines 1 found.logs.items ++ run_lines found.runs.items)
 
 -- the last line
-abbrev pub ending_line : Outcome → List ℕ
+abbrev pub ending_line : RecoveryOutcome → List ℕ
 ending_line (outcome.Clean file) = codes "clean " ++ decimal file.number.0 ++ codes "\n"
 ending_line (outcome.Recovered file) = codes "recovered " ++ decimal file.number.0 ++ codes "\n"
 ending_line (outcome.NoHive finding) = reason_text finding ++ codes "\n"

@@ -1,7 +1,7 @@
 //! What comes of a recovery.
 ghost use Rattle.std.specs.Prelude.{◌≡◌, ◌⊎◌, List, ℕ, true, Ok};
 ghost use Rattle.hive_recovery.specs.Plans.{seen};
-ghost use Rattle.recovery_report.specs.Outcomes.{IsOutcome, IsMade, IsJudged, held_as};
+ghost use Rattle.recovery_report.specs.Outcomes.{IsOutcome, IsOutcomeOfPlan, IsOutcomeOfBytes, held_as};
 
 use base_block::SequenceNumber;
 use hive_check::{Finding, HiveReport, report_of};
@@ -11,7 +11,7 @@ use std::alloc::Global;
 
 /// The file of a hive that is clean.
 #[derive(Drop)]
-pub struct HiveFile {
+pub struct CleanHive {
     /// All its bytes.
     pub bytes: Vec<u8>,
     /// Both its sequence numbers.
@@ -20,11 +20,11 @@ pub struct HiveFile {
 
 /// What comes of a recovery.
 #[derive(Drop)]
-pub enum Outcome {
+pub enum RecoveryOutcome {
     /// The hive was clean. Its file has these bytes, without what followed the bins data.
-    Clean(HiveFile),
+    Clean(CleanHive),
     /// Entries were applied. The recovered hive's file has these bytes.
-    Recovered(HiveFile),
+    Recovered(CleanHive),
     /// The recovered bytes hold no hive, for what is found of them.
     NoHive(Finding),
     /// There are no recovered bytes, for this reason.
@@ -37,7 +37,7 @@ pub(crate) struct RunsOutcome {
     /// The runs.
     pub(crate) runs: Vec<LogRun>,
     /// What comes of it.
-    pub(crate) outcome: Outcome,
+    pub(crate) outcome: RecoveryOutcome,
 }
 
 /// What comes of the recovery of a hive's file by logs.
@@ -54,46 +54,46 @@ pub(crate) fn outcome_of(alloc: Global, file: &[u8], logs: &[Log<'_>]) -> RunsOu
         }
         Err(why) => RunsOutcome {
             runs: Vec::new(alloc),
-            outcome: Outcome::Refused(why),
+            outcome: RecoveryOutcome::Refused(why),
         },
     }
 }
 
 // what comes of a plan
-fn made(alloc: Global, file: &[u8], chosen: &RecoveryPlan<'_>) -> Outcome
-    ensures { IsMade file.now (seen chosen.now) result }
+fn made(alloc: Global, file: &[u8], chosen: &RecoveryPlan<'_>) -> RecoveryOutcome
+    ensures { IsOutcomeOfPlan file.now (seen chosen.now) result }
 {
     match carry_out(alloc, file, chosen) {
         Ok(bytes) => judged(alloc, bytes, chosen.entries.is_empty()),
-        Err(why) => Outcome::Refused(why),
+        Err(why) => RecoveryOutcome::Refused(why),
     }
 }
 
 // what is found of recovered bytes, which are those of the hive as it was if nothing was applied
-fn judged(alloc: Global, bytes: Vec<u8>, was_clean: bool) -> Outcome
-    ensures { IsJudged bytes.items was_clean result }
+fn judged(alloc: Global, bytes: Vec<u8>, was_clean: bool) -> RecoveryOutcome
+    ensures { IsOutcomeOfBytes bytes.items was_clean result }
 {
     let report = match report_of(alloc, &mut bytes.as_slice()) {
         Ok(report) => report,
-        Err(_) => return Outcome::Refused(Refusal::NoMemory),
+        Err(_) => return RecoveryOutcome::Refused(Refusal::NoMemory),
     };
     let HiveReport { block, finding } = report;
     match (block, finding) {
         (Some(block), Finding::Walked(..)) => {
             let number = block.block.primary;
-            held(HiveFile { bytes, number }, was_clean)
+            held(CleanHive { bytes, number }, was_clean)
         }
-        (_, finding) => Outcome::NoHive(finding),
+        (_, finding) => RecoveryOutcome::NoHive(finding),
     }
 }
 
 // the file of a hive, as it was or recovered
-fn held(file: HiveFile, was_clean: bool) -> Outcome
+fn held(file: CleanHive, was_clean: bool) -> RecoveryOutcome
     ensures { result ≡ held_as file was_clean }
 {
     if was_clean {
-        Outcome::Clean(file)
+        RecoveryOutcome::Clean(file)
     } else {
-        Outcome::Recovered(file)
+        RecoveryOutcome::Recovered(file)
     }
 }

@@ -4,7 +4,7 @@ ghost use Rattle.base_block.specs.Layout.{is_clean_block};
 ghost use Rattle.hive_recovery.specs.Plans.{is_torn_block};
 ghost use Rattle.recovery_report.specs.Recoveries.{first_block, is_unclean, waiting_of, log_report, missing_in, IsRecoveryOf};
 
-use crate::outcome::{Outcome, RunsOutcome, outcome_of};
+use crate::outcome::{RecoveryOutcome, RunsOutcome, outcome_of};
 use base_block::{BaseBlock, SequenceNumber, Signature};
 use hive_recovery::{EntryNumbers, Log, LogEnding, LogRun, missing_number, next_number};
 use std::alloc::{AllocError, Global};
@@ -30,7 +30,7 @@ pub struct Recovery {
     /// Which runs of logs were applied, one after the other.
     pub runs: Vec<LogRun>,
     /// What came of it.
-    pub outcome: Outcome,
+    pub outcome: RecoveryOutcome,
 }
 
 // the number that the hive's file waits for, and that behind all that is applied

@@ -3,7 +3,7 @@ ghost use Rattle.std.specs.Prelude.{◌+◌, ◌<◌, ◌^◌, length, OnOk};
 ghost use Rattle.std.specs.Io.KnownBytes.{Appends};
 ghost use Rattle.recovery_report.specs.ReportTexts.{state_text, version_text, numbers_text, whole_line, block_line, entries_text, missing_text, log_line, log_lines, run_line, run_lines, steps_text, ending_line};
 
-use crate::outcome::Outcome;
+use crate::outcome::RecoveryOutcome;
 use crate::report::{LogReport, Recovery};
 use base_block::{BaseBlock, SequenceNumber, Signature};
 use hive_check::write_reason;
@@ -20,23 +20,23 @@ pub fn write_steps<W: Write>(writer: &mut W, found: &Recovery) -> io::Result<()>
 }
 
 /// Writes the last line: what came of a recovery.
-pub fn write_ending<W: Write>(writer: &mut W, outcome: &Outcome) -> io::Result<()>
+pub fn write_ending<W: Write>(writer: &mut W, outcome: &RecoveryOutcome) -> io::Result<()>
     ensures { OnOk result (Appends (W.contents writer.old) (W.contents writer.new) (ending_line outcome.now)) }
 {
     match outcome {
-        Outcome::Clean(file) => {
+        RecoveryOutcome::Clean(file) => {
             let number = file.number.0;
             writeln!(writer, "clean {number}")
         }
-        Outcome::Recovered(file) => {
+        RecoveryOutcome::Recovered(file) => {
             let number = file.number.0;
             writeln!(writer, "recovered {number}")
         }
-        Outcome::NoHive(finding) => {
+        RecoveryOutcome::NoHive(finding) => {
             write_reason(writer, finding)?;
             writer.write_all(b"\n")
         }
-        Outcome::Refused(why) => writeln!(writer, "{why}"),
+        RecoveryOutcome::Refused(why) => writeln!(writer, "{why}"),
     }
 }
 

@@ -8,7 +8,7 @@ use crate::input_file::opened;
 use crate::new_file::make_file;
 use crate::terminal::TerminalOutput;
 use hive_recovery::read_log;
-use recovery_report::{Outcome, Recovery, recover, write_ending, write_steps};
+use recovery_report::{Recovery, RecoveryOutcome, recover, write_ending, write_steps};
 use refusals::Refusal;
 use refusals::limits::MOST_BINS_BYTES;
 use reply_lines::Status;
@@ -54,17 +54,17 @@ pub fn recover_hive<'a, R: Files + Input + Print + Eprint + AllocGlobal>(
 fn finish<'a, R: Files, W: Write>(
     rt: &R,
     alloc: Global,
-    outcome: &Outcome,
+    outcome: &RecoveryOutcome,
     out: &'a str,
     writer: &mut W,
 ) -> Result<Status, CommandError<'a>> {
     let _ = writer.flush();
     match outcome {
-        Outcome::Clean(file) | Outcome::Recovered(file) => {
+        RecoveryOutcome::Clean(file) | RecoveryOutcome::Recovered(file) => {
             make_file(rt, alloc, out, &file.bytes)?;
             Ok(Status::Clean)
         }
-        Outcome::NoHive(_) | Outcome::Refused(_) => Ok(Status::Refused),
+        RecoveryOutcome::NoHive(_) | RecoveryOutcome::Refused(_) => Ok(Status::Refused),
     }
 }
 
