@@ -23,7 +23,7 @@ pub fn carry_out(alloc: Global, file: &[u8], plan: &RecoveryPlan<'_>) -> Result<
         return Err(Refusal::from(Cause::Truncated));
     }
     match recovered_bins(alloc, file, &plan.entries, plan.bins_size) {
-        Ok(bins) => Ok(joined(alloc, &plan.sector, &file[512..HEAD_BYTES], &bins)?),
+        Ok(bins) => Ok(file_of_parts(alloc, &plan.sector, &file[512..HEAD_BYTES], &bins)?),
         Err(Refusal::HiveDamaged { .. }) => Err(why_none(plan)),
         Err(why) => Err(why),
     }
@@ -40,8 +40,13 @@ fn why_none(plan: &RecoveryPlan<'_>) -> Refusal
     }
 }
 
-// three parts, one behind the other
-fn joined(alloc: Global, sector: &[u8], rest: &[u8], bins: &[u8]) -> Result<Vec<u8>, AllocError>
+/// The bytes of a file of three parts: its first sector, what follows up to its bins data, and these.
+pub fn file_of_parts(
+    alloc: Global,
+    sector: &[u8],
+    rest: &[u8],
+    bins: &[u8],
+) -> Result<Vec<u8>, AllocError>
     ensures { IfOk result (λ out. out.items ≡ sector.now ++ rest.now ++ bins.now) }
 {
     let mut out = Vec::new(alloc);

@@ -14,8 +14,9 @@ mod sector;
 mod sequence;
 
 pub use bins::recovered_bins;
-pub use carrying::carry_out;
+pub use carrying::{carry_out, file_of_parts};
 pub use log::{Log, LogHead, read_log};
 pub use planning::{RecoveryPlan, plan};
 pub use report::{EntryNumbers, LogEnding};
-pub use sequence::{LogRun, missing_number, next_number};
+pub use sector::recovered as recovered_sector;
+pub use sequence::{LogRun, is_below, missing_number, next_number};

@@ -10,7 +10,7 @@ use byteorder::{ByteOrder, LittleEndian};
 #[tactic(auto, unfolding(crate::specs::Sectors::recovered_sector))]
 /// A sector as the first of a recovered hive: clean, of the type of a primary file, with a number and a size of bins data.
 /// All else stays.
-pub(crate) fn recovered(sector: &[u8; 512], number: SequenceNumber, bins_size: u32) -> [u8; 512]
+pub fn recovered(sector: &[u8; 512], number: SequenceNumber, bins_size: u32) -> [u8; 512]
     ensures made { result ≡ recovered_sector sector.now number.0 bins_size }
     ensures clean { is_clean_block (block_at result) ≡ true }
 {

@@ -11,7 +11,7 @@ use hive_log_entries::LogEntry;
 use std::alloc::{AllocError, Global};
 
 /// Whether a number is below another. Numbers wrap, so it is if the other is at most 2,147,483,648 ahead of it.
-pub(crate) fn is_below(number: SequenceNumber, other: SequenceNumber) -> bool
+pub fn is_below(number: SequenceNumber, other: SequenceNumber) -> bool
     ensures { result ≡ is_older number.0 other.0 }
 {
     number.0.wrapping_sub(other.0) >= 0x8000_0000

@@ -4,8 +4,8 @@ use Rattle.hive_recovery.specs.Plans.{seen}
 use Rattle.hive_recovery.proofs.Planned.{file_made}
 use Rattle.hive_recovery.proofs.carrying.carry_out.Goals as goal
 
-pub returns-in_ok-joined-in-Ok-clause-recovered : goal.returns-in_ok-joined-in-Ok-clause-recovered
-returns-in_ok-joined-in-Ok-clause-recovered c =
-    file_made c.args.file.now (seen c.args.plan.now) c.in-Ok.bins.items c.in_ok-joined-in-Ok.field-0.items c.if-file-lt-HEAD_BYTES.false
+pub returns-in_ok-file_of_parts-in-Ok-clause-recovered : goal.returns-in_ok-file_of_parts-in-Ok-clause-recovered
+returns-in_ok-file_of_parts-in-Ok-clause-recovered c =
+    file_made c.args.file.now (seen c.args.plan.now) c.in-Ok.bins.items c.in_ok-file_of_parts-in-Ok.field-0.items c.if-file-lt-HEAD_BYTES.false
     (ap (λ entries. first_bytes (laid (own_bytes c.args.file.now) entries) c.args.plan.now.bins_size) (sym c.deref.ensures.value) ∙ c.in-Ok.ensures.ok)
-    (c.in_ok-joined-in-Ok.ensures ∙ ap (λ (bins : List ℕ). c.args.plan.now.sector ++ take 3584 (drop 512 c.args.file.now) ++ bins) c.deref-in-Ok.ensures.value)
+    (c.in_ok-file_of_parts-in-Ok.ensures ∙ ap (λ (bins : List ℕ). c.args.plan.now.sector ++ take 3584 (drop 512 c.args.file.now) ++ bins) c.deref-in-Ok.ensures.value)
