@@ -1,0 +1,4 @@
+pub mod PageLogs
+pub mod Choices
+pub mod RecoveredPages
+pub mod FaultTexts
