@@ -9,6 +9,7 @@ failed.
 
 - machines: one log or two, in any order, whole, cut or spoiled; primary files of which each page is of some state.
 - lost: machines of which one entry is missing in the middle: an earlier state, whole, or a refusal.
+- pages: logs of Windows 8 and before, on disks with sectors of several sizes; those that aren't whole, and several at once.
 - reports: all lines that are printed, and the status.
 - refusals: hives and logs of which nothing is made.
 - outputs: new files that are there already, can't be written, or fill the device; inputs that are only read.
@@ -27,7 +28,7 @@ import time
 TOP = os.path.dirname(os.path.dirname(os.path.abspath(__file__)))
 sys.dont_write_bytecode = True
 sys.path[:0] = [os.path.join(TOP, "tests"), os.path.join(TOP, "runs", "hives")]
-from log_machines import HEAD, block, recovered  # noqa: E402
+from log_machines import HEAD, block, recovered, with_sum  # noqa: E402
 from maker import SPLITS_FROM, Cells, Key, Value, key_of  # noqa: E402
 from marvin import BIN, PAGE, SECTOR, entry  # noqa: E402
 from scratch import are_there, as_other, expect, finish, limited, mounted, program_at, refusal_shim, tell  # noqa: E402
@@ -174,6 +175,77 @@ def lost(runs):
         else:
             primary = machine.primary(0, gone)
             yield runs.is_file(f"machine {seed}, {gone} lost", primary, logs, machine.wanted(primary, gone - 1))
+
+
+def page_log(machine, at, number, time=77, factor=1, minor=None, **other):
+    """The log of pages of a step, as Windows 8 and before write it: letters and pages begin at sectors of the disk."""
+    old, new = machine.states[at], machine.states[at + 1]
+    unit, marks = 512 * factor, bytearray(len(new) // 4_096)
+    changed = [page for page in range(len(new) // 512) if old[512 * page:512 * page + 512] != new[512 * page:512 * page + 512]]
+    for page in changed:
+        marks[page // 8] |= 1 << page % 8
+    sector = block(number, other.get("second", number), len(new), kind=other.get("kind", 1), minor=minor or machine.minor, root=machine.root, time=time)
+    if factor > 1:
+        sector = with_sum(sector[:44] + struct.pack("<I", factor) + sector[48:])
+    front = sector.ljust(unit, b"f") + other.get("letters", b"DIRT") + bytes(marks)
+    front += b"?" * (-len(front) % unit)
+    return front + b"".join(new[512 * page:512 * page + 512] for page in changed), len(changed), sector
+
+
+def being_written(machine, at, number, time=77):
+    """A primary file that was being written from a state to the next one: some pages are there already."""
+    old, new = machine.states[at], machine.states[at + 1]
+    pages = [(new if place >= len(old) or machine.chance.random() < 0.5 else old)[place:place + 512] for place in range(0, len(new), 512)]
+    body = b"".join(pages)[:machine.chance.choice([len(new), max(len(old), 512)])]
+    return block(number + 1, number, len(old), minor=machine.minor, root=machine.root, time=time) + machine.rest + body
+
+
+def pages(runs):
+    """Logs of Windows 8 and before."""
+    for seed in range(MACHINES // 4):
+        machine = Machine(70_000 + seed, steps=2, minor=3 + seed % 3)
+        number, factor = machine.chance.choice([7, 2**32 - 1, 100]), machine.chance.choice([1, 1, 2, 8])
+        log, count, sector = page_log(machine, 1, number, factor=factor, kind=machine.chance.choice([1, 2]))
+        primary = being_written(machine, 1, number)
+        wanted = recovered(sector, number + 1, len(machine.states[2])) + machine.rest + machine.states[2]
+        older = page_log(machine, 0, number - 1, time=66)[0]
+        logs = machine.chance.choice([[log], [log, older], [older, log], [b"", log + b"remnants"]])
+        title = f"machine {seed}, factor {factor}, {len(logs)} logs"
+        yield runs.is_file(title, primary, logs, wanted)
+        torn = bytes([primary[0] ^ 1]) + primary[1:]
+        wanted = recovered(sector, number, len(machine.states[2])) + machine.rest + machine.states[2]
+        yield runs.is_file(f"{title}, torn", torn, logs, wanted)
+    machine = Machine(80_000, steps=2)
+    log, count, sector = page_log(machine, 1, 8)
+    primary = being_written(machine, 1, 8)
+    head, size = "hive 1.5, numbers 9 and 8, not clean", len(machine.states[2])
+    yield expect("lines", runs.recover(primary, b"", log)[:2], (
+        [head, "log 1: empty", f"log 2: {count} pages", f"applied {count} pages of number 8", "recovered 9"], 0))
+    end = 516 + size // 4_096
+    cases = [
+        ("another time", page_log(machine, 1, 8, time=78)[0], f"{count} pages"),
+        ("numbers", page_log(machine, 1, 8, second=9)[0], "no log: numbers 8 and 9"),
+        ("letters", page_log(machine, 1, 8, letters=b"DIRX")[0], "no log: no letters DIRT"),
+        ("version", page_log(machine, 1, 8, minor=6)[0], "no log: version"),
+        ("bitmap", log[:end - 1], "no log: bitmap cut"),
+        ("pages", log[:-1], "no log: pages cut"),
+        ("type", page_log(machine, 1, 8, kind=5)[0], "no log: type 5"),
+        ("a factor of 9", page_log(machine, 1, 8, factor=9)[0], "no log: no letters DIRT"),
+        ("bins size", with_sum(log[:40] + struct.pack("<I", size + 512) + log[44:512]) + log[512:], "no log: bins size"),
+    ]
+    for title, bad, told in cases:
+        yield expect(title, runs.recover(primary, bad), ([head, f"log 1: {told}", BAD_LOG], 1, None))
+    # of two that fit, the one with the greater number
+    later = page_log(machine, 1, 9)[0]
+    yield expect("the later", runs.recover(primary, later, log)[0][-2:], [f"applied {count} pages of number 9", "recovered 9"])
+    # a page that neither the file nor the log has
+    yield runs.is_refused("lacking pages", primary[:HEAD + 100], [log], BAD_LOG)
+    # entries come first
+    new = Machine(81_000, steps=2)
+    primary = new.primary(0, 0)
+    yield runs.is_file("entries first", primary, [page_log(new, 0, 100)[0], new.log(new.entries)], new.wanted(primary, 1))
+    clean = block(9, 9, len(new.states[0]), root=new.root) + new.rest + new.states[0]
+    yield runs.is_file("a clean hive", clean, [page_log(new, 0, 9)[0]], clean)
 
 
 def reports(runs):
@@ -336,7 +408,7 @@ def main():
         sys.exit(__doc__)
     with program_at(sys.argv[1], "recovered-") as program:
         runs = Runs(program)
-        finish([tell(part.__name__, list(part(runs))) for part in (machines, lost, reports, refusals, outputs, kills, memory)])
+        finish([tell(part.__name__, list(part(runs))) for part in (machines, lost, pages, reports, refusals, outputs, kills, memory)])
 
 
 if __name__ == "__main__":

@@ -7,11 +7,16 @@ use Rattle.base_block.specs.declared.block.BaseBlock.{BaseBlock}
 use Rattle.base_block.specs.declared.fields.SequenceNumber.{SequenceNumber}
 use Rattle.hive_check.specs.ReportTexts.{reason_text}
 use Rattle.hive_recovery.specs.Endings.{ending_text}
+use Rattle.hive_page_logs.specs.FaultTexts.{fault_text}
+use Rattle.hive_recovery.specs.declared.report.LogEnding.{LogEnding}
 use Rattle.hive_recovery.specs.declared.report.EntryNumbers.{EntryNumbers}
 use Rattle.hive_recovery.specs.declared.sequence.LogRun.{LogRun}
 use Rattle.recovery_report.specs.declared.outcome.RecoveryOutcome.{RecoveryOutcome}
 use Rattle.recovery_report.specs.declared.outcome.RecoveryOutcome.TheVariants as outcome
+use Rattle.recovery_report.specs.declared.outcome.PagesRun.{PagesRun}
 use Rattle.recovery_report.specs.declared.report.LogReport.{LogReport}
+use Rattle.recovery_report.specs.declared.report.PagesReport.{PagesReport}
+use Rattle.recovery_report.specs.declared.report.PagesReport.TheVariants as report
 use Rattle.recovery_report.specs.declared.report.Recovery.{Recovery}
 
 -- versions and numbers of a whole base block, and whether it is clean
@@ -44,9 +49,15 @@ abbrev pub missing_text : Option SequenceNumber → List ℕ
 missing_text None = codes "\n"
 missing_text (Some number) = codes ", " ++ decimal number.0 ++ codes " is missing\n"
 
+-- how a log ended, or what it is as one of pages
+abbrev pub log_text : PagesReport → LogEnding → List ℕ
+log_text report.Other ending = ending_text ending
+log_text (report.Faulty why) ending = fault_text why
+log_text (report.Whole count) ending = decimal count ++ codes " pages"
+
 -- the line of a log with a number
 abbrev pub log_line : ℕ → LogReport → List ℕ
-log_line number report = (codes "log " ++ decimal number ++ codes ": ") ++ (entries_text report.numbers ++ (ending_text report.ending ++ missing_text report.missing))
+log_line number report = (codes "log " ++ decimal number ++ codes ": ") ++ (entries_text report.numbers ++ (log_text report.pages report.ending ++ missing_text report.missing))
 
 -- the lines of logs, which are numbered from one on
 abbrev pub log_lines : ℕ → List LogReport → List ℕ
@@ -61,9 +72,14 @@ abbrev pub run_lines : List LogRun → List ℕ
 run_lines [] = []
 run_lines (run ∷ rest) = run_line run ++ run_lines rest
 
+-- the line of the pages that were applied, if any were
+abbrev pub pages_line : Option PagesRun → List ℕ
+pages_line None = []
+pages_line (Some run) = codes "applied " ++ decimal run.count ++ codes " pages of number " ++ decimal run.number.0 ++ codes "\n"
+
 -- all lines of a recovery but the last
 abbrev pub steps_text : Recovery → List ℕ
-steps_text found = block_line found.block ++ (log_lines 1 found.logs.items ++ run_lines found.runs.items)
+steps_text found = block_line found.block ++ (log_lines 1 found.logs.items ++ (run_lines found.runs.items ++ pages_line found.pages))
 
 -- the last line
 abbrev pub ending_line : RecoveryOutcome → List ℕ

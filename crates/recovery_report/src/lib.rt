@@ -9,6 +9,6 @@ mod outcome;
 mod report;
 mod report_text;
 
-pub use outcome::{CleanHive, RecoveryOutcome};
-pub use report::{LogReport, Recovery, recover};
+pub use outcome::{CleanHive, PagesRun, RecoveryOutcome};
+pub use report::{LogReport, PagesReport, Recovery, recover};
 pub use report_text::{write_ending, write_steps};

@@ -1,21 +1,37 @@
 //! A recovery, with what is told of each log.
-ghost use Rattle.std.specs.Prelude.{◌≡◌, ◌&&◌, not, map, option_map, IfOk};
-ghost use Rattle.base_block.specs.Layout.{is_clean_block};
-ghost use Rattle.hive_recovery.specs.Plans.{is_torn_block};
-ghost use Rattle.recovery_report.specs.Recoveries.{first_block, is_unclean, waiting_of, log_report, missing_in, IsRecoveryOf};
+ghost use Rattle.std.specs.Prelude.{◌≡◌, map, IfOk, IfErr};
+ghost use Rattle.refusals.specs.declared.refusal.Refusal.TheVariants.{NoMemory};
+ghost use Rattle.hive_page_logs.specs.PageLogs.{IsPageLog, page_view, page_view_of};
+ghost use Rattle.hive_recovery.specs.declared.log.Log.{Log};
+ghost use Rattle.recovery_report.specs.Recoveries.{is_unclean, waiting_of, log_report, pages_report, missing_in, IsRecoveryOf};
 
-use crate::outcome::{RecoveryOutcome, RunsOutcome, outcome_of};
+use crate::outcome::{PagesRun, RecoveryOutcome, RunsOutcome, outcome_of};
 use base_block::{BaseBlock, SequenceNumber, Signature};
+use hive_page_logs::{PageFault, PageLog, read_pages};
 use hive_recovery::{EntryNumbers, Log, LogEnding, LogRun, missing_number, next_number};
-use std::alloc::{AllocError, Global};
+use refusals::Refusal;
+use std::alloc::Global;
+
+/// What is told of a log as one of pages, as Windows 8 and before write them.
+#[derive(Clone, Copy)]
+pub enum PagesReport {
+    /// It is none.
+    Other,
+    /// It isn't whole.
+    Faulty(PageFault),
+    /// It is whole, and has so many pages.
+    Whole(usize),
+}
 
 /// What is told of a log.
 #[derive(Clone, Copy)]
 pub struct LogReport {
     /// The numbers of its entries, if it has some.
     pub numbers: Option<EntryNumbers>,
-    /// How it ended.
+    /// How it ended, as a log of entries.
     pub ending: LogEnding,
+    /// What it is as a log of pages.
+    pub pages: PagesReport,
     /// The number for want of which it isn't gone on with, if it isn't.
     pub missing: Option<SequenceNumber>,
 }
@@ -29,6 +45,8 @@ pub struct Recovery {
     pub logs: Vec<LogReport>,
     /// Which runs of logs were applied, one after the other.
     pub runs: Vec<LogRun>,
+    /// Which pages were applied, if a log of pages was.
+    pub pages: Option<PagesRun>,
     /// What came of it.
     pub outcome: RecoveryOutcome,
 }
@@ -40,18 +58,31 @@ pub(crate) struct Waiting {
     pub(crate) next: SequenceNumber,
 }
 
-/// Recovers a hive's file by logs: chooses entries by their numbers, applies them, and judges the result as a hive of any
-/// weight. It fails only for want of memory; what else refuses the hive or its logs is the outcome.
-pub fn recover(alloc: Global, file: &[u8], logs: &[Log<'_>]) -> Result<Recovery, AllocError>
-    ensures { IfOk result (IsRecoveryOf file.now logs.now) }
+// what was read of logs
+#[derive(Drop)]
+struct LogsFound<'a> {
+    reports: Vec<LogReport>,
+    pages: Vec<PageLog<'a>>,
+}
+
+/// Recovers a hive's file by logs: chooses entries by their numbers, or the pages of one log, applies them, and judges the result as
+/// a hive of any weight. Refused for want of memory alone; what else refuses the hive or its logs is the outcome.
+pub fn recover(alloc: Global, file: &[u8], logs: &[Log<'_>]) -> Result<Recovery, Refusal>
+    ensures recovers { IfOk result (IsRecoveryOf file.now logs.now) }
+    ensures refused { IfErr result (λ why. why ≡ NoMemory) }
 {
     let block = BaseBlock::read_first(file);
-    let reports = log_reports(alloc, numbers_wanted(&block, logs), logs)?;
-    let RunsOutcome { runs, outcome } = outcome_of(alloc, file, logs);
+    let found = logs_found(alloc, numbers_wanted(&block, logs), logs)?;
+    let RunsOutcome {
+        runs,
+        pages,
+        outcome,
+    } = outcome_of(alloc, file, &block, logs, &found.pages);
     Ok(Recovery {
         block,
-        logs: reports,
+        logs: found.reports,
         runs,
+        pages,
         outcome,
     })
 }
@@ -76,29 +107,47 @@ fn is_unclean(block: &BaseBlock) -> bool
     block.signature == Signature::REGF && block.sum_is_right && !block.is_clean()
 }
 
-// what is told of logs
-fn log_reports(
+// what is told of logs, and what they are as logs of pages
+fn logs_found<'a>(
     alloc: Global,
     waiting: Option<Waiting>,
-    logs: &[Log<'_>],
-) -> Result<Vec<LogReport>, AllocError>
-    ensures { IfOk result (λ reports. reports.items ≡ map (log_report waiting) logs.now) }
+    logs: &[Log<'a>],
+) -> Result<LogsFound<'a>, Refusal>
+    ensures reports { IfOk result (λ found. found.reports.items ≡ map (log_report waiting) logs.now) }
+    ensures pages { IfOk result (λ found. map page_view found.pages.items ≡ map page_view_of logs.now) }
+    ensures refused { IfErr result (λ why. why ≡ NoMemory) }
 {
     let mut reports = Vec::new(alloc);
+    let mut pages = Vec::new(alloc);
     'logs: for index in 0..logs.len() {
-        reports.push(report_on(&logs[index], waiting))?;
+        let page = read_pages(alloc, &logs[index])?;
+        reports.push(report_on(&logs[index], &page, waiting))?;
+        pages.push(page)?;
     }
-    Ok(reports)
+    Ok(LogsFound { reports, pages })
 }
 
-// what is told of a log
-fn report_on(log: &Log<'_>, waiting: Option<Waiting>) -> LogReport
+// what is told of a log, which is this as one of pages
+fn report_on(log: &Log<'_>, page: &PageLog<'_>, waiting: Option<Waiting>) -> LogReport
+    requires { IsPageLog log.now page.now }
     ensures { result ≡ log_report waiting log.now }
 {
     LogReport {
         numbers: log.numbers(),
         ending: log.ending(),
+        pages: pages_report(page),
         missing: missing(log, waiting),
+    }
+}
+
+// what is told of a log of pages
+fn pages_report(page: &PageLog<'_>) -> PagesReport
+    ensures { (log : Log) → IsPageLog log page.now → result ≡ pages_report log }
+{
+    match page {
+        PageLog::Other => PagesReport::Other,
+        PageLog::Faulty(why) => PagesReport::Faulty(*why),
+        PageLog::Whole(whole) => PagesReport::Whole(whole.dirt.vector.count()),
     }
 }
 

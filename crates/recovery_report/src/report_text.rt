@@ -1,13 +1,13 @@
 //! The lines of a recovery's report.
 ghost use Rattle.std.specs.Prelude.{◌+◌, ◌<◌, ◌^◌, length, OnOk};
 ghost use Rattle.std.specs.Io.KnownBytes.{Appends};
-ghost use Rattle.recovery_report.specs.ReportTexts.{state_text, version_text, numbers_text, whole_line, block_line, entries_text, missing_text, log_line, log_lines, run_line, run_lines, steps_text, ending_line};
+ghost use Rattle.recovery_report.specs.ReportTexts.{state_text, version_text, numbers_text, whole_line, block_line, entries_text, missing_text, log_line, log_lines, log_text, run_line, run_lines, pages_line, steps_text, ending_line};
 
-use crate::outcome::RecoveryOutcome;
-use crate::report::{LogReport, Recovery};
+use crate::outcome::{PagesRun, RecoveryOutcome};
+use crate::report::{LogReport, PagesReport, Recovery};
 use base_block::{BaseBlock, SequenceNumber, Signature};
 use hive_check::write_reason;
-use hive_recovery::{EntryNumbers, LogRun};
+use hive_recovery::{EntryNumbers, LogEnding, LogRun};
 use std::io::{self, Write};
 
 /// Writes all lines of a recovery but the last: the base block, each log, and each run of entries that was applied.
@@ -16,7 +16,8 @@ pub fn write_steps<W: Write>(writer: &mut W, found: &Recovery) -> io::Result<()>
 {
     write_block(writer, &found.block)?;
     write_logs(writer, 1, &found.logs)?;
-    write_runs(writer, &found.runs)
+    write_runs(writer, &found.runs)?;
+    write_pages(writer, found.pages)
 }
 
 /// Writes the last line: what came of a recovery.
@@ -111,9 +112,19 @@ fn write_log<W: Write>(writer: &mut W, number: usize, log: &LogReport) -> io::Re
 {
     write!(writer, "log {number}: ")?;
     write_entries(writer, log.numbers)?;
-    let ending = log.ending;
-    write!(writer, "{ending}")?;
+    write_log_end(writer, log.pages, log.ending)?;
     write_missing(writer, log.missing)
+}
+
+// how a log ended, or what it is as one of pages
+fn write_log_end<W: Write>(writer: &mut W, pages: PagesReport, ending: LogEnding) -> io::Result<()>
+    ensures { OnOk result (Appends (W.contents writer.old) (W.contents writer.new) (log_text pages ending)) }
+{
+    match pages {
+        PagesReport::Other => write!(writer, "{ending}"),
+        PagesReport::Faulty(why) => write!(writer, "{why}"),
+        PagesReport::Whole(count) => write!(writer, "{count} pages"),
+    }
 }
 
 fn write_entries<W: Write>(writer: &mut W, numbers: Option<EntryNumbers>) -> io::Result<()>
@@ -162,4 +173,18 @@ fn write_run<W: Write>(writer: &mut W, run: &LogRun) -> io::Result<()>
     write!(writer, "applied {first} to {last}")?;
     let log = run.log;
     writeln!(writer, " of log {log}")
+}
+
+// the pages that were applied, if any were
+fn write_pages<W: Write>(writer: &mut W, pages: Option<PagesRun>) -> io::Result<()>
+    ensures { OnOk result (Appends (W.contents writer.old) (W.contents writer.new) (pages_line pages)) }
+{
+    match pages {
+        Some(run) => {
+            let count = run.count;
+            let number = run.number.0;
+            writeln!(writer, "applied {count} pages of number {number}")
+        }
+        None => Ok(()),
+    }
 }

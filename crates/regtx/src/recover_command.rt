@@ -91,7 +91,10 @@ fn recovery_of<'a, R: Files + Input + AllocGlobal>(
             Err(why) => return Err(CommandError::Refused(why)),
         }
     }
-    Ok(recover(alloc, &file, &logs)?)
+    match recover(alloc, &file, &logs) {
+        Ok(found) => Ok(found),
+        Err(why) => Err(CommandError::Refused(why)),
+    }
 }
 
 // the first bytes of a file, at most so many
