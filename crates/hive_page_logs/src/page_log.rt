@@ -97,7 +97,7 @@ pub fn read_pages<'a>(alloc: Global, log: &Log<'a>) -> Result<PageLog<'a>, Refus
     if !is_of_pages(log.head) {
         return Ok(PageLog::Other);
     }
-    whole_or_not(alloc, log.bytes)
+    pages_in_log(alloc, log.bytes)
 }
 
 // whether a first sector says that pages follow
@@ -112,7 +112,7 @@ fn is_of_pages(head: LogHead) -> bool
 
 #[tactic(auto, unfolding(crate::specs::PageLogs::page_log_of))]
 // a log with such a first sector
-fn whole_or_not(alloc: Global, bytes: &[u8]) -> Result<PageLog<'_>, Refusal>
+fn pages_in_log(alloc: Global, bytes: &[u8]) -> Result<PageLog<'_>, Refusal>
     ensures read { IfOk result (IsWholeOr bytes.now (page_log_of bytes.now)) }
     ensures refused { IfErr result (λ why. why ≡ NoMemory) }
 {

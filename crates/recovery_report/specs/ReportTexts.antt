@@ -75,7 +75,7 @@ run_lines (run ∷ rest) = run_line run ++ run_lines rest
 -- the line of the pages that were applied, if any were
 abbrev pub pages_line : Option PagesRun → List ℕ
 pages_line None = []
-pages_line (Some run) = codes "applied " ++ decimal run.count ++ codes " pages of number " ++ decimal run.number.0 ++ codes "\n"
+pages_line (Some run) = (codes "applied " ++ decimal run.count ++ codes " pages") ++ (codes " of number " ++ decimal run.number.0 ++ codes "\n")
 
 -- all lines of a recovery but the last
 abbrev pub steps_text : Recovery → List ℕ

@@ -182,8 +182,9 @@ fn write_pages<W: Write>(writer: &mut W, pages: Option<PagesRun>) -> io::Result<
     match pages {
         Some(run) => {
             let count = run.count;
+            write!(writer, "applied {count} pages")?;
             let number = run.number.0;
-            writeln!(writer, "applied {count} pages of number {number}")
+            writeln!(writer, " of number {number}")
         }
         None => Ok(()),
     }

@@ -2,7 +2,7 @@ use Rattle.std.proofs.Common.{Result, IfOk, sym, ◌∙◌, subst}
 use Rattle.hive_page_logs.specs.PageLogs.{IsWholeOr, PagesSeen}
 use Rattle.hive_page_logs.specs.declared.page_log.PageFault.{PageFault}
 use Rattle.hive_page_logs.proofs.Read.{log_behind}
-use Rattle.hive_page_logs.proofs.page_log.whole_or_not.Goals as goal
+use Rattle.hive_page_logs.proofs.page_log.pages_in_log.Goals as goal
 
 pub returns-in-None-clause-read : goal.returns-in-None-clause-read
 returns-in-None-clause-read c =
