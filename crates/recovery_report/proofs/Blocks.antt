@@ -1,6 +1,6 @@
 -- The first block of a file, as it is read.
-use Rattle.std.proofs.Common.{◌≡◌, ◌≤◌, ◌<◌, ℕ, Bool, List, take, length, Option, Some, None, sym, ◌∙◌, ap, if◌then◌else◌}
-use Rattle.std.specs.Prelude.{IfSome, IfNone, nat_lt}
+use Rattle.std.proofs.Common.{◌≡◌, ◌≤◌, ◌<◌, ℕ, List, take, length, Option, Some, None, sym, ◌∙◌, ap, if◌then◌else◌}
+use Rattle.std.specs.Prelude.{IfSome, IfNone}
 use Rattle.std.proofs.lemmas.Bool.{lt-ltb, le-ltb}
 use Rattle.base_block.specs.Layout.{block_at}
 use Rattle.base_block.specs.declared.block.BaseBlock.{BaseBlock}

@@ -1,12 +1,12 @@
 -- The file of a hive, by what is found of its bytes.
-use Rattle.std.proofs.Common.{◌≡◌, ℕ, Bool, true, false, List, take, length, Option, Some, None, refl, sym, ◌∙◌, ap, subst, if◌then◌else◌}
+use Rattle.std.proofs.Common.{◌≡◌, ℕ, Bool, true, false, List, take, length, Some, None, refl, sym, ◌∙◌, ap, if◌then◌else◌}
 use Rattle.std.specs.Prelude.{nat_le, ◌==◌, ◌&&◌}
 use Rattle.std.proofs.lemmas.Bool.{eq-eqb, eqb-true, true≢false}
 use Rattle.base_block.specs.declared.block.BaseBlock.{BaseBlock}
 use Rattle.base_block.specs.declared.fields.SequenceNumber.{SequenceNumber}
-use Rattle.base_block.specs.Layout.{block_at, is_clean_block}
+use Rattle.base_block.specs.Layout.{is_clean_block}
 use Rattle.dirt_log.specs.WholeLog.{block_of}
-use Rattle.hive_file_reader.specs.Hives.{FileHasBlock, FileHasBins, FileHoldsShallowTree}
+use Rattle.hive_file_reader.specs.Hives.{FileHasBlock}
 use Rattle.hive_check.specs.Blocks.{block_in, block_in_sector, sector_report}
 use Rattle.hive_check.specs.Findings.{IsFinding}
 use Rattle.hive_check.specs.declared.block_report.BlockReport.{BlockReport}

@@ -1,5 +1,5 @@
 -- The text of a recovery's report.
-use Rattle.std.specs.Prelude.{ℕ, suc, ◌+◌, ◌==◌, not, Bool, if◌then◌else◌, List, [], ◌∷◌, ◌++◌, Option, Some, None, codes}
+use Rattle.std.specs.Prelude.{ℕ, ◌+◌, ◌==◌, not, Bool, if◌then◌else◌, List, [], ◌∷◌, ◌++◌, Option, Some, None, codes}
 use Rattle.std.specs.Fmt.{decimal}
 use Rattle.refusals.specs.Refusals.{refusal_text}
 use Rattle.base_block.specs.Layout.{is_clean_block}
