@@ -1,8 +1,8 @@
 -- Runs of logs, one behind the other.
-use Rattle.std.proofs.Common.{◌≡◌, ℕ, Bool, true, false, if◌then◌else◌, List, [], ◌∷◌, ◌++◌, length, refl, sym, ◌∙◌, ap, append_assoc}
+use Rattle.std.proofs.Common.{◌≡◌, ℕ, Bool, true, false, if◌then◌else◌, List, [], ◌∷◌, ◌++◌, refl, sym, ◌∙◌, ap, append_assoc}
 use Rattle.std.proofs.lemmas.List.{append-nil}
-use Rattle.hive_recovery.specs.Runs.{AreLastOf, IsRunOf, AreRunsOf}
-use Rattle.hive_recovery.specs.Sequences.{entries_of, is_older, left_from}
+use Rattle.hive_recovery.specs.Runs.{IsRunOf, AreRunsOf}
+use Rattle.hive_recovery.specs.Sequences.{is_older, left_from}
 use Rattle.hive_log_entries.specs.Entries.{number_of}
 use Rattle.hive_recovery.specs.declared.log.Log.{Log}
 use Rattle.hive_recovery.specs.declared.sequence.LogRun.{LogRun}
