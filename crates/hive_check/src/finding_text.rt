@@ -88,7 +88,8 @@ fn write_fault_reason<W: Write>(writer: &mut W, fault: &Fault) -> io::Result<()>
         (refusal_text fault.now.refusal ++ (offset_text (4096 + fault.now.at) ++ key_text fault.now.path.items))) }
 {
     write_refusal(writer, fault.refusal)?;
-    write_offset(writer, BINS_AT + fault.at as usize)?;
+    let at = BINS_AT + fault.at as usize;
+    write_offset(writer, at)?;
     write_key(writer, &fault.path)
 }
 
