@@ -9,7 +9,7 @@ from contextlib import suppress
 
 TOP = os.path.dirname(os.path.dirname(os.path.abspath(__file__)))
 SECONDS = 120
-PAGES = ["README.md", *[f"docs/{name}.md" for name in ("LAB", "REGFILES", "SCRIPTS", "SERVING", "SWEEP", "USING")], "server/README.md"]
+PAGES = ["README.md", *[f"docs/{name}.md" for name in ("LAB", "RECOVERING", "REGFILES", "SCRIPTS", "SERVING", "SWEEP", "USING")], "server/README.md"]
 UNITS = [f"lib/systemd/system/regtx@.{kind}" for kind in ("service", "socket")]
 MANUAL, ZSH, VENDOR_ZSH = "share/man/man1/regtx.1", "share/zsh/site-functions/_regtx", "share/zsh/vendor-completions/_regtx"
 # what has no client and no binding among it, with the modes
