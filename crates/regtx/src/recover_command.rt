@@ -58,6 +58,7 @@ fn finish<'a, R: Files, W: Write>(
     out: &'a str,
     writer: &mut W,
 ) -> Result<Status, CommandError<'a>> {
+    // if that fails, the writer keeps the lines, and its last flush tells whether they were written
     let _ = writer.flush();
     match outcome {
         RecoveryOutcome::Clean(file) | RecoveryOutcome::Recovered(file) => {
