@@ -7,9 +7,11 @@
 
 mod disk;
 mod folder;
+mod parent;
 mod record;
 mod world;
 
 pub use disk::FileDisk;
 pub use folder::{Denial, FileName, LockError, MOST_FILES};
+pub use parent::sync_parent;
 pub use world::{Unknown, World};
