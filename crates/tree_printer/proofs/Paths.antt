@@ -1,6 +1,8 @@
 -- The text of a path, a name longer.
 use Rattle.std.proofs.Common.{◌≡◌, ℕ, ◌<◌, List, [], ◌∷◌, ◌++◌, length, Option, refl, sym, ◌∙◌, ap, arith, append_assoc, length-append}
 use Rattle.std.specs.Io.KnownBytes.{Appends}
+use Rattle.std.specs.List.{flat_map}
+use Rattle.std.proofs.lemmas.List.{append-nil}
 use Rattle.reply_lines.specs.Replies.{name_text}
 use Rattle.reply_lines.proofs.Written.{appends_both}
 use Rattle.tree_printer.specs.TreeTexts.{path_text}
@@ -22,3 +24,8 @@ written_behind a b c d names before last one two three =
     appends_both a c d (path_text (names ++ before ∷ []) ++ 92 ∷ []) (name_text last) (path_text ((names ++ before ∷ []) ++ last ∷ []))
     (appends_both a b c (path_text (names ++ before ∷ [])) (92 ∷ []) (path_text (names ++ before ∷ []) ++ 92 ∷ []) one two refl) three
     (append_assoc (path_text (names ++ before ∷ [])) (92 ∷ []) (name_text last) ∙ sym (behind (names ++ before ∷ []) last (omega (arith, length-append names (before ∷ [])))))
+
+-- the first name, and each other one after a backslash
+pub first_and_others : (name : List ℕ) (names : List (List ℕ)) → name_text name ++ flat_map (λ n. 92 ∷ name_text n) names ≡ path_text (name ∷ names)
+first_and_others name [] = append-nil (name_text name)
+first_and_others name (next ∷ names) = ap (λ t. name_text name ++ 92 ∷ t) (first_and_others next names)

@@ -9,5 +9,5 @@ mod key_path;
 mod keys;
 mod values;
 
-pub use key_path::write_key_path;
+pub use key_path::{write_key_path, write_path};
 pub use keys::write_tree;
