@@ -7,13 +7,13 @@ ghost use Rattle.disk_model.specs.Call.{CountsFailure, HasFailed};
 ghost use Rattle.disk_model.specs.StoreFiles.{IsFileOfHive as IsFileOf, primary_file, log_file};
 ghost use Rattle.hive_files.specs.Frames.{TouchesOwnFiles};
 ghost use Rattle.hive_file_reader.specs.Readings.{FileRefusedAs};
-ghost use Rattle.hive_flush.specs.Creation.{AreCreated, AreCreatedFrom, IsImageOf, IsImageOfFile};
+ghost use Rattle.hive_flush.specs.Creation.{AreCreated, AreCreatedFrom, IsImageOf, IsImageOfFile, block_as_made};
 ghost use Rattle.hive_flush.specs.Decoders.{IsRefusedFor};
 
 use crate::application::encoded_tree;
 use crate::hive::HiveFile;
 use crate::image::HiveImage;
-use base_block::{BaseBlock, MINOR_VERSION, SequenceNumber};
+use base_block::{AppliedNumber, BaseBlock, MINOR_VERSION, SequenceNumber};
 use disk_model::{Disk, Failed};
 use hive_file_reader::{FileHive, load_file};
 use hive_files::{make, sector};
@@ -29,11 +29,11 @@ const FIRST_NUMBER: u32 = 1;
 const LEAST_BINS_BYTES: usize = 4_096;
 
 impl HiveImage {
-    /// The image of a tree for a store.
+    /// The image of a tree for a store, which has the changes up to a number applied.
     ///
     /// Refused with `TooLarge` exactly if the tree is over the weight. Otherwise refused with `NoMemory` alone.
-    pub fn of(alloc: Global, store: Uuid, tree: &Tree) -> Result<HiveImage, Refusal>
-        ensures image { IfOk result (IsImageOf store tree.now) }
+    pub fn of(alloc: Global, store: Uuid, tree: &Tree, number: u64) -> Result<HiveImage, Refusal>
+        ensures image { IfOk result (IsImageOf store tree.now number) }
         ensures refused { IfErr result (IsRefusedFor (weight tree.now)) }
         ensures heavy { MOST_WEIGHT < weight tree.now → result ≡ Err TooLarge }
     {
@@ -44,6 +44,7 @@ impl HiveImage {
             store,
             root,
             minor: MINOR_VERSION,
+            number,
             bins,
         })
     }
@@ -73,18 +74,20 @@ impl HiveImage {
             store,
             root: block.root,
             minor: block.minor,
+            number: 0,
             bins,
         })
     }
 
     /// Makes the two files of a hive, by its number, whatever was in them. They are a clean primary file with the
-    /// image's bins data, root and minor version, which holds its tree at number 0, and an empty log. Both are synced. A write takes at most 65,536 bytes.
+    /// image's bins data, root and minor version, which holds its tree at its number, and an empty log. Both are synced. A
+    /// write takes at most 65,536 bytes.
     ///
     /// Takes no memory. Failed if the device failed in a call, which was the last one. Then nothing is said of the two
     /// files.
     pub fn write<D: Disk>(&self, disk: &mut D, hive: u8) -> Result<(), Failed>
-        ensures created { OnOk result (D.faithful disk.new → (store : List ℕ) (tree : TreeMap) →
-            IsImageOf store tree self.now → AreCreated store tree
+        ensures created { OnOk result (D.faithful disk.new → (store : List ℕ) (tree : TreeMap) (number : ℕ) →
+            IsImageOf store tree number self.now → AreCreated store tree number
             (D.state_at disk.new (D.clock disk.new) (primary_file hive))
             (D.state_at disk.new (D.clock disk.new) (log_file hive))) }
         ensures copied { OnOk result (D.faithful disk.new → (store file : List ℕ) (tree : TreeMap) →
@@ -97,15 +100,24 @@ impl HiveImage {
         ensures faithful { D.faithful disk.new → D.faithful disk.old }
     {
         let size = self.bins.len() as u32;
-        let block = BaseBlock::of_primary(
+        let block = self.base_block(size);
+        let _ = sector(&block); // for the prover
+        make(disk, hive, &block, &self.bins)
+    }
+
+    // the base block of the primary file, whose bins data have this size
+    fn base_block(&self, size: u32) -> BaseBlock
+        ensures { result ≡ block_as_made self.now.store self.now.number self.now.minor self.now.root size }
+    {
+        let mut block = BaseBlock::of_primary(
             SequenceNumber(FIRST_NUMBER),
             self.minor,
             self.root,
             size,
             self.store,
         );
-        let _ = sector(&block); // for the prover
-        make(disk, hive, &block, &self.bins)
+        block.applied = AppliedNumber(self.number);
+        block
     }
 }
 
@@ -123,7 +135,7 @@ impl HiveFile {
         store: Uuid,
         tree: &Tree,
     ) -> Result<(), Refusal>
-        ensures created { OnOk result (D.faithful disk.new → AreCreated store tree.now
+        ensures created { OnOk result (D.faithful disk.new → AreCreated store tree.now 0
             (D.state_at disk.new (D.clock disk.new) (primary_file hive))
             (D.state_at disk.new (D.clock disk.new) (log_file hive))) }
         ensures refused { IfErr result (λ why. (why ≡ DiskFault)
@@ -134,7 +146,7 @@ impl HiveFile {
             (D.clock disk.old) (D.clock disk.new) }
         ensures faithful { D.faithful disk.new → D.faithful disk.old }
     {
-        let image = HiveImage::of(alloc, store, tree)?;
+        let image = HiveImage::of(alloc, store, tree, 0)?;
         image.write(disk, hive)?;
         Ok(())
     }

@@ -11,6 +11,8 @@ pub struct HiveImage {
     pub(crate) store: Uuid,
     pub(crate) root: u32,
     pub(crate) minor: u32,
+    // the number up to which changes are applied
+    pub(crate) number: u64,
     pub(crate) bins: Vec<u8>,
     ghost size: { is_bins_size (length bins.items) ≡ true },
     ghost oldest: { OLDEST_MINOR_VERSION ≤ minor },

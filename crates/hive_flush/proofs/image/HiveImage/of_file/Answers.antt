@@ -11,4 +11,4 @@ invariant_of-result c =
 pub returns-clause-image : goal.returns-clause-image
 returns-clause-image c =
     let held = c.in-Ok.held in
-    (held.tree, record { store_is = refl; block = held.block; has = c.in-Ok.ensures.has; root_is = refl; minor_is = refl; stands = c.in-Ok.ensures.tree })
+    (held.tree, record { store_is = refl; number_is = refl; block = held.block; has = c.in-Ok.ensures.has; root_is = refl; minor_is = refl; stands = c.in-Ok.ensures.tree })
