@@ -1,12 +1,14 @@
--- A store that is made recovers the trees of which it is made, at number 0.
+-- A store that is made recovers the trees of which it is made, at the number of its hives.
 use Rattle.std.proofs.Common.{◌≡◌, inl, inr, ℕ, ◌+◌, ◌<◌, ◌≤◌, List, [], ◌∷◌, ◌++◌, length, take, refl, sym, ◌∙◌, ap, subst, arith, Result, Ok, Err, OnOk, Some, slice_get, length-append, true, IsTrue}
 use Rattle.std.proofs.lemmas.Option.{get_or_from_slice_get, none-some, same_Some, slice_get_within}
 use Rattle.std.proofs.lemmas.Bool.{cases_eq}
-use Rattle.std.specs.Prelude.{min}
+use Rattle.std.specs.Prelude.{min, ◌-◌}
+use Rattle.std.proofs.Math.Seq.{drop-nil}
 use Rattle.refusals.specs.declared.limits.TheConstants.{GREATEST_NUMBER, MOST_WEIGHT}
 use Rattle.refusals.specs.declared.refusal.Refusal.{Refusal}
 use Rattle.reg_tree.specs.Fresh.{fresh_tree}
 use Rattle.reg_tree.specs.Maps.{TreeMap, weight}
+use Rattle.crash_model.specs.Changes.{Element, ops_on, replay}
 use Rattle.crash_model.specs.Files.{DecodesBy}
 use Rattle.crash_model.specs.Promises.{Choice, JournalOn, Content, nothing, settled}
 use Rattle.crash_model.specs.Promises as promises
@@ -82,11 +84,11 @@ one_more_written n images image mid new before is others here i x lt at = elim (
 ]
 
 -- one more image is that of the next tree
-pub one_more_image : (id : List ℕ) (trees : List TreeMap) (images : List HiveImage) (n : ℕ) (image : HiveImage) (tree : TreeMap) → length images ≡ n → AreImagesOf id trees images → slice_get trees n ≡ Some tree → IsImageOf id tree image
-    → AreImagesOf id trees (images ++ image ∷ [])
-one_more_image id trees images n image tree many before is here =
-    each_pushed images image (λ i x. (t : TreeMap) → slice_get trees i ≡ Some t → IsImageOf id t x) before
-    (λ t at. subst (λ (x : TreeMap). IsImageOf id x image) (same_Some tree t (sym is ∙ sym (ap (slice_get trees) many) ∙ at)) here)
+pub one_more_image : (id : List ℕ) (number : ℕ) (trees : List TreeMap) (images : List HiveImage) (n : ℕ) (image : HiveImage) (tree : TreeMap) → length images ≡ n → AreImagesOf id number trees images → slice_get trees n ≡ Some tree → IsImageOf id tree number image
+    → AreImagesOf id number trees (images ++ image ∷ [])
+one_more_image id number trees images n image tree many before is here =
+    each_pushed images image (λ i x. (t : TreeMap) → slice_get trees i ≡ Some t → IsImageOf id t number x) before
+    (λ t at. subst (λ (x : TreeMap). IsImageOf id x number image) (same_Some tree t (sym is ∙ sym (ap (slice_get trees) many) ∙ at)) here)
 
 -- the tree that an image has is the one that its file holds
 image_holds : (id file : List ℕ) (tree : TreeMap) (image : HiveImage) → IsImageOfFile id file tree image → FileHoldsHive file tree
@@ -140,11 +142,11 @@ module _ (id : List ℕ) (files : List (List ℕ)) (images : List HiveImage) (fi
 -- ---- what is written
 
 -- images that are written make the hives' files
-pub hives_made : (id : List ℕ) (trees : List TreeMap) (images : List HiveImage) (state : ℕ → FileState) → length images ≡ length trees → AreImagesOf id trees images → AreWritten images state → HivesAreMade id trees state
-hives_made id trees images state many are written i tree is =
+pub hives_made : (id : List ℕ) (number : ℕ) (trees : List TreeMap) (images : List HiveImage) (state : ℕ → FileState) → length images ≡ length trees → AreImagesOf id number trees images → AreWritten images state → HivesAreMade id number trees state
+hives_made id number trees images state many are written i tree is =
     let lt = slice_get_within trees i tree is in
     let at = at_slot images i (omega (arith, lt, many)) in
-    (written i at.0 at.1).created id tree (are i at.0 at.1 tree is)
+    (written i at.0 at.1).created id tree number (are i at.0 at.1 tree is)
 
 -- those of files make copies of them
 pub hives_copied : (id : List ℕ) (files : List (List ℕ)) (images : List HiveImage) (state : ℕ → FileState) → length images ≡ length files → (are : AreImagesOfFiles id files images) → AreWritten images state
@@ -164,12 +166,12 @@ written_stay images mid new others written i image is =
 rests : (state : FileState) (bytes : List ℕ) → state ≡ at_rest bytes → state ≡ at_rest state.synced
 rests state bytes is = is ∙ ap at_rest (sym (ap (λ (s : FileState). s.synced) is))
 
-pub created_durable : (id : List ℕ) (trees : List TreeMap) (state : ℕ → FileState) → HivesAreMade id trees state → HivesAreDurable id trees state
-created_durable id trees state made i tree is =
+pub created_durable : (id : List ℕ) (number : ℕ) (trees : List TreeMap) (state : ℕ → FileState) → HivesAreMade id number trees state → HivesAreDurable id number trees state
+created_durable id number trees state made i tree is =
     let own = made i tree is in
     record { primary_rests = rests _ _ own.made.whole; log_rests = rests _ _ own.made.empty; holds = own.holds }
 
-pub copied_durable : (id : List ℕ) (files : List (List ℕ)) (trees : List TreeMap) (state : ℕ → FileState) → length trees ≡ length files → HivesAreCopied id files trees state → HivesAreDurable id trees state
+pub copied_durable : (id : List ℕ) (files : List (List ℕ)) (trees : List TreeMap) (state : ℕ → FileState) → length trees ≡ length files → HivesAreCopied id files trees state → HivesAreDurable id 0 trees state
 copied_durable id files trees state many copied i tree is =
     let lt = slice_get_within trees i tree is in
     let at = at_slot files i (omega (arith, lt, many)) in
@@ -177,8 +179,8 @@ copied_durable id files trees state many copied i tree is =
     record { primary_rests = rests _ _ own.made.whole; log_rests = rests _ _ own.made.empty; holds = own.holds }
 
 -- what a read gives of a primary file at rest has an honest first sector
-pub durable_honest : (id : List ℕ) (tree : TreeMap) (primary log : FileState) → HiveIsDurable id tree primary log → IsHonest primary primary.seen
-durable_honest id tree primary log durable = inl (ap (λ (s : FileState). take 512 s.seen) durable.primary_rests)
+pub durable_honest : (id : List ℕ) (number : ℕ) (tree : TreeMap) (primary log : FileState) → HiveIsDurable id number tree primary log → IsHonest primary primary.seen
+durable_honest id number tree primary log durable = inl (ap (λ (s : FileState). take 512 s.seen) durable.primary_rests)
 
 pub stays_off : (hives : ℕ) (first mid last : ℕ → ℕ → FileState) (a b c : ℕ) → TouchesOwnFiles (IsOfHives hives) first mid a b → Extends mid last b c → ((f : ℕ) → ¬ (IsJournal f) → last c f ≡ mid b f) → TouchesOwnFiles (IsOfStore hives) first last a c
 stays_off hives first mid last a b c stays time others = record {
@@ -187,11 +189,11 @@ stays_off hives first mid last a b c stays time others = record {
 }
 
 -- what is left of a hive's files decodes to its tree
-left_held : (id : List ℕ) (tree : TreeMap) (primary log : FileState) → HiveIsDurable id tree primary log → (p l : List ℕ) → Leaves primary p → Leaves log l → HiveFilesHold id p l (tree, 0)
-left_held id tree primary log durable p l first second =
+left_held : (id : List ℕ) (number : ℕ) (tree : TreeMap) (primary log : FileState) → HiveIsDurable id number tree primary log → (p l : List ℕ) → Leaves primary p → Leaves log l → HiveFilesHold id p l (tree, number)
+left_held id number tree primary log durable p l first second =
     let p_is : p ≡ primary.synced = left_at_rest primary.synced p (subst (λ (s : FileState). Leaves s p) durable.primary_rests first) in
     let l_is : l ≡ log.synced = left_at_rest log.synced l (subst (λ (s : FileState). Leaves s l) durable.log_rests second) in
-    subst (λ (b : List ℕ). HiveFilesHold id b l (tree, 0)) (sym p_is) (subst (λ (b : List ℕ). HiveFilesHold id primary.synced b (tree, 0)) (sym l_is) durable.holds)
+    subst (λ (b : List ℕ). HiveFilesHold id b l (tree, number)) (sym p_is) (subst (λ (b : List ℕ). HiveFilesHold id primary.synced b (tree, number)) (sym l_is) durable.holds)
 
 -- what is left of a journal's file, as it was made, decodes to no element
 nothing_left : Spelling → (journal : Journal) (store : Store) → store_of journal ≡ store → choice_of journal ≡ settled nothing → (state : FileState) → is_on (encodings_of journal) (journal_view journal) state
@@ -204,34 +206,35 @@ nothing_left law journal store is empty state on c left =
     stands s (inl now) = now ∙ ap (λ (c : Choice (Content TimedOp)). c.now) empty
     stands s (inr next) = absurd (none-some s (sym (ap (λ (c : Choice (Content TimedOp)). c.next) empty) ∙ next))
 
--- the trees are recovered from hives that store them at number 0, and no change
-fresh : (named : ℕ) (trees : List TreeMap) → 1 ≤ length trees → ((i : ℕ) → i < length trees → IsTrue ((rules named).allows i 0 (tree_of trees i))) → Recovers (rules named) GREATEST_NUMBER (length trees) nothing (λ i. (tree_of trees i, 0)) 0 (tree_of trees)
-fresh named trees some allowed = record {
+-- the trees are recovered from hives that store them at a number, and no change
+fresh : (named number : ℕ) (trees : List TreeMap) → 1 ≤ length trees → number ≤ GREATEST_NUMBER → ((i : ℕ) → i < length trees → IsTrue ((rules named).allows i number (tree_of trees i)))
+    → Recovers (rules named) GREATEST_NUMBER (length trees) nothing (λ i. (tree_of trees i, number)) number (tree_of trees)
+fresh named number trees some limit allowed = record {
   last = (0, omega (arith, some), refl);
-  limit = omega arith;
+  limit = limit;
   not_above = λ i lt. omega arith;
-  tree = λ i lt. refl;
+  tree = λ i lt. ap (λ (es : List (Element TimedOp)). replay (rules named) (ops_on i es) (tree_of trees i)) (drop-nil (number - 0));
   allowed = allowed;
 }
 
-pub recovers_durable : Spelling → (journal : Journal) (store : Store) (trees : List TreeMap) → store_of journal ≡ store → choice_of journal ≡ settled nothing → IsStore store → length trees ≡ all_hives store
-    → ((tree : TreeMap) → slice_get trees store.hives ≡ Some tree → are_outcomes 0 tree ≡ true)
-    → (state : ℕ → FileState) → is_on (encodings_of journal) (journal_view journal) (state journal_file) → HivesAreDurable store.id trees state
-    → (files : ℕ → List ℕ) → ((f : ℕ) → Leaves (state f) (files f)) → IsRecovered files store 0 trees
-recovers_durable law journal store trees is empty whole many outcomes state on hives files left = record {
+pub recovers_durable : Spelling → (journal : Journal) (store : Store) (number : ℕ) (trees : List TreeMap) → number ≤ GREATEST_NUMBER → store_of journal ≡ store → choice_of journal ≡ settled nothing → IsStore store → length trees ≡ all_hives store
+    → ((tree : TreeMap) → slice_get trees store.hives ≡ Some tree → are_outcomes number tree ≡ true)
+    → (state : ℕ → FileState) → is_on (encodings_of journal) (journal_view journal) (state journal_file) → HivesAreDurable store.id number trees state
+    → (files : ℕ → List ℕ) → ((f : ℕ) → Leaves (state f) (files f)) → IsRecovered files store number trees
+recovers_durable law journal store number trees limit is empty whole many outcomes state on hives files left = record {
   store_is = whole;
   many = many;
-  recovers = subst (λ n. Recover store n files 0 trees) many
-      (files_recover (rules store.hives) (JournalDecodesTo store) (Holds store) GREATEST_NUMBER (length trees) files nothing (λ i. (tree_of trees i, 0)) 0 (tree_of trees)
+  recovers = subst (λ n. Recover store n files number trees) many
+      (files_recover (rules store.hives) (JournalDecodesTo store) (Holds store) GREATEST_NUMBER (length trees) files nothing (λ i. (tree_of trees i, number)) number (tree_of trees)
       (nothing_left law journal store is empty (state journal_file) on (files journal_file) (left journal_file)) held
-      (fresh store.hives trees (omega (arith, many, whole.some_hives, least_hives store.layout store.hives)) (allowed_found store.hives 0 trees (omega (arith, many, most_hives store.layout store.hives)) outcomes)));
+      (fresh store.hives number trees (omega (arith, many, whole.some_hives, least_hives store.layout store.hives)) limit (allowed_found store.hives number trees (omega (arith, many, most_hives store.layout store.hives)) outcomes)));
 }
   where
-    held : (i : ℕ) → i < length trees → HiveFilesHold store.id (files (primary_file i)) (files (log_file i)) (tree_of trees i, 0)
+    held : (i : ℕ) → i < length trees → HiveFilesHold store.id (files (primary_file i)) (files (log_file i)) (tree_of trees i, number)
     held i lt =
         let at = at_slot trees i lt in
-        subst (λ (t : TreeMap). HiveFilesHold store.id (files (primary_file i)) (files (log_file i)) (t, 0)) (sym (get_or_from_slice_get trees i at.0 fresh_tree at.1))
-        (left_held store.id at.0 (state (primary_file i)) (state (log_file i)) (hives i at.0 at.1) (files (primary_file i)) (files (log_file i)) (left (primary_file i)) (left (log_file i)))
+        subst (λ (t : TreeMap). HiveFilesHold store.id (files (primary_file i)) (files (log_file i)) (t, number)) (sym (get_or_from_slice_get trees i at.0 fresh_tree at.1))
+        (left_held store.id number at.0 (state (primary_file i)) (state (log_file i)) (hives i at.0 at.1) (files (primary_file i)) (files (log_file i)) (left (primary_file i)) (left (log_file i)))
 
 -- ---- the hive after those that calls name
 
@@ -244,12 +247,12 @@ trees_many HivesAlone trees = refl
 trees_many WithOutcomes trees = length-append trees (fresh_tree ∷ [])
 
 -- the images are those of the trees, in either layout
-pub images_are : (id : List ℕ) (layout : Layout) (trees : List TreeMap) (images all : List HiveImage) → length images ≡ length trees → AreImagesOf id trees images → AreImagesIn id layout images all → AreImagesOf id (trees_in layout trees) all
-images_are id HivesAlone trees images all many are is = subst (AreImagesOf id trees) (sym is) are
-images_are id WithOutcomes trees images all many are (image, is, here) = subst (AreImagesOf id (trees ++ fresh_tree ∷ [])) (sym is)
-    (each_pushed images image (λ i x. (t : TreeMap) → slice_get (trees ++ fresh_tree ∷ []) i ≡ Some t → IsImageOf id t x)
+pub images_are : (id : List ℕ) (layout : Layout) (trees : List TreeMap) (images all : List HiveImage) → length images ≡ length trees → AreImagesOf id 0 trees images → AreImagesIn id layout images all → AreImagesOf id 0 (trees_in layout trees) all
+images_are id HivesAlone trees images all many are is = subst (AreImagesOf id 0 trees) (sym is) are
+images_are id WithOutcomes trees images all many are (image, is, here) = subst (AreImagesOf id 0 (trees ++ fresh_tree ∷ [])) (sym is)
+    (each_pushed images image (λ i x. (t : TreeMap) → slice_get (trees ++ fresh_tree ∷ []) i ≡ Some t → IsImageOf id t 0 x)
     (λ i x at t there. are i x at t (sym (got_front trees (fresh_tree ∷ []) i (omega (arith, slice_get_within images i x at, many))) ∙ there))
-    (λ t there. subst (λ (u : TreeMap). IsImageOf id u image) (got_end trees fresh_tree [] (length images) t many there) here))
+    (λ t there. subst (λ (u : TreeMap). IsImageOf id u 0 image) (got_end trees fresh_tree [] (length images) t many there) here))
 
 -- that after those of the trees is of outcomes
 pub last_outcomes : (layout : Layout) (trees : List TreeMap) → are_outcomes 0 fresh_tree ≡ true → (tree : TreeMap) → slice_get (trees_in layout trees) (length trees) ≡ Some tree → are_outcomes 0 tree ≡ true
@@ -261,13 +264,13 @@ pub written_front : (images : List HiveImage) (image : HiveImage) (all : List Hi
 written_front images image all state is written i x at =
     written i x (ap (λ (hs : List HiveImage). slice_get hs i) is ∙ got_front images (image ∷ []) i (slice_get_within images i x at) ∙ at)
 
-pub written_last : (id : List ℕ) (images : List HiveImage) (image : HiveImage) (all : List HiveImage) (state : ℕ → FileState) (count : ℕ) → all ≡ images ++ image ∷ [] → length images ≡ count → IsImageOf id fresh_tree image → AreWritten all state
-    → AreCreated id fresh_tree (state (primary_file count)) (state (log_file count))
+pub written_last : (id : List ℕ) (images : List HiveImage) (image : HiveImage) (all : List HiveImage) (state : ℕ → FileState) (count : ℕ) → all ≡ images ++ image ∷ [] → length images ≡ count → IsImageOf id fresh_tree 0 image → AreWritten all state
+    → AreCreated id fresh_tree 0 (state (primary_file count)) (state (log_file count))
 written_last id images image all state count is many here written =
-    (written count image (ap (λ (hs : List HiveImage). slice_get hs count) is ∙ ap (slice_get (images ++ image ∷ [])) (sym many) ∙ got_next images image [])).created id fresh_tree here
+    (written count image (ap (λ (hs : List HiveImage). slice_get hs count) is ∙ ap (slice_get (images ++ image ∷ [])) (sym many) ∙ got_next images image [])).created id fresh_tree 0 here
 
 -- a tree is durable after others
-pub durable_pushed : (id : List ℕ) (trees : List TreeMap) (state : ℕ → FileState) → HivesAreDurable id trees state → AreCreated id fresh_tree (state (primary_file (length trees))) (state (log_file (length trees)))
-    → HivesAreDurable id (trees ++ fresh_tree ∷ []) state
-durable_pushed id trees state durable last = each_pushed trees fresh_tree (λ i t. HiveIsDurable id t (state (primary_file i)) (state (log_file i))) durable
+pub durable_pushed : (id : List ℕ) (trees : List TreeMap) (state : ℕ → FileState) → HivesAreDurable id 0 trees state → AreCreated id fresh_tree 0 (state (primary_file (length trees))) (state (log_file (length trees)))
+    → HivesAreDurable id 0 (trees ++ fresh_tree ∷ []) state
+durable_pushed id trees state durable last = each_pushed trees fresh_tree (λ i t. HiveIsDurable id 0 t (state (primary_file i)) (state (log_file i))) durable
     (record { primary_rests = rests _ _ last.made.whole; log_rests = rests _ _ last.made.empty; holds = last.holds })

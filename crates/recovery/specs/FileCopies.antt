@@ -31,7 +31,7 @@ pub record FilesHoldTrees (files : List (List ℕ)) (trees : List TreeMap) : Typ
 pub record StoreIsCreatedFrom (id : List ℕ) (files : List (List ℕ)) (trees : List TreeMap) (state : ℕ → FileState) : Type 0 where
   pub journal : state journal_file ≡ at_rest (created_bytes (new_store id WithOutcomes (length trees)))
   pub hives : HivesAreCopied id files trees state
-  pub outcomes : AreCreated id fresh_tree (state (primary_file (length trees))) (state (log_file (length trees)))
+  pub outcomes : AreCreated id fresh_tree 0 (state (primary_file (length trees))) (state (log_file (length trees)))
 
 -- A refusal is of one of the files, with the number of its index. Each file before it holds a hive.
 pub record IsRefusalOfFile (files : List (List ℕ)) (why : Refusal) : Type 0 where

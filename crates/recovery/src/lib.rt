@@ -25,7 +25,7 @@ mod store_opening;
 mod store_read;
 mod trees;
 
-pub use creation::{create, create_from, create_layout_1};
+pub use creation::{create, create_at, create_from, create_layout_1};
 pub use found::RecoveredStore;
 pub use opened::{Opened, open};
 pub use retained_changes::RetainedChanges;

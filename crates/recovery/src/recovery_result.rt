@@ -70,8 +70,8 @@ fn judge_outcomes(alloc: Global, read: &StoreRead, number: u64) -> Result<(), Re
     }
 }
 
-// judges a hive's tree as one of outcomes up to the store's number
-fn judge_tree(alloc: Global, tree: &Tree, hive: u8, number: u64) -> Result<(), Refusal>
+/// Judges a hive's tree as one of outcomes up to the store's number.
+pub(crate) fn judge_tree(alloc: Global, tree: &Tree, hive: u8, number: u64) -> Result<(), Refusal>
     ensures judged { OnOk result (IsOfOutcomes number tree.now) }
     ensures fails { IfErr result (λ why. (why ≡ NoMemory)
         ⊎ IsRefusedAsOutcomes number hive tree.now why) }

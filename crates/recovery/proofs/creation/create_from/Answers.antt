@@ -31,10 +31,10 @@ module _ (id : List ℕ) (files : List (List ℕ)) (named all written : List Hiv
     copied : HivesAreCopied id files are.trees state
     copied = hives_copied id files named state many are (written_front named is.0 all state is.1 all_made)
 
-    last : AreCreated id fresh_tree (state (primary_file (length are.trees))) (state (log_file (length are.trees)))
+    last : AreCreated id fresh_tree 0 (state (primary_file (length are.trees))) (state (log_file (length are.trees)))
     last = written_last id named is.0 all state (length are.trees) is.1 named_many is.2 all_made
 
-    durable : HivesAreDurable id (are.trees ++ fresh_tree ∷ []) state
+    durable : HivesAreDurable id 0 (are.trees ++ fresh_tree ∷ []) state
     durable = durable_pushed id are.trees state (copied_durable id files are.trees state are.hold.many copied) last
 
 pub returns-clause-made : goal.returns-clause-made
@@ -60,8 +60,8 @@ returns-clause-made g c =
           hives = copied id files named all c.deref.result.now new c.deref.ensures.value many are is (written f).1;
           outcomes = last id files named all c.deref.result.now new c.deref.ensures.value many are is (written f).1;
         },
-        subst (λ n. RecoversTrees (new_store id WithOutcomes n) (are.trees ++ fresh_tree ∷ []) new) own
-            (recovers f (are.trees ++ fresh_tree ∷ []) (written_many id files named all c.deref.result.now new c.deref.ensures.value many are is)
+        subst (λ n. RecoversTrees (new_store id WithOutcomes n) 0 (are.trees ++ fresh_tree ∷ []) new) own
+            (recovers f 0 (are.trees ++ fresh_tree ∷ []) (omega arith) (written_many id files named all c.deref.result.now new c.deref.ensures.value many are is)
             (λ tree at. last_outcomes WithOutcomes are.trees (law.passes 0 _ _ law.fresh tt (omega arith)) tree (subst (λ n. slice_get (are.trees ++ fresh_tree ∷ []) n ≡ Some tree) own at))
             (durable id files named all c.deref.result.now new c.deref.ensures.value many are is (written f).1)),
       ),
@@ -81,4 +81,4 @@ returns-clause-shows g c =
     let many : length named ≡ length files = c.in_ok-named.ensures.many ∙ sym long in
     on_ok_and c.write_store.result c.write_store.ensures.made c.write_store.ensures.shows (λ written shows f.
     subst (λ n. LeavesHonest (IsPrimaryOf n) new (seen_in new)) (trees_many WithOutcomes are.trees ∙ ap (λ n. n + 1) (are.hold.many ∙ long))
-    (shows f (are.trees ++ fresh_tree ∷ []) (durable id files named all c.deref.result.now new c.deref.ensures.value many are is (written f).1)))
+    (shows f 0 (are.trees ++ fresh_tree ∷ []) (durable id files named all c.deref.result.now new c.deref.ensures.value many are is (written f).1)))

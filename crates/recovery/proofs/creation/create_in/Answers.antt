@@ -17,10 +17,10 @@ many_written : (id : List ℕ) (layout : Layout) (trees : List TreeMap) (named a
 many_written id layout trees named all written same many are = ap (λ (hs : List HiveImage). length hs) same ∙ images_many id layout named all are ∙ ap (hives_in layout) many
 
 -- what is written, of the images that were made
-hives_of : (id : List ℕ) (layout : Layout) (trees : List TreeMap) (named all written : List HiveImage) (state : ℕ → FileState) → written ≡ all → length named ≡ length trees → AreImagesOf id trees named → AreImagesIn id layout named all
-    → AreWritten written state → HivesAreMade id (trees_in layout trees) state
+hives_of : (id : List ℕ) (layout : Layout) (trees : List TreeMap) (named all written : List HiveImage) (state : ℕ → FileState) → written ≡ all → length named ≡ length trees → AreImagesOf id 0 trees named → AreImagesIn id layout named all
+    → AreWritten written state → HivesAreMade id 0 (trees_in layout trees) state
 hives_of id layout trees named all written state same many are in_layout made =
-    hives_made id (trees_in layout trees) all state (images_many id layout named all in_layout ∙ ap (hives_in layout) many ∙ sym (trees_many layout trees)) (images_are id layout trees named all many are in_layout)
+    hives_made id 0 (trees_in layout trees) all state (images_many id layout named all in_layout ∙ ap (hives_in layout) many ∙ sym (trees_many layout trees)) (images_are id layout trees named all many are in_layout)
     (subst (λ (hs : List HiveImage). AreWritten hs state) same made)
 
 pub returns-clause-made : goal.returns-clause-made
@@ -45,10 +45,10 @@ returns-clause-recovers g c =
     let long = trees_many c.args.layout trees ∙ sym (many_written c.args.id c.args.layout trees c.in_ok-named.named.items c.in_ok-images.images.items c.deref.result.now c.deref.ensures.value named.many c.in_ok-images.ensures.images) in
     on_ok_and c.write_store.result c.write_store.ensures.made c.write_store.ensures.recovers (λ written recovers f.
     let made = hives_of c.args.id c.args.layout trees c.in_ok-named.named.items c.in_ok-images.images.items c.deref.result.now new c.deref.ensures.value named.many named.images c.in_ok-images.ensures.images (written f).1 in
-    subst (λ n. RecoversTrees (new_store c.args.id c.args.layout n) all new) own
-    (recovers f all long
+    subst (λ n. RecoversTrees (new_store c.args.id c.args.layout n) 0 all new) own
+    (recovers f 0 all (omega arith) long
     (λ tree at. last_outcomes c.args.layout trees (law.passes 0 _ _ law.fresh tt (omega arith)) tree (subst (λ n. slice_get all n ≡ Some tree) own at))
-    (created_durable c.args.id all new made)))
+    (created_durable c.args.id 0 all new made)))
 
 pub returns-clause-shows : goal.returns-clause-shows
 returns-clause-shows g c =
@@ -59,4 +59,4 @@ returns-clause-shows g c =
     let named = c.in_ok-named.ensures in
     on_ok_and c.write_store.result c.write_store.ensures.made c.write_store.ensures.shows (λ written shows f.
     let made = hives_of c.args.id c.args.layout trees c.in_ok-named.named.items c.in_ok-images.images.items c.deref.result.now new c.deref.ensures.value named.many named.images c.in_ok-images.ensures.images (written f).1 in
-    subst (λ n. LeavesHonest (IsPrimaryOf n) new (seen_in new)) (trees_many c.args.layout trees) (shows f all (created_durable c.args.id all new made)))
+    subst (λ n. LeavesHonest (IsPrimaryOf n) new (seen_in new)) (trees_many c.args.layout trees) (shows f 0 all (created_durable c.args.id 0 all new made)))

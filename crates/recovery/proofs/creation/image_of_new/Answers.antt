@@ -19,7 +19,7 @@ for_memory (Err why) tree is (inr (large, heavy)) = absurd (omega (arith, heavy,
 pub returns-clause-image : goal.returns-clause-image
 returns-clause-image c =
     let is = same_Some c.tree_at.result.now fresh_tree (sym c.tree_at.ensures ∙ ap (λ ts. slice_get ts 0) c.in_ok-trees.ensures) in
-    subst (λ (t : TreeMap). IfOk c.of.result (IsImageOf c.args.id t)) is c.of.ensures.image
+    subst (λ (t : TreeMap). IfOk c.of.result (IsImageOf c.args.id t 0)) is c.of.ensures.image
 
 pub returns-clause-refused : goal.returns-clause-refused
 returns-clause-refused c =

@@ -7,5 +7,5 @@ abbrev pub invariant-loop-hive : goal.invariant-loop-hive
 invariant-loop-hive l = record {
   many : length l.images.items ≡ l.hive;
   room : l.count ≤ vec_capacity l.images;
-  images : AreImagesOf l.id l.trees l.images.items;
+  images : AreImagesOf l.id l.number l.trees l.images.items;
 }

@@ -31,24 +31,24 @@ returns-clause-made g c = λ f.
     )
 
 pub returns-clause-recovers : goal.returns-clause-recovers
-returns-clause-recovers g c = λ f trees same outcomes durable.
+returns-clause-recovers g c = λ f number trees limit same outcomes durable.
     let D = g.D.Disk in
     let new = D.state_at c.write.new.disk (D.clock c.write.new.disk) in
     let j = c.in_ok-journal in
     let store = c.in_ok-write.ensures.store ∙ store_is c.args.id j.journal.id c.args.layout j.journal.layout c.args.named j.journal.hives j.ensures.id j.ensures.layout j.ensures.hives in
     let whole = is_store c.args.id j.journal.id c.args.layout c.args.named j.ensures.id j.journal.size c.requires.some c.requires.few in
-    let each = recovers_durable (λ v s state on. c.leaves.ensures (encodings s) v state on) c.in_ok-write.field-0 (new_store c.args.id c.args.layout c.args.named) trees store c.in_ok-write.ensures.empty whole (same ∙ c.requires.many) outcomes new (c.in_ok-write.ensures.on f) durable in
+    let each = recovers_durable (λ v s state on. c.leaves.ensures (encodings s) v state on) c.in_ok-write.field-0 (new_store c.args.id c.args.layout c.args.named) number trees limit store c.in_ok-write.ensures.empty whole (same ∙ c.requires.many) outcomes new (c.in_ok-write.ensures.on f) durable in
     record {
       left = λ files left. each files left.0;
       seen = each (seen_in new) (λ k. (g.met.D.Disk.sound c.write.new.disk (D.clock c.write.new.disk) k f (omega arith)).left);
     }
 
 pub returns-clause-shows : goal.returns-clause-shows
-returns-clause-shows g c = λ f trees durable.
+returns-clause-shows g c = λ f number trees durable.
     let D = g.D.Disk in
     let new : ℕ → FileState = D.state_at c.write.new.disk (D.clock c.write.new.disk) in (
       λ k. (g.met.D.Disk.sound c.write.new.disk (D.clock c.write.new.disk) k f (omega arith)).left,
-      λ k (i, lt, is). let at = at_slot trees i lt in subst (λ n. IsHonest (new n) (new n).seen) (sym is) (durable_honest c.args.id at.0 (new (primary_file i)) (new (log_file i)) (durable i at.0 at.1)),
+      λ k (i, lt, is). let at = at_slot trees i lt in subst (λ n. IsHonest (new n) (new n).seen) (sym is) (durable_honest c.args.id number at.0 (new (primary_file i)) (new (log_file i)) (durable i at.0 at.1)),
     )
 
 pub returns-clause-stays : goal.returns-clause-stays
