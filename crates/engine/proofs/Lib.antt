@@ -1,6 +1,7 @@
 mod Sound
 mod Namings
 mod RetainedChanges
+mod Discarding
 mod Folding
 mod Limits
 mod Idling

@@ -1,5 +1,6 @@
 pub mod LastChangePerHive
 pub mod RetainedChanges
+pub mod Discards
 pub mod EarlierChanges
 pub mod Work
 pub mod Outcomes

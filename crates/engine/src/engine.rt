@@ -1,5 +1,5 @@
 //! The engine as its callers see it: its type keeps the invariant, so no call asks for it.
-ghost use Rattle.std.specs.Prelude.{◌≡◌, ◌⊎◌, ◌↔◌, ◌+◌, ◌<◌, ◌≤◌, ◌^◌, [], ℕ, false, true, IfErr, IfNone, IfOk, IfSome, OnErr, OnOk, None, Some, is_some, length, map, replicate, slice_get, take};
+ghost use Rattle.std.specs.Prelude.{◌≡◌, ◌⊎◌, ◌↔◌, ◌+◌, ◌-◌, ◌<◌, ◌≤◌, ◌^◌, [], ℕ, drop, false, true, IfErr, IfNone, IfOk, IfSome, OnErr, OnOk, None, Some, is_some, length, map, replicate, slice_get, take};
 ghost use Rattle.refusals.specs.declared.refusal.Refusal.TheVariants.{NoMemory};
 ghost use Rattle.refusals.specs.declared.limits.TheConstants.{MOST_HISTORY};
 ghost use Rattle.disk_model.specs.Call.{OneCall};
@@ -23,6 +23,7 @@ ghost use Rattle.recovery.specs.Recovered.{seen_in};
 ghost use Rattle.engine_invariant.specs.Runs.{AnswersInTurn, ReceiptIsDurable, RunsSafely};
 ghost use Rattle.std.specs.List.{AllByRecursion};
 ghost use Rattle.commit_journal.specs.LastChangePerHive.{HasCounted};
+ghost use Rattle.engine.specs.Discards.{AreRetainedAfter};
 ghost use Rattle.engine.specs.Outcomes.{OutcomesAreKept};
 ghost use Rattle.engine.specs.Shown.{engine_view};
 ghost use Rattle.engine.specs.Work.{AreFlushed, IsNextAround, IsReadable};
@@ -31,6 +32,8 @@ ghost use Rattle.std.specs.Option.{option_map};
 
 use crate::earlier_changes::EarlierChanges;
 use crate::parts::Parts;
+use change_codec::EncodedChange;
+use commit_journal::Layout;
 use disk_model::Disk;
 use recovery::{Opened, RecoveredStore, named_trees};
 use refusals::Refusal;
@@ -39,6 +42,7 @@ use std::alloc::{AllocError, Global};
 use std::marker::Model;
 use store_model::{Event, Reply, StoreBounds};
 use transactions::{Next, Prepared, Store};
+use uuid::Uuid;
 
 /// An engine over a disk. Contracts see it as its machine, its disk, and the store that its files are of.
 ///
@@ -405,6 +409,33 @@ impl<D: Disk> Engine<D> {
         ensures { result ≡ last_number self.now.machine }
     {
         self.parts.store.last_number()
+    }
+
+    /// The accepted changes after a number, in their order; the number isn't above the last one's. Refused, with the number
+    /// after which they are retained, if some of them aren't: they were accepted before the history; or they are durable,
+    /// and no hive lacks them. Each change that isn't durable, or that a hive lacks, is retained.
+    pub fn changes_after(&self, number: u64) -> Result<&[EncodedChange], u64>
+        requires there { number ≤ last_number self.now.machine }
+        ensures kept { IfOk result (λ changes. (self.now.machine.before ≤ number)
+            × (changes.now ≡ drop (number - self.now.machine.before) self.now.machine.accepted)) }
+        ensures gone { IfErr result (AreRetainedAfter self.now.machine self.now.base self.now.opened
+            self.now.hives number) }
+    {
+        self.parts.changes_after(number)
+    }
+
+    /// The id of the store.
+    pub fn id(&self) -> Uuid
+        ensures { result ≡ self.now.store.id }
+    {
+        self.parts.journal.id()
+    }
+
+    /// Whether the store keeps the outcomes of commits.
+    pub fn layout(&self) -> Layout
+        ensures { result ≡ self.now.store.layout }
+    {
+        self.parts.journal.layout()
     }
 
     /// Whether some accepted change isn't durable yet: a step of the journal isn't idle then.

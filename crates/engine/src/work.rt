@@ -1,5 +1,7 @@
 //! What an engine has to do: which of its steps aren't idle. No question takes memory.
-ghost use Rattle.std.specs.Prelude.{◌≡◌, ◌↔◌, ℕ, ◌<◌, ◌≤◌, false, true, length, map, IfNone, IfSome};
+ghost use Rattle.std.specs.Prelude.{◌≡◌, ◌↔◌, ℕ, ◌<◌, ◌≤◌, ◌-◌, drop, false, true, length, map, IfErr, IfNone, IfOk, IfSome};
+ghost use Rattle.store_model.specs.Machine.{last_number};
+ghost use Rattle.engine.specs.Discards.{AreRetainedAfter};
 ghost use Rattle.engine.specs.EarlierChanges.{changes_before};
 ghost use Rattle.engine_invariant.specs.Idle.{HiveIsFlushed};
 ghost use Rattle.engine_invariant.specs.Prefixes.{view_of};
@@ -8,6 +10,7 @@ ghost use Rattle.engine.specs.Parts.{IsSound};
 ghost use Rattle.engine.specs.Work.{AreFlushed, IsNextAround};
 
 use crate::parts::Parts;
+use change_codec::EncodedChange;
 
 impl<D> Parts<D> {
     /// Whether some accepted change isn't durable yet.
@@ -32,6 +35,22 @@ impl<D> Parts<D> {
             Some(hive) => Some(hive),
             None => self.first_with_work(0, next),
         }
+    }
+
+    /// The accepted changes after a number; or, if some of them are no longer retained, the number after which they are.
+    pub fn changes_after(&self, number: u64) -> Result<&[EncodedChange], u64>
+        requires sound { IsSound self.now }
+        requires there { number ≤ last_number self.now.store.machine }
+        ensures kept { IfOk result (λ changes. (self.now.store.machine.before ≤ number)
+            × (changes.now ≡ drop (number - self.now.store.machine.before) self.now.store.machine.accepted)) }
+        ensures gone { IfErr result (AreRetainedAfter self.now.store.machine self.now.base
+            (changes_before self.now.earlier) (map view_of self.now.hives.items) number) }
+    {
+        let retained = self.store.retained();
+        if number < retained {
+            return Err(retained);
+        }
+        Ok(self.store.above(number))
     }
 
     // the first hive from `from` to before `to` that has something to flush
