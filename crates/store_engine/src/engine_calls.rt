@@ -1,11 +1,14 @@
 //! The engine over a disk, as the registry uses it.
 use crate::interface::StoreEngine;
+use change_codec::EncodedChange;
+use commit_journal::Layout;
 use disk_model::Disk;
 use engine::Engine;
 use refusals::Refusal;
 use reg_tree::Trees;
 use store_model::{Event, Reply};
 use transactions::Next;
+use uuid::Uuid;
 
 impl<D: Disk> StoreEngine for Engine<D> {
     ghost use Rattle.engine_invariant.specs.Prefixes.{IsSafeAt};
@@ -53,6 +56,22 @@ impl<D: Disk> StoreEngine for Engine<D> {
 
     fn durable(&self) -> u64 {
         Engine::durable(self)
+    }
+
+    fn last_number(&self) -> u64 {
+        Engine::last_number(self)
+    }
+
+    fn changes_after(&self, number: u64) -> Result<&[EncodedChange], u64> {
+        Engine::changes_after(self, number)
+    }
+
+    fn id(&self) -> Uuid {
+        Engine::id(self)
+    }
+
+    fn layout(&self) -> Layout {
+        Engine::layout(self)
     }
 
     fn has_pending(&self) -> bool {

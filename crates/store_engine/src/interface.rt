@@ -1,5 +1,5 @@
 //! An engine as the registry uses it: any type that keeps this contract.
-ghost use Rattle.std.specs.Prelude.{◌≡◌, ◌+◌, ◌≤◌, ◌<◌, ◌↔◌, ◌++◌, ◌∷◌, [], ℕ, None, Some, Option, true, false, is_some, length, IfErr, IfNone, IfOk, IfSome};
+ghost use Rattle.std.specs.Prelude.{◌≡◌, ◌+◌, ◌-◌, ◌≤◌, ◌<◌, ◌↔◌, ◌++◌, ◌∷◌, [], ℕ, None, Some, Option, true, false, drop, is_some, length, IfErr, IfNone, IfOk, IfSome};
 ghost use Rattle.std.specs.Option.{option_map};
 ghost use Rattle.refusals.specs.declared.refusal.Refusal.TheVariants.{NoMemory};
 ghost use Rattle.reg_tree.specs.Sequences.{after_elements};
@@ -11,13 +11,17 @@ ghost use Rattle.store_model.specs.declared.event.Reply.TheVariants.{Refused};
 ghost use Rattle.transactions.specs.Prepared.{AcceptsJust, change_and_trees};
 ghost use Rattle.engine_invariant.specs.Engines.{EngineAnswers, EngineView};
 ghost use Rattle.engine_invariant.specs.Idle.{IsTrimmed};
+ghost use Rattle.engine.specs.Discards.{AreRetainedAfter};
 ghost use Rattle.engine.specs.Shown.{Awaiting};
 ghost use Rattle.engine.specs.Work.{AreFlushed, IsNextAround};
 
+use change_codec::EncodedChange;
+use commit_journal::Layout;
 use refusals::Refusal;
 use reg_tree::Trees;
 use store_model::{Event, Reply};
 use transactions::Next;
+use uuid::Uuid;
 
 /// A store, one event at a time. [`Engine`] is one over each disk.
 ///
@@ -110,6 +114,28 @@ pub trait StoreEngine {
     /// The number up to which changes are durable.
     fn durable(&self) -> u64
         ensures { result ≡ (state self.now).machine.durable };
+
+    /// The number of the last accepted change.
+    fn last_number(&self) -> u64
+        ensures { result ≡ last_number (state self.now).machine };
+
+    /// The accepted changes after a number, in their order; the number isn't above the last one's. Refused, with the number
+    /// after which they are retained, if some of them aren't: they were accepted before the history; or they are durable,
+    /// and no hive lacks them.
+    fn changes_after(&self, number: u64) -> Result<&[EncodedChange], u64>
+        requires there { number ≤ last_number (state self.now).machine }
+        ensures kept { IfOk result (λ changes. ((state self.now).machine.before ≤ number)
+            × (changes.now ≡ drop (number - (state self.now).machine.before) (state self.now).machine.accepted)) }
+        ensures gone { IfErr result (AreRetainedAfter (state self.now).machine (state self.now).base
+            (state self.now).opened (state self.now).hives number) };
+
+    /// The id of the store.
+    fn id(&self) -> Uuid
+        ensures { result ≡ (store self.now).id };
+
+    /// Whether the store keeps the outcomes of commits.
+    fn layout(&self) -> Layout
+        ensures { result ≡ (store self.now).layout };
 
     /// Whether some accepted change isn't durable yet.
     fn has_pending(&self) -> bool
