@@ -10,3 +10,4 @@ pub mod Denials
 pub mod Calls
 pub mod Ends
 pub mod Room
+pub mod Snapshots

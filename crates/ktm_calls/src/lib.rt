@@ -5,6 +5,7 @@
 
 mod asker;
 mod calls;
+mod durable_changes;
 mod event_kind;
 mod holding;
 mod key;
@@ -15,10 +16,13 @@ mod registry;
 mod room;
 mod session;
 mod sight;
+mod store_snapshot;
+mod store_stats;
 mod tx_calls;
 mod waiting;
 
 pub use asker::Asker;
+pub use durable_changes::FollowRefusal;
 pub use event_kind::EventKind;
 pub use key::Key;
 pub use locked::{Locked, Told};
@@ -27,3 +31,5 @@ pub use registry::{Denied, Disposition, Ended, Registry, Turn};
 pub use room::UsedRoom;
 pub use session::{Session, SessionHandle};
 pub use sight::Sight;
+pub use store_snapshot::StoreSnapshot;
+pub use store_stats::StoreStats;

@@ -317,6 +317,24 @@ impl<E: StoreEngine, O: Start> Locked<E, O> {
         self.events.show(rt, &mut mine.events);
     }
 
+    /// Brings one who asks to all that is seen under the lock, which what it had seen begins. It asks for nothing.
+    pub(crate) fn inform<R: Wait>(&self, rt: &R, mine: &mut Asker<O>)
+        ensures more { SeesMore mine.old mine.new }
+        ensures owner { IsOf O.trees O.number O.hives (E.state self.now.engine).machine }
+        ensures whole { mine.new ≡ record {
+          list = (E.state self.now.engine).machine.accepted;
+          history = self.now.history;
+          asked = mine.old.asked;
+        } }
+    {
+        self.show(rt, &mut mine.seen);
+    }
+
+    /// From where memory is taken.
+    pub(crate) fn alloc(&self) -> Global {
+        self.alloc
+    }
+
     /// The number up to which changes are durable.
     pub fn durable(&self) -> u64
         ensures { result ≡ (E.state self.now.engine).machine.durable }
@@ -534,6 +552,7 @@ impl<E: StoreEngine, O: Start> Locked<E, O> {
 
     /// A law: the engine is the registry's, and what is durable was accepted.
     pub(crate) fn is_of_registry(&self)
+        ensures store { E.store self.now.engine ≡ O.store }
         ensures owner { IsOf O.trees O.number O.hives (E.state self.now.engine).machine }
         ensures durable { (E.state self.now.engine).machine.durable
             ≤ O.number + length (E.state self.now.engine).machine.accepted }

@@ -10,6 +10,7 @@ ghost use Rattle.store_model.specs.declared.event.Reply.TheVariants as reply;
 ghost use Rattle.histories.specs.Asked.{EndSessions, asked_in};
 ghost use Rattle.ktm_calls.specs.Ends.{IsAllAsked};
 ghost use Rattle.ktm_calls.specs.Room.{HasMadeRoom, IsStuck, MakesRoom};
+ghost use Rattle.ktm_calls.specs.Snapshots.{AreDurableAfter, IsSnapshotOf, IsStatsOf, MayNotFollow};
 ghost use Rattle.histories.specs.Histories.{IsHistory, LeadsTo, end_of};
 ghost use Rattle.histories.specs.Points.{HistoryEntry};
 ghost use Rattle.ktm_calls.specs.Waiting.{IsOfAll, IsUsed, IsUsedRoom, SteppedOrFailed, is_step_kind};
@@ -17,18 +18,22 @@ ghost use Rattle.ktm_calls.specs.Moments.{IsAwaited, IsOf, NumberedSight, SeesMo
 ghost use Rattle.ktm_calls.specs.Denials.{Denies, IsCommitDenied, IsDenied, IsNotOpened, IsOpened, IsRefusal, IsStepOrStop, IsTurnDenied, IsWaitDenied, OpensOrNot, denial_of};
 
 use crate::asker::Asker;
+use crate::durable_changes::FollowRefusal;
 use crate::event_kind::may_accept;
 use crate::locked::{Locked, OpenResult, Told};
 use crate::receipt::{Receipt, Stopped};
 use crate::room::UsedRoom;
 use crate::session::{Session, SessionHandle};
 use crate::sight::Sight;
+use crate::store_snapshot::StoreSnapshot;
+use crate::store_stats::StoreStats;
 use crate::waiting::{CheckpointResult, MemoryPolicy, TurnResult, WaitMode, WaitResult};
 use disk_model::Progress;
 use histories::{EventCount, Permission, PermissionPool, RequestCount, SeenEvents, Start};
 use published_trees::{ChangeCount, MOST_READERS, SeenChanges};
 use refusals::Refusal;
 use refusals::limits::MOST_JOURNAL_BYTES;
+use reg_tree::Element;
 use std::alloc::{AllocError, Global};
 use std::sync::atomic::{AtomicU64, Ordering};
 use std::sync::{Condvar, Mutex, MutexGuard, Wait};
@@ -303,6 +308,61 @@ impl<E: StoreEngine, O: Start> Registry<E, O> {
                 id,
             },
         )
+    }
+
+    /// The store after all that was accepted, of which a copy can be made while others go on. The session has seen all that
+    /// then, and nothing was asked for. Refused with `NoMemory`.
+    pub fn snapshot<R: Wait>(
+        &self,
+        rt: &R,
+        session: &mut Session<O>,
+    ) -> Result<StoreSnapshot, Refusal>
+        ensures seen { SeesMore session.old.seen session.new.seen }
+        ensures asked { session.new.seen.asked ≡ session.old.seen.asked }
+        ensures number { session.new.number ≡ session.old.number }
+        ensures snapshot { IfOk result (IsSnapshotOf O.store O.trees O.number O.hives session.new.seen.list) }
+        ensures refused { IfErr result (λ why. why ≡ NoMemory) }
+    {
+        let guard = self.lock.lock(rt);
+        let made = (&*guard).snapshot(rt, &mut session.asker);
+        let _ = MutexGuard::unlock(guard);
+        made
+    }
+
+    /// The first of the durable changes after a number, in their order; as many as have 65,536 bytes encoded, and one at
+    /// least; none if no later change is durable. The session has seen all that was accepted then, and nothing was asked
+    /// for.
+    pub fn durable_changes<R: Wait>(
+        &self,
+        rt: &R,
+        session: &mut Session<O>,
+        after: u64,
+    ) -> Result<Vec<Element>, FollowRefusal>
+        ensures seen { SeesMore session.old.seen session.new.seen }
+        ensures asked { session.new.seen.asked ≡ session.old.seen.asked }
+        ensures number { session.new.number ≡ session.old.number }
+        ensures told { IfOk result (λ changes. AreDurableAfter O.start O.number after session.new.seen changes.items) }
+        ensures refused { IfErr result (MayNotFollow O.start O.number after session.new.seen) }
+    {
+        let guard = self.lock.lock(rt);
+        let changes = (&*guard).durable_changes(rt, &mut session.asker, after);
+        let _ = MutexGuard::unlock(guard);
+        changes
+    }
+
+    /// How full the store is after all that was accepted, and how many wait until a change is durable. The session has seen
+    /// all that then, and nothing was asked for.
+    pub fn stats<R: Wait>(&self, rt: &R, session: &mut Session<O>) -> StoreStats
+        ensures seen { SeesMore session.old.seen session.new.seen }
+        ensures asked { session.new.seen.asked ≡ session.old.seen.asked }
+        ensures number { session.new.number ≡ session.old.number }
+        ensures stats { IsStatsOf O.start O.number session.new.seen result }
+    {
+        let waiting = self.waiting.load(Ordering::SeqCst);
+        let guard = self.lock.lock(rt);
+        let stats = (&*guard).stats(rt, &mut session.asker, waiting);
+        let _ = MutexGuard::unlock(guard);
+        stats
     }
 
     /// Ends the registry of one who asks, as [`Registry::end_shared`] does. A sole asker has seen each event that was asked
