@@ -5,6 +5,6 @@ mod gate;
 mod threads;
 mod turns;
 
-pub use gate::{Gate, OpenGate, RoomGate};
-pub use threads::{run_beside, run_beside_from, try_run_beside};
+pub use gate::{Gate, OpenGate};
+pub use threads::{run_beside, try_run_beside};
 pub use turns::{run_flusher, try_run_flusher};

@@ -3,7 +3,7 @@ ghost use Rattle.std.specs.Prelude.{IfErr, IfOk};
 ghost use Rattle.ktm_calls.specs.Denials.{IsTurnDenied};
 ghost use Rattle.ktm_calls.specs.Waiting.{IsDone, IsFailedStep};
 
-use crate::gate::{Gate, RoomGate};
+use crate::gate::Gate;
 use crate::turns::{run_flusher, try_run_flusher};
 use histories::Start;
 use ktm_calls::{Denied, Registry, Stopped, Told};
@@ -31,31 +31,6 @@ pub fn run_beside<
     let (flushed, done) = thread::join(
         rt,
         || run_flusher(rt, registry, gate),
-        || {
-            let done = work();
-            registry.stop_flusher(rt);
-            done
-        },
-    );
-    (done, flushed)
-}
-
-/// The same with a flusher that begins once so many bytes of the journal's room are used, and at the end.
-pub fn run_beside_from<
-    E: StoreEngine + Send,
-    O: Start + Send + Sync,
-    R: Threads + Wait + Sync,
-    T,
-    F: FnOnce() -> T,
->(rt: &R, registry: &Registry<E, O>, room: u64, work: F) -> (T, Result<Stopped, Told>)
-    requires work { F.pre work }
-    ensures done { F.post work result.0 }
-    ensures stopped { IfOk result.1 (IsDone O.history O.start) }
-    ensures failed { IfErr result.1 IsFailedStep }
-{
-    let (flushed, done) = thread::join(
-        rt,
-        || run_flusher(rt, registry, &RoomGate::new(rt, registry, room)),
         || {
             let done = work();
             registry.stop_flusher(rt);

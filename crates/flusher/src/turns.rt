@@ -41,6 +41,9 @@ pub fn try_run_flusher<E: StoreEngine, O: Start, G: Gate, R: Wait>(
 {
     for _ in rt.forever() {
         gate.before_turn();
+        if gate.room() > 0 {
+            let _ = registry.wait_until_used(rt, gate.room());
+        }
         match registry.turn(rt) {
             Ok(Turn::Step(told)) => {
                 if let Reply::Stepped { progress } = told.reply() {
