@@ -7,20 +7,22 @@ use Rattle.std.proofs.lemmas.Option.{none-some, cond_some}
 use Rattle.std.proofs.lemmas.Bool.Decides.{nat_tests}
 use Rattle.std.proofs.lemmas.Slice.Eq.{bytes_eq-Decides}
 use Rattle.refusals.specs.declared.limits.TheConstants.{MOST_HIVES, MOST_HISTORY}
-use Rattle.script_syntax.specs.Words.{words, number_of, label_of, uuid_of}
-use Rattle.script_syntax.specs.Lines.{one_of, two_of, request_with, request_of_words, hives_of, hives_line, history_of, history_line, at_line, alone, begin_line, kept_line, inside_line, label_in, hive_in, call_of, call_in, tear_of, tear_in, device_line, step_line, transaction_line, line_with, line_of_words, line_of}
-use Rattle.script_syntax.specs.Grammar.{VerbAndNumber, VerbAndLabel, RequestWords, LabLineWords, LineWords, BytesParseTo, tear_word}
+use Rattle.script_syntax.specs.Words.{words, key_ref_of, name_of, number_of, label_of, uuid_of}
+use Rattle.script_syntax.specs.Lines.{one_of, two_of, request_with, request_of_words, hives_of, hives_line, history_of, history_line, at_line, alone, begin_line, kept_line, inside_line, label_in, hive_in, call_of, call_in, tear_of, tear_in, key_ref_in, backup_line, follow_line, served_line, device_line, step_line, transaction_line, line_with, line_of_words, line_of}
+use Rattle.script_syntax.specs.Grammar.{VerbAndNumber, VerbAndLabel, RequestWords, LabLineWords, ServedLineWords, LineWords, BytesParseTo, tear_word}
 use Rattle.script_syntax.specs.declared.line.Request.{Request}
 use Rattle.script_syntax.specs.declared.line.Request.TheVariants.{Create, Delete, Set, Unset, Get, Keys, Values, Info}
 use Rattle.script_syntax.specs.declared.line.Line.{Line}
-use Rattle.script_syntax.specs.declared.line.Line.TheVariants.{Hives, History, At, Session, End, Plain, Begin, Inside, Commit, Rollback, Close, Outcome, Kept, Flush, Fold, Lab}
+use Rattle.script_syntax.specs.declared.line.Line.TheVariants.{Hives, History, At, Session, End, Plain, Begin, Inside, Commit, Rollback, Close, Outcome, Kept, Flush, Fold, Served, Lab}
+use Rattle.script_syntax.specs.declared.served_line.ServedLine.{ServedLine}
+use Rattle.script_syntax.specs.declared.served_line.ServedLine.TheVariants.{Backup, Follow, Watch, Stats}
 use Rattle.script_syntax.specs.declared.lab_line.LabLine.{LabLine}
 use Rattle.script_syntax.specs.declared.lab_line.LabLine.TheVariants.{Accept, JournalStep, FlusherStep, TrimStep, FlushWhole, StopAt, FailAt, Crash}
 use Rattle.script_syntax.specs.declared.lab_line.CrashTear.{CrashTear}
 use Rattle.script_syntax.specs.declared.lab_line.CrashTear.TheVariants.{Old, New, Torn}
 use Rattle.word_syntax.proofs.Cuts.{is_or_not}
 use Rattle.script_syntax.proofs.ParsedUnits.{map_some, then_some}
-use Rattle.script_syntax.proofs.ParsedWords.{read_number, parsed_number, read_label, parsed_label}
+use Rattle.script_syntax.proofs.ParsedWords.{read_number, parsed_number, read_place, parsed_place, read_name, parsed_name, read_label, parsed_label}
 use Rattle.script_syntax.proofs.ParsedRequests.{read_request, one_word, two_words, first_word, parsed_request, parsed_request_words}
 
 -- words that are these, of which both are known
@@ -63,6 +65,14 @@ read_lab said (FailAt call) ((number, e, d), least, most) =
     ap line_of_words e ∙ ap (option_map (λ k. Lab (FailAt k))) (read_call number call (read_number (2 ^ 64 - 1) number call d within) least)
 read_lab said (Crash tear) e = ap line_of_words e ∙ ap (option_map (λ t. Lab (Crash t))) (read_tear tear)
 
+read_served : (said : List (List ℕ)) (line : ServedLine) → ServedLineWords line said → line_of_words said ≡ Some (Served line)
+read_served said (Backup name) (word, e, n) = ap line_of_words e ∙ ap (option_map (λ a. Served (Backup a))) (read_name word name n)
+read_served said (Follow after) ((number, e, d), most) =
+    let within : after ≤ 2 ^ 64 - 1 = omega (arith, most) in
+    ap line_of_words e ∙ ap (option_map (λ n. Served (Follow n))) (read_number (2 ^ 64 - 1) number after d within)
+read_served said (Watch at) (word, e, p) = ap line_of_words e ∙ ap (option_map (λ a. Served (Watch a))) (read_place word at p)
+read_served said Stats e = ap line_of_words e
+
 read_words : (said : List (List ℕ)) (line : Line) → LineWords line said → line_of_words said ≡ Some line
 read_words said (Hives count) ((number, e, d), least, most) =
     let some : nat_le 1 count ≡ true = grind (arith, nat_tests, least) in
@@ -92,6 +102,7 @@ read_words said (Outcome label) (word, e, l) = ap line_of_words e ∙ ap (option
 read_words said (Kept id) (text, e, u) = ap line_of_words e ∙ ap (option_map (λ b. Kept b)) u
 read_words said Flush e = ap line_of_words e
 read_words said Fold e = ap line_of_words e
+read_words said (Served line) s = read_served said line s
 read_words said (Lab line) s = read_lab said line s
 
 -- a line by the grammar is parsed
@@ -222,12 +233,40 @@ of_request verb args line e =
     let request = map_some (λ r. Plain r) (request_with verb args) line e in
     subst (λ l. LineWords l (verb ∷ args)) request.2 (parsed_request verb args request.0 request.1)
 
+of_backup : (args : List (List ℕ)) (line : Line) → option_and_then backup_line (one_of args) ≡ Some line → LineWords line (codes "backup" ∷ args)
+of_backup args line e =
+    let word = then_some backup_line (one_of args) line e in
+    let name = map_some (λ a. Served (Backup a)) (name_of word.0) line word.2 in
+    subst (λ l. LineWords l (codes "backup" ∷ args)) name.2 (word.0, ap (λ ws. codes "backup" ∷ ws) (one_word args word.0 word.1), parsed_name word.0 name.0 name.1)
+
+of_follow : (args : List (List ℕ)) (line : Line) → option_and_then follow_line (one_of args) ≡ Some line → LineWords line (codes "follow" ∷ args)
+of_follow args line e =
+    let word = then_some follow_line (one_of args) line e in
+    let after = map_some (λ n. Served (Follow n)) (number_of (2 ^ 64 - 1) word.0) line word.2 in
+    let number = of_number (codes "follow") (2 ^ 64 - 1) args word.0 after.0 word.1 after.1 in
+    let within : after.0 < 2 ^ 64 = omega (arith, number.1) in
+    subst (λ l. LineWords l (codes "follow" ∷ args)) after.2 (number.0, within)
+
+of_watch : (args : List (List ℕ)) (line : Line) → option_map (λ at. Served (Watch at)) (key_ref_in args) ≡ Some line → LineWords line (codes "watch" ∷ args)
+of_watch args line e =
+    let at = map_some (λ a. Served (Watch a)) (key_ref_in args) line e in
+    let word = then_some key_ref_of (one_of args) at.0 at.1 in
+    subst (λ l. LineWords l (codes "watch" ∷ args)) at.2 (word.0, ap (λ ws. codes "watch" ∷ ws) (one_word args word.0 word.1), parsed_place word.0 at.0 word.2)
+
+parsed_served : (verb : List ℕ) (args : List (List ℕ)) (line : Line) → served_line verb args ≡ Some line → LineWords line (verb ∷ args)
+parsed_served verb args line e =
+    first_word LineWords verb (codes "backup") args line _ _ (of_backup args line)
+    (first_word LineWords verb (codes "follow") args line _ _ (of_follow args line)
+    (first_word LineWords verb (codes "watch") args line _ _ (of_watch args line)
+    (first_word LineWords verb (codes "stats") args line _ _ (of_alone (codes "stats") (Served Stats) refl args line)
+    (of_request verb args line)))) e
+
 parsed_device : (verb : List ℕ) (args : List (List ℕ)) (line : Line) → device_line verb args ≡ Some line → LineWords line (verb ∷ args)
 parsed_device verb args line e =
     first_word LineWords verb (codes "stop") args line _ _ (of_call (codes "stop") (λ call. Lab (StopAt call)) (λ call said h. h) args line)
     (first_word LineWords verb (codes "fail") args line _ _ (of_call (codes "fail") (λ call. Lab (FailAt call)) (λ call said h. h) args line)
     (first_word LineWords verb (codes "crash") args line _ _ (of_crash args line)
-    (of_request verb args line))) e
+    (parsed_served verb args line))) e
 
 parsed_step : (verb : List ℕ) (args : List (List ℕ)) (line : Line) → step_line verb args ≡ Some line → LineWords line (verb ∷ args)
 parsed_step verb args line e =

@@ -12,7 +12,9 @@ use Rattle.script_syntax.specs.declared.line.KeyRef.{KeyRef}
 use Rattle.script_syntax.specs.declared.line.Request.{Request}
 use Rattle.script_syntax.specs.declared.line.Request.TheVariants.{Create, Delete, Set, Unset, Get, Keys, Values, Info}
 use Rattle.script_syntax.specs.declared.line.Line.{Line}
-use Rattle.script_syntax.specs.declared.line.Line.TheVariants.{Hives, History, At, Session, End, Plain, Begin, Inside, Commit, Rollback, Close, Outcome, Kept, Flush, Fold, Lab}
+use Rattle.script_syntax.specs.declared.line.Line.TheVariants.{Hives, History, At, Session, End, Plain, Begin, Inside, Commit, Rollback, Close, Outcome, Kept, Flush, Fold, Served, Lab}
+use Rattle.script_syntax.specs.declared.served_line.ServedLine.{ServedLine}
+use Rattle.script_syntax.specs.declared.served_line.ServedLine.TheVariants.{Backup, Follow, Watch, Stats}
 use Rattle.script_syntax.specs.declared.lab_line.LabLine.{LabLine}
 use Rattle.script_syntax.specs.declared.lab_line.LabLine.TheVariants.{Accept, JournalStep, FlusherStep, TrimStep, FlushWhole, StopAt, FailAt, Crash}
 use Rattle.script_syntax.specs.declared.lab_line.CrashTear.{CrashTear}
@@ -112,6 +114,13 @@ LabLineWords (StopAt call) said = VerbAndNumber (codes "stop") call said × (1 �
 LabLineWords (FailAt call) said = VerbAndNumber (codes "fail") call said × (1 ≤ call) × (call < 2 ^ 64)
 LabLineWords (Crash tear) said = said ≡ codes "crash" ∷ tear_word tear ∷ []
 
+-- the words of a line that only a session of a served store takes
+abbrev pub ServedLineWords : ServedLine → List (List ℕ) → Type 0
+ServedLineWords (Backup name) said = (word : List ℕ) × (said ≡ codes "backup" ∷ word ∷ []) × IsName word name
+ServedLineWords (Follow number) said = VerbAndNumber (codes "follow") number said × (number < 2 ^ 64)
+ServedLineWords (Watch at) said = VerbAndKeyRef (codes "watch") at said
+ServedLineWords Stats said = said ≡ codes "stats" ∷ []
+
 -- the words of a line, likewise; a request is alone, or after `tx` and a label
 abbrev pub LineWords : Line → List (List ℕ) → Type 0
 LineWords (Hives count) said = VerbAndNumber (codes "hives") count said × (1 ≤ count) × (count ≤ MOST_HIVES)
@@ -131,6 +140,7 @@ LineWords (Outcome label) said = VerbAndLabel (codes "outcome") label said
 LineWords (Kept id) said = (text : List ℕ) × (said ≡ codes "kept" ∷ text ∷ []) × IsUuid text id
 LineWords Flush said = said ≡ codes "flush" ∷ []
 LineWords Fold said = said ≡ codes "fold" ∷ []
+LineWords (Served line) said = ServedLineWords line said
 LineWords (Lab line) said = LabLineWords line said
 
 -- bytes are a line if their parts between blanks are

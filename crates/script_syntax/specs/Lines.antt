@@ -7,7 +7,8 @@ use Rattle.script_syntax.specs.declared.line.KeyRef.{KeyRef}
 use Rattle.script_syntax.specs.declared.line.Request.{Request}
 use Rattle.script_syntax.specs.declared.line.Request.TheVariants.{Create, Delete, Set, Unset, Get, Keys, Values, Info}
 use Rattle.script_syntax.specs.declared.line.Line.{Line}
-use Rattle.script_syntax.specs.declared.line.Line.TheVariants.{Hives, History, At, Session, End, Plain, Begin, Inside, Commit, Rollback, Close, Outcome, Kept, Flush, Fold, Lab}
+use Rattle.script_syntax.specs.declared.line.Line.TheVariants.{Hives, History, At, Session, End, Plain, Begin, Inside, Commit, Rollback, Close, Outcome, Kept, Flush, Fold, Served, Lab}
+use Rattle.script_syntax.specs.declared.served_line.ServedLine.TheVariants.{Backup, Follow, Watch, Stats}
 use Rattle.script_syntax.specs.declared.lab_line.LabLine.TheVariants.{Accept, JournalStep, FlusherStep, TrimStep, FlushWhole, StopAt, FailAt, Crash}
 use Rattle.script_syntax.specs.declared.lab_line.CrashTear.{CrashTear}
 use Rattle.script_syntax.specs.declared.lab_line.CrashTear.TheVariants.{Old, New, Torn}
@@ -122,15 +123,31 @@ tear_of word =
 abbrev pub tear_in : List (List ℕ) → Option CrashTear
 tear_in args = option_and_then tear_of (one_of args)
 
--- a failure of the device to come, a loss of power, or a request alone
+-- a backup's name, and the number after which changes are told
+abbrev pub backup_line : List ℕ → Option Line
+backup_line word = option_map (λ name. Served (Backup name)) (name_of word)
+
+abbrev pub follow_line : List ℕ → Option Line
+follow_line word = option_map (λ number. Served (Follow number)) (number_of (2 ^ 64 - 1) word)
+
+-- a line that only a session of a served store takes, or a request alone
+abbrev pub served_line : List ℕ → List (List ℕ) → Option Line
+served_line verb args =
+    if bytes_eq verb (codes "backup") then option_and_then backup_line (one_of args)
+    else if bytes_eq verb (codes "follow") then option_and_then follow_line (one_of args)
+    else if bytes_eq verb (codes "watch") then option_map (λ at. Served (Watch at)) (key_ref_in args)
+    else if bytes_eq verb (codes "stats") then alone (Served Stats) args
+    else option_map (λ request. Plain request) (request_with verb args)
+
+-- a failure of the device to come, a loss of power, a line of a served store, or a request alone
 abbrev pub device_line : List ℕ → List (List ℕ) → Option Line
 device_line verb args =
     if bytes_eq verb (codes "stop") then option_map (λ call. Lab (StopAt call)) (call_in args)
     else if bytes_eq verb (codes "fail") then option_map (λ call. Lab (FailAt call)) (call_in args)
     else if bytes_eq verb (codes "crash") then option_map (λ tear. Lab (Crash tear)) (tear_in args)
-    else option_map (λ request. Plain request) (request_with verb args)
+    else served_line verb args
 
--- a line of a single step, one that has to do with the device, or a request alone
+-- a line of a single step, one that has to do with the device, one of a served store, or a request alone
 abbrev pub step_line : List ℕ → List (List ℕ) → Option Line
 step_line verb args =
     if bytes_eq verb (codes "accept") then option_map (λ label. Lab (Accept label)) (label_in args)

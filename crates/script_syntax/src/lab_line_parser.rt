@@ -9,13 +9,13 @@ use crate::lab_line::{CrashTear, LabLine};
 use crate::line::Line;
 use crate::line_parser::{alone, label_alone};
 use crate::numbers::number;
-use crate::requests::request_with;
+use crate::served_line_parser::served_line;
 use crate::word_parser::small_number;
 use crate::words::one_word;
 use std::alloc::Global;
 use word_syntax::ParseError;
 
-/// A line of a single step, one that has to do with the device, or a request alone.
+/// A line of a single step, one that has to do with the device, one of a served store, or a request alone.
 pub(crate) fn step_line(alloc: Global, verb: &[u8], rest: Option<&[u8]>) -> Result<Line, ParseError>
     ensures { Reads result (step_line verb.now (parts_of 32 (option_copied rest.entry))) }
 {
@@ -37,7 +37,7 @@ pub(crate) fn step_line(alloc: Global, verb: &[u8], rest: Option<&[u8]>) -> Resu
     }
 }
 
-// a failure of the device to come, a loss of power, or a request alone
+// a failure of the device to come, a loss of power, a line of a served store, or a request alone
 fn device_line(alloc: Global, verb: &[u8], rest: Option<&[u8]>) -> Result<Line, ParseError>
     ensures { Reads result (device_line verb.now (parts_of 32 (option_copied rest.entry))) }
 {
@@ -51,8 +51,7 @@ fn device_line(alloc: Global, verb: &[u8], rest: Option<&[u8]>) -> Result<Line, 
         let tear = tear(one_word(rest)?)?;
         Ok(lab(LabLine::Crash { tear }))
     } else {
-        let request = request_with(alloc, verb, rest)?;
-        Ok(Line::Plain { request })
+        served_line(alloc, verb, rest)
     }
 }
 

@@ -16,6 +16,8 @@ mod line;
 mod line_parser;
 mod numbers;
 mod requests;
+mod served_line;
+mod served_line_parser;
 mod word_parser;
 mod words;
 
@@ -23,3 +25,4 @@ pub use lab_line::{CrashTear, LabLine};
 pub use label::{LONGEST_LABEL, Label};
 pub use line::{KeyRef, Line, Request, Text};
 pub use line_parser::read_line;
+pub use served_line::ServedLine;

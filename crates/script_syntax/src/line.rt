@@ -3,6 +3,7 @@ ghost use Rattle.std.specs.Prelude.{◌≡◌};
 
 use crate::lab_line::LabLine;
 use crate::label::Label;
+use crate::served_line::ServedLine;
 use reg_tree::Data;
 use std::marker::Model;
 use uuid::Uuid;
@@ -177,6 +178,11 @@ pub enum Line {
     Flush,
     /// `fold`: folds the history.
     Fold,
+    /// A line that only a session of a served store takes.
+    Served {
+        /// The line.
+        line: ServedLine,
+    },
     /// A line that only a laboratory takes.
     Lab {
         /// The line.

@@ -43,7 +43,7 @@ pub fn read_line(alloc: Global, bytes: &[u8]) -> Result<Line, ParseError>
     }
 }
 
-// a line of a transaction or of a unit of work, a laboratory's, or a request alone
+// a line of a transaction or of a unit of work, a laboratory's, one of a served store, or a request alone
 fn transaction_line(alloc: Global, verb: &[u8], rest: Option<&[u8]>) -> Result<Line, ParseError>
     ensures { Reads result (transaction_line verb.now (parts_of 32 (option_copied rest.entry))) }
 {

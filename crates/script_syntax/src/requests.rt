@@ -55,7 +55,8 @@ pub(crate) fn request_with(
     }
 }
 
-fn key_ref_alone(alloc: Global, rest: Option<&[u8]>) -> Result<KeyRef, ParseError>
+/// The key that is alone after a blank.
+pub(crate) fn key_ref_alone(alloc: Global, rest: Option<&[u8]>) -> Result<KeyRef, ParseError>
     ensures { Reads result (key_ref_in (parts_of 32 (option_copied rest.entry))) }
 {
     key_ref(alloc, one_word(rest)?)
