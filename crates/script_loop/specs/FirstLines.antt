@@ -2,7 +2,7 @@
 use Rattle.std.specs.Prelude.{ℕ, List, Option, Some, None}
 use Rattle.script_syntax.specs.Lines.{line_of}
 use Rattle.script_syntax.specs.declared.line.Line.{Line}
-use Rattle.script_syntax.specs.declared.line.Line.TheVariants.{Hives, History, At, Session, End, Plain, Begin, Inside, Commit, Rollback, Close, Outcome, Kept, Flush, Fold, Lab}
+use Rattle.script_syntax.specs.declared.line.Line.TheVariants.{Hives, History, At, Session, End, Plain, Begin, Inside, Commit, Rollback, Close, Outcome, Kept, Flush, Fold, Served, Lab}
 
 -- `hives` is the first line and no other
 abbrev pub first_line : Option Line → Option ℕ
@@ -22,6 +22,7 @@ first_line (Some (Outcome label)) = None
 first_line (Some (Kept id)) = None
 first_line (Some Flush) = None
 first_line (Some Fold) = None
+first_line (Some (Served line)) = None
 first_line (Some (Lab line)) = None
 
 -- `history` is the line after that and no other
