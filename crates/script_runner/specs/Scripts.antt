@@ -4,7 +4,7 @@ use Rattle.refusals.specs.declared.refusal.Refusal.{Refusal}
 use Rattle.refusals.specs.declared.refusal.Refusal.TheVariants.{NoMemory, NoSuchHandle}
 use Rattle.script_syntax.specs.Lines.{line_of}
 use Rattle.script_syntax.specs.declared.line.Line.{Line}
-use Rattle.script_syntax.specs.declared.line.Line.TheVariants.{Hives, History, At, Session, End, Plain, Begin, Inside, Commit, Rollback, Close, Outcome, Kept, Flush, Fold, Lab}
+use Rattle.script_syntax.specs.declared.line.Line.TheVariants.{Hives, History, At, Session, End, Plain, Begin, Inside, Commit, Rollback, Close, Outcome, Kept, Flush, Fold, Served, Lab}
 use Rattle.reply_lines.specs.declared.reply.ReplyLine.{ReplyLine}
 use Rattle.reply_lines.specs.declared.reply.ReplyLine.TheVariants as reply
 use Rattle.store_model.specs.Machine.{Machine, bounds_for, fresh_machine, with_history}
@@ -192,6 +192,7 @@ Answers old (Outcome label) reported new = IsLabelled (old.labels label) (λ tx.
 Answers old (Kept id) reported new = Asks old (event.OutcomeOf id) reported new
 Answers old Flush reported new = AsksAndWaits old event.FlushAsk reply.Flushed reported new
 Answers old Fold reported new = Asks old event.Fold reported new
+Answers old (Served line) reported new = ⊥
 Answers old (Lab line) reported new = ⊥
 
 -- a line that only a laboratory takes is none here
@@ -212,6 +213,7 @@ later_line (Some (Outcome label)) = Some (Outcome label)
 later_line (Some (Kept id)) = Some (Kept id)
 later_line (Some Flush) = Some Flush
 later_line (Some Fold) = Some Fold
+later_line (Some (Served line)) = None
 later_line (Some (Lab line)) = None
 
 -- the line of the bytes of any further line

@@ -104,7 +104,8 @@ impl<D: Disk> Interpreter<D> {
         ensures later { IsLater D.faithful D.failures (engine_of self.old) (engine_of self.new) }
     {
         let reported = match line {
-            Line::Hives { .. } | Line::History { .. } | Line::Lab { .. } => return None,
+            Line::Hives { .. } | Line::History { .. } | Line::Served { .. } | Line::Lab { .. } =>
+                return None,
             Line::At { moment } => {
                 self.moment = moment;
                 Ok(ReplyLine::Done)
