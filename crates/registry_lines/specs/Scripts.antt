@@ -8,7 +8,7 @@ use Rattle.script_runner.specs.Requests.{operation_of}
 use Rattle.script_runner.specs.Scripts.{Names, SameNames}
 use Rattle.script_runner.specs.declared.operation.Operation.{Operation}
 use Rattle.script_syntax.specs.declared.line.Line.{Line}
-use Rattle.script_syntax.specs.declared.line.Line.TheVariants.{Hives, History, At, Session, End, Plain, Begin, Inside, Commit, Rollback, Close, Outcome, Kept, Flush, Fold, Lab}
+use Rattle.script_syntax.specs.declared.line.Line.TheVariants.{Hives, History, At, Session, End, Plain, Begin, Inside, Commit, Rollback, Close, Outcome, Kept, Flush, Fold, Served, Lab}
 use Rattle.reply_lines.specs.declared.reply.ReplyLine.{ReplyLine}
 use Rattle.reply_lines.specs.declared.reply.ReplyLine.TheVariants as reply
 use Rattle.histories.specs.Asked.{asked_in}
@@ -181,6 +181,12 @@ abbrev pub TellsKept : Bool → EngineView → List TreeMap → ℕ → ℕ → 
 TellsKept sole origin trees number hives old id reported new =
     (HearsOutcome sole origin trees number hives old.session id reported new.session × InSession old new) ⊎ Asks sole origin trees number hives old (event.OutcomeOf id) reported new
 
+-- The current session goes on, nothing is asked for, and nothing else changes.
+pub record AsksNothing (old new : Script) : Type 0 where
+  pub goes_on : GoesOn old.session new.session
+  pub quiet : new.session.seen.asked ≡ old.session.seen.asked
+  pub rest : InSession old new
+
 -- all that was accepted is made durable
 abbrev pub Flushes : Bool → EngineView → List TreeMap → ℕ → ℕ → Script → ReplyLine → Script → Type 0
 Flushes sole origin trees number hives old reported new = AsksDurably sole origin trees number hives old event.FlushAsk reply.Flushed reported new
@@ -240,6 +246,7 @@ Answers sole origin trees number hives old (Outcome label) reported new =
 Answers sole origin trees number hives old (Kept id) reported new = TellsKept sole origin trees number hives old id reported new
 Answers sole origin trees number hives old Flush reported new = Flushes sole origin trees number hives old reported new
 Answers sole origin trees number hives old Fold reported new = RefusesFold sole origin trees number hives old reported new
+Answers sole origin trees number hives old (Served line) reported new = ⊥
 Answers sole origin trees number hives old (Lab line) reported new = ⊥
 
 -- a line is answered by a reply; or it is `fold`, for which all was made durable

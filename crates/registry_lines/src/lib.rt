@@ -10,6 +10,7 @@ mod labels;
 mod script;
 mod session_lines;
 mod slots;
+mod store_questions;
 mod transaction_lines;
 
 pub use caller::{Caller, number_told};

@@ -174,7 +174,8 @@ impl<O: Start> Script<O> {
             × AnswersLine O.sole O.start O.trees O.number O.hives (script_of self.old) line answer (script_of self.new)) }
     {
         let answered = match line {
-            Line::Hives { .. } | Line::History { .. } | Line::Lab { .. } => return None,
+            Line::Hives { .. } | Line::History { .. } | Line::Served { .. } | Line::Lab { .. } =>
+                return None,
             Line::Fold => return Some(self.fold(caller)),
             Line::At { moment } => {
                 self.moment = moment;
