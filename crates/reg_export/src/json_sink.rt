@@ -8,6 +8,7 @@ ghost use Rattle.reg_export.specs.Moments.{utc_field};
 ghost use Rattle.reg_export.specs.JsonTexts.{json_key_fields, json_key_lines, json_value_line};
 ghost use Rattle.reg_export.specs.JsonLaws.{JsonPrinted, json_printed_none, json_printed_more};
 
+use crate::json_key::write_own_fields;
 use crate::json_value::write_fields;
 use crate::key_names::write_json_path;
 use crate::moment::utc_text;
@@ -20,7 +21,8 @@ use std::io::Write;
 ///
 /// Lines are ASCII and end with LF. Each has the hive's number, the path of its key, and the moment of the key's last
 /// write: as a FILETIME, and as a date and time in UTC unless it is past 9999-12-30T22:00:00.9999999Z. The line of a
-/// value also has its name, its type, its data as hex digits, and what the data mean by their type.
+/// key also has its flags, its class and its descriptor. The line of a value has its name, its type, its data as hex
+/// digits, and what the data mean by their type.
 #[derive(Drop)]
 pub struct JsonSink<'a, W> {
     /// What is written into.
@@ -70,6 +72,7 @@ fn write_key<W: Write>(
         (json_key_lines hive (utc_field utc.entry) (names_on path.now, key.now))) }
 {
     write_key_fields(writer, hive, utc, path, key)?;
+    write_own_fields(writer, key)?;
     writer.write_all(b"}\n")?;
     write_values(writer, hive, utc, path, key)
 }

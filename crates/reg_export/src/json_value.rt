@@ -40,8 +40,8 @@ fn write_name_and_type<W: Write>(writer: &mut W, value: &Value) -> io::Result<()
     writer.write_all(b"\",\"data\":\"")
 }
 
-// the bytes as pairs of hex digits
-fn write_hex<W: Write>(writer: &mut W, bytes: &[u8]) -> io::Result<()>
+/// Writes bytes as pairs of hex digits.
+pub(crate) fn write_hex<W: Write>(writer: &mut W, bytes: &[u8]) -> io::Result<()>
     ensures { OnOk result (Appends (W.contents writer.old) (W.contents writer.new)
         (encode_lower bytes.now)) }
 {

@@ -12,6 +12,7 @@ mod block;
 mod byte_units;
 mod characters;
 mod encoding;
+mod json_key;
 mod json_sink;
 mod json_value;
 mod key_names;
