@@ -1,0 +1,5 @@
+pub mod Numbers
+pub mod Operations
+pub mod Held
+pub mod Told
+pub mod Refusals
