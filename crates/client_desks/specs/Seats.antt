@@ -1,13 +1,15 @@
 -- Who is at a desk, and what its session is told.
-use Rattle.std.specs.Prelude.{◌≡◌, ◌≢◌, ◌⊎◌, ⊤, ℕ, Bool, Option, Some, None}
+use Rattle.std.specs.Prelude.{◌≡◌, ◌≢◌, ◌⊎◌, ⊤, ℕ, Bool, true, false, Option, Some, None}
 use Rattle.std.specs.List.{Contains}
 use Rattle.client_desks.specs.Lines.{LineRest}
 use Rattle.client_desks.specs.Orders.{IsRestDue}
-use Rattle.client_desks.specs.Visits.{BeginsReply, IsInTurn, StepsTo, after, bytes_left}
+use Rattle.client_desks.specs.Visits.{BeginsReply, IsInTurn, IsQuiet, StepsTo, after, bytes_left}
 use Rattle.client_desks.specs.declared.order.Arrival.{Arrival}
 use Rattle.client_desks.specs.declared.order.Arrival.TheVariants as arrival
 use Rattle.client_desks.specs.declared.order.Bookmark.{Bookmark}
 use Rattle.client_desks.specs.declared.order.InputEnd.TheVariants as end
+use Rattle.client_desks.specs.declared.order.NewsWait.{NewsWait}
+use Rattle.client_desks.specs.declared.order.NewsWait.TheVariants as wait
 use Rattle.client_desks.specs.declared.order.Order.{Order}
 use Rattle.client_desks.specs.declared.order.Order.TheVariants as order
 use Rattle.client_desks.specs.declared.order.Rest.TheVariants as rest
@@ -94,6 +96,25 @@ HasLine asked (Waiting visit) = ⊥
 HasLine asked (Served visit) =
     (asked ≢ order.Stop) × (asked ≢ order.Rest rest.Now) × (visit.source ≢ Gone) × Contains (bytes_left visit) 10
 HasLine asked (Parked visit bookmark) = ⊥
+
+-- a session has got all that its client sent, who may send more
+abbrev pub HasQuietClient : Seat → Type 0
+HasQuietClient Unused = ⊥
+HasQuietClient Left = ⊥
+HasQuietClient (Waiting visit) = ⊥
+HasQuietClient (Served visit) = IsQuiet visit
+HasQuietClient (Parked visit bookmark) = ⊥
+
+-- How a session's wait for news ends, or that it goes on: first by its client; then by a rest or a stop that is asked for,
+-- unless the session knows of it; then by news, if there are any.
+abbrev pub WaitsForNews : Order → Seat → Bool → Bool → Option NewsWait → Type 0
+WaitsForNews asked seat has_news knows_end (Some wait.Client) = ¬ (HasQuietClient seat)
+WaitsForNews asked seat has_news knows_end (Some wait.Ending) =
+    HasQuietClient seat × (asked ≢ order.Serve) × (knows_end ≡ false)
+WaitsForNews asked seat has_news knows_end (Some wait.News) =
+    HasQuietClient seat × ((asked ≡ order.Serve) ⊎ (knows_end ≡ true)) × (has_news ≡ true)
+WaitsForNews asked seat has_news knows_end None =
+    HasQuietClient seat × ((asked ≡ order.Serve) ⊎ (knows_end ≡ true)) × (has_news ≡ false)
 
 -- when a session may write a reply. After a stop nobody tells any more that the last one was handed on
 abbrev pub SessionReplies : Order → Seat → ReplyTurn → Seat → Type 0

@@ -62,6 +62,10 @@ StepsTo (step.End end.NoMemory) before line new = (before.source ≢ Gone) × (n
 StepsTo (step.End end.Stopped) before line new = ⊥
 StepsTo (step.End end.Rest) before line new = ⊥
 
+-- the client may send more, and its session has got all that it sent
+abbrev pub IsQuiet : Visit → Type 0
+IsQuiet visit = (visit.source ≡ Open) × (visit.piece ≡ None) × (visit.lines ≡ [])
+
 -- when a reply may be written: once the last one was handed on, and to nobody who has gone
 abbrev pub BeginsReply : ReplyTurn → Visit → Visit → Type 0
 BeginsReply Now before new =

@@ -5,12 +5,13 @@ ghost use Rattle.client_desks.specs.Lines.{IsLine};
 
 use crate::client_line::ClientLine;
 use crate::desks::Desks;
-use crate::order::{Arrival, Bookmark, InputEnd};
+use crate::order::{Arrival, Bookmark, InputEnd, NewsWait};
 use crate::slot::{LineWait, Slot};
 use client_frames::{ClientPlace, Frame, Piece};
 use std::alloc::AllocError;
 use std::io::{self, ErrorKind};
 use std::sync::Wait;
+use std::sync::atomic::Ordering;
 
 /// The desk of one client.
 pub struct Desk<'a> {
@@ -42,7 +43,11 @@ impl<'a> Desk<'a> {
 
     /// Waits until there is a client to be served, or something else to do.
     pub fn wait<R: Wait>(self, rt: &R) -> Arrival {
-        self.slot.wait(rt)
+        let arrival = self.slot.wait(rt);
+        if matches!(arrival, Arrival::Client | Arrival::Resumed { .. }) {
+            self.desks.begin_work();
+        }
+        arrival
     }
 
     /// Whether a session needn't wait for its next line, or for what ends it.
@@ -55,18 +60,51 @@ impl<'a> Desk<'a> {
         self.slot.is_over(rt)
     }
 
+    /// The session follows news from now on. It asks [`Desk::news`] after this, looks at what there is, and waits then.
+    pub fn follow<R: Wait>(self, rt: &R) {
+        self.slot.set_follows(true);
+        self.desks.end_work(rt);
+    }
+
+    /// The session doesn't follow news any more.
+    pub fn unfollow(self) {
+        self.desks.begin_work();
+        self.slot.set_follows(false);
+    }
+
+    /// Whether there is no session but those that follow news. After a rest or a stop was asked for, none is begun that gets a
+    /// line.
+    pub fn is_followed_alone(self) -> bool {
+        !self.desks.is_at_work()
+    }
+
+    /// How often there were news.
+    pub fn news(self) -> u64 {
+        self.desks.news().load(Ordering::SeqCst)
+    }
+
+    /// Waits until there were other news than the `known` ones, if the session follows them, or until it has something else to
+    /// do, whether or not there were. That another session ends is news, too. A session that `knows_end` isn't told of a rest
+    /// or a stop.
+    pub fn wait_for_news<R: Wait>(self, rt: &R, known: u64, knows_end: bool) -> NewsWait {
+        self.slot
+            .wait_for_news(rt, self.desks.news(), known, knows_end)
+    }
+
     /// The session has ended, and the client is told so: the place is free. Nothing is told if there was no session.
     pub fn clear<R: Wait + Print>(self, rt: &R) {
         if self.slot.leave(rt) {
             let place = self.place();
             // a write that fails stops all desks, and nothing else is to be done
             let _ = self.desks.write(rt, &Frame::End { place });
+            self.desks.end_work(rt);
         }
     }
 
     /// The session has ended at a rest, and the client stays, with all that its session hasn't got.
     pub fn park<R: Wait>(self, rt: &R, moment: u64, line: u64) {
         self.slot.park(rt, Bookmark { moment, line });
+        self.desks.end_work(rt);
     }
 
     /// Waits for the session's next line, which `line` has then. Answers why none follows, if that is so.

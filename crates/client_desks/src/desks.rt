@@ -12,6 +12,7 @@ use client_frames::{ClientPlace, Frame, LAST_PLACE};
 use std::alloc::{AllocError, Global};
 use std::io;
 use std::marker::Model;
+use std::sync::atomic::{AtomicU64, Ordering};
 use std::sync::{Mutex, MutexGuard, Wait};
 
 /// The most clients.
@@ -25,6 +26,10 @@ pub struct Desks {
     output: Mutex<FrameOutput>,
     // what all sessions were asked to do last
     order: Mutex<Order>,
+    // how often there were news
+    news: AtomicU64,
+    // how many sessions don't follow them
+    working: AtomicU64,
 }
 
 impl Model for Desks {
@@ -50,6 +55,8 @@ impl Desks {
             slots: new_slots(alloc, clients)?,
             output: Mutex::new(FrameOutput::new(alloc)?),
             order: Mutex::new(Order::Serve),
+            news: AtomicU64::new(0),
+            working: AtomicU64::new(0),
         })
     }
 
@@ -58,6 +65,19 @@ impl Desks {
         ensures { result ≡ self.now }
     {
         self.slots.len()
+    }
+
+    /// How many desks have a client. Each is looked at by itself, so clients may come and go meanwhile.
+    pub fn clients<R: Wait>(&self, rt: &R) -> usize
+        ensures { result ≤ self.now }
+    {
+        let mut clients = 0;
+        for index in 0..self.slots.len() {
+            if self.slots[index].has_client(rt) {
+                clients += 1;
+            }
+        }
+        clients
     }
 
     /// The desk of this place.
@@ -108,6 +128,35 @@ impl Desks {
         for slot in self.slots.iter() {
             slot.give(rt, order);
         }
+    }
+
+    /// There are news: each session that follows them is woken. No lock is taken of a desk whose session doesn't.
+    pub fn tell_news<R: Wait>(&self, rt: &R) {
+        self.news.fetch_add(1, Ordering::SeqCst);
+        for slot in self.slots.iter() {
+            slot.wake_follower(rt);
+        }
+    }
+
+    /// A session begins, or follows no news any more.
+    pub(crate) fn begin_work(&self) {
+        self.working.fetch_add(1, Ordering::SeqCst);
+    }
+
+    /// A session has ended, or follows news from now on. Those that follow are woken.
+    pub(crate) fn end_work<R: Wait>(&self, rt: &R) {
+        self.working.fetch_sub(1, Ordering::SeqCst);
+        self.tell_news(rt);
+    }
+
+    /// Whether a session doesn't follow news.
+    pub(crate) fn is_at_work(&self) -> bool {
+        self.working.load(Ordering::SeqCst) != 0
+    }
+
+    /// The count of news.
+    pub(crate) fn news(&self) -> &AtomicU64 {
+        &self.news
     }
 
     /// Whether a frame could not be written. All desks were told to stop then.

@@ -27,7 +27,7 @@ pub use desk_writer::{DeskSink, DeskWriter};
 pub use desks::{Desks, MOST_CLIENTS};
 pub use frames::{FramesEnd, read_frames};
 pub use line_buffer::{LINE_BYTES, LineBuffer, NextLine};
-pub use order::{Arrival, Bookmark, InputEnd, Rest};
+pub use order::{Arrival, Bookmark, InputEnd, NewsWait, Rest};
 pub use piece_writer::{PieceSink, PieceWriter};
 pub use reply_buffer::ReplyBuffer;
 pub use unit_table::{ActiveUnit, UnitRefusal, UnitTable};

@@ -46,6 +46,17 @@ pub enum Arrival {
     Stop,
 }
 
+/// How a wait for news ended.
+#[derive(Clone, Copy, Debug, PartialEq, Eq)]
+pub enum NewsWait {
+    /// There are news.
+    News,
+    /// A rest or a stop is asked for.
+    Ending,
+    /// The client has sent more, or sends no more, or has gone.
+    Client,
+}
+
 /// Why a session gets no further line.
 #[derive(Clone, Copy, Debug, PartialEq, Eq)]
 pub enum InputEnd {

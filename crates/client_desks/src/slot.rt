@@ -3,11 +3,12 @@ ghost use Rattle.std.specs.Prelude.{◌≡◌};
 ghost use Rattle.client_desks.specs.Lines.{IsLine};
 
 use crate::client_line::ClientLine;
-use crate::order::{Arrival, Bookmark, InputEnd, Order};
+use crate::order::{Arrival, Bookmark, InputEnd, NewsWait, Order};
 use crate::tray::Tray;
 use crate::visit::{OutOfTurn, ReplyTurn, Said, Step};
 use client_frames::ClientPlace;
 use std::alloc::Global;
+use std::sync::atomic::{AtomicBool, AtomicU64, Ordering};
 use std::sync::{Condvar, Mutex, MutexGuard, Wait};
 
 /// How the wait for a line ended.
@@ -27,6 +28,8 @@ pub(crate) struct Slot {
     pub(crate) place: ClientPlace,
     lock: Mutex<Tray>,
     changed: Condvar,
+    // whether the session waits for news, too
+    follows: AtomicBool,
 }
 
 impl Slot {
@@ -38,6 +41,7 @@ impl Slot {
             place,
             lock: Mutex::new(Tray::new()),
             changed: Condvar::new(),
+            follows: AtomicBool::new(false),
         }
     }
 
@@ -48,6 +52,14 @@ impl Slot {
         let _ = MutexGuard::unlock(guard);
         self.changed.notify_all();
         opened
+    }
+
+    /// Whether a client has the place.
+    pub(crate) fn has_client<R: Wait>(&self, rt: &R) -> bool {
+        let guard = self.lock.lock(rt);
+        let has_client = (&*guard).has_client();
+        let _ = MutexGuard::unlock(guard);
+        has_client
     }
 
     /// The broker says this of the client at a place.
@@ -129,6 +141,42 @@ impl Slot {
         let is_over = (&*guard).is_over();
         let _ = MutexGuard::unlock(guard);
         is_over
+    }
+
+    /// Whether the session follows news from now on.
+    pub(crate) fn set_follows(&self, follows: bool) {
+        self.follows.store(follows, Ordering::SeqCst);
+    }
+
+    /// Wakes the session if it follows news. They were counted before.
+    pub(crate) fn wake_follower<R: Wait>(&self, rt: &R) {
+        if self.follows.load(Ordering::SeqCst) {
+            // one who has looked at the count waits by the time that the lock is taken
+            let guard = self.lock.lock(rt);
+            let _ = MutexGuard::unlock(guard);
+            self.changed.notify_all();
+        }
+    }
+
+    /// Waits until the count of news isn't `known` any more, or the session has something else to do. One that knows of its
+    /// end isn't told of it again.
+    pub(crate) fn wait_for_news<R: Wait>(
+        &self,
+        rt: &R,
+        news: &AtomicU64,
+        known: u64,
+        knows_end: bool,
+    ) -> NewsWait {
+        let mut guard = self.lock.lock(rt);
+        for _ in rt.forever() {
+            let has_news = news.load(Ordering::SeqCst) != known;
+            if let Some(wait) = (&*guard).news_wait(has_news, knows_end) {
+                let _ = MutexGuard::unlock(guard);
+                return wait;
+            }
+            guard = self.changed.wait(rt, guard);
+        }
+        unreachable!()
     }
 
     /// Waits until a reply may be written, which is taken to be out then. False if none may.

@@ -1,10 +1,10 @@
 //! The state of a desk.
-ghost use Rattle.std.specs.Prelude.{◌≡◌, ◌↔◌, ◌⊎◌, IsTrue, IsOk, OnOk, OnErr};
-ghost use Rattle.client_desks.specs.Seats.{Arrives, HasLine, HasNoReader, IsFree, IsTakenIn, IsServed, SessionReplies, SessionSteps, seat_after, seat_left, seat_parked};
+ghost use Rattle.std.specs.Prelude.{◌≡◌, ◌↔◌, ◌⊎◌, false, IsTrue, IsOk, OnOk, OnErr};
+ghost use Rattle.client_desks.specs.Seats.{Arrives, HasLine, HasNoReader, HasQuietClient, IsFree, IsTakenIn, IsServed, SessionReplies, SessionSteps, WaitsForNews, seat_after, seat_left, seat_parked};
 ghost use Rattle.client_desks.specs.Visits.{newcomer};
 
 use crate::client_line::ClientLine;
-use crate::order::{Arrival, Bookmark, InputEnd, Order, Rest};
+use crate::order::{Arrival, Bookmark, InputEnd, NewsWait, Order, Rest};
 use crate::visit::{OutOfTurn, ReplyTurn, Said, Step, Visit};
 use client_frames::ClientPlace;
 use std::alloc::Global;
@@ -57,6 +57,16 @@ impl Tray {
                 Ok(())
             }
             Seat::Waiting(_) | Seat::Served(_) | Seat::Parked { .. } => Err(OutOfTurn),
+        }
+    }
+
+    /// Whether a client has the place.
+    pub(crate) fn has_client(&self) -> bool
+        ensures { (result ≡ false) ↔ IsFree self.now.seat }
+    {
+        match &self.seat {
+            Seat::Unused | Seat::Left => false,
+            Seat::Waiting(_) | Seat::Served(_) | Seat::Parked { .. } => true,
         }
     }
 
@@ -137,6 +147,31 @@ impl Tray {
                     && self.order != Order::Rest(Rest::Now)
                     && visit.has_line()
             }
+            Seat::Unused | Seat::Left | Seat::Waiting(_) | Seat::Parked { .. } => false,
+        }
+    }
+
+    /// How a session's wait for news ends now, if it does. `has_news`: there are some; `knows_end`: the session knows already
+    /// that a rest or a stop is asked for.
+    pub(crate) fn news_wait(&self, has_news: bool, knows_end: bool) -> Option<NewsWait>
+        ensures { WaitsForNews self.now.order self.now.seat has_news knows_end result }
+    {
+        if !self.has_quiet_client() {
+            Some(NewsWait::Client)
+        } else if self.order != Order::Serve && !knows_end {
+            Some(NewsWait::Ending)
+        } else if has_news {
+            Some(NewsWait::News)
+        } else {
+            None
+        }
+    }
+
+    fn has_quiet_client(&self) -> bool
+        ensures { IsTrue result ↔ HasQuietClient self.now.seat }
+    {
+        match &self.seat {
+            Seat::Served(visit) => visit.is_quiet(),
             Seat::Unused | Seat::Left | Seat::Waiting(_) | Seat::Parked { .. } => false,
         }
     }

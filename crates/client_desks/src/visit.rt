@@ -2,7 +2,7 @@
 ghost use Rattle.std.specs.Prelude.{◌≡◌, ◌≢◌, ◌↔◌, [], None, IsTrue, IsOk, OnOk, OnErr};
 ghost use Rattle.std.specs.List.{Contains};
 ghost use Rattle.client_desks.specs.Lines.{IsLinePart, LineRest};
-ghost use Rattle.client_desks.specs.Visits.{BeginsReply, IsInTurn, StepsTo, after, bytes_left, newcomer, piece_bytes};
+ghost use Rattle.client_desks.specs.Visits.{BeginsReply, IsInTurn, IsQuiet, StepsTo, after, bytes_left, newcomer, piece_bytes};
 
 use crate::client_line::ClientLine;
 use crate::line_buffer::{LineBuffer, NextLine};
@@ -164,6 +164,13 @@ impl Visit {
         ensures { IsTrue result ↔ (self.now.source ≢ Source.Gone) × Contains (bytes_left self.now) 10 }
     {
         !self.is_gone() && (self.lines.has_line_feed() || self.piece_has_line_feed())
+    }
+
+    /// Whether the client may send more, and the session has got all that it sent.
+    pub(crate) fn is_quiet(&self) -> bool
+        ensures { IsTrue result ↔ IsQuiet self.now }
+    {
+        self.source == Source::Open && self.piece.is_none() && self.lines.is_empty()
     }
 
     fn piece_has_line_feed(&self) -> bool
