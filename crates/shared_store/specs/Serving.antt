@@ -33,7 +33,7 @@ pub record TellsOf {T : Type 0} (reports : Bool → EngineView → List TreeMap 
 
 -- A store was opened on these files, and its registry was shared. One history leads from there to the engine as it was
 -- last, and to the disk that is handed back. What is told is so of it.
-pub record KeepsStore {D T : Type 0} (is_faithful : D → Type 0) (states_of : D → ℕ → ℕ → FileState) (clock_of failures_of : D → ℕ) (reports : Bool → EngineView → List TreeMap → ℕ → ℕ → Sight → T → Type 0) (files : ℕ → List ℕ) (disk : D) (threads : ℕ) (served : Served T) : Type 0 where
+pub record KeepsStore {D T : Type 0} (is_faithful : D → Type 0) (states_of : D → ℕ → ℕ → FileState) (clock_of failures_of : D → ℕ) (reports : Store → Bool → EngineView → List TreeMap → ℕ → ℕ → Sight → T → Type 0) (files : ℕ → List ℕ) (disk : D) (threads : ℕ) (served : Served T) : Type 0 where
   pub first : D
   pub store : Store
   pub begun : EngineView
@@ -42,7 +42,7 @@ pub record KeepsStore {D T : Type 0} (is_faithful : D → Type 0) (states_of : D
   pub last : EngineView
   pub owner : IsOf begun.machine.opened begun.machine.before begun.machine.bounds.hives last.machine
   pub left : LeavesHistory is_faithful states_of clock_of failures_of store first begun disk history last
-  pub told : TellsOf reports false begun begun.machine.opened begun.machine.before begun.machine.bounds.hives history last threads served
+  pub told : TellsOf (reports store) false begun begun.machine.opened begun.machine.before begun.machine.bounds.hives history last threads served
 
 -- why a store can't be shared: it can't be opened, or the library of readers denies one
 abbrev pub MayNotServe : Type 0 → Type 0 → (ℕ → List ℕ) → Refusal → Type 0

@@ -6,6 +6,7 @@
 #![tactic(auto)]
 
 mod account;
+mod busy_gate;
 mod client;
 mod seat;
 mod service;
@@ -13,6 +14,7 @@ mod session_client;
 mod workers;
 
 pub use account::Account;
+pub use busy_gate::BusyGate;
 pub use client::Client;
 pub use service::{Served, serve};
 pub use session_client::{InSession, SessionClient};

@@ -63,7 +63,7 @@ impl<O: Start, T: Drop> Seat<O, T> {
         thread: usize,
     )
         requires first { self.old.asker ≡ Some no_sight }
-        ensures done { HasFinished C.reports O.sole O.start O.trees O.number O.hives self.new.asker self.new.report }
+        ensures done { HasFinished (C.reports O.store) O.sole O.start O.trees O.number O.hives self.new.asker self.new.report }
     {
         let Some(asker) = self.asker.take() else {
             unreachable!();
@@ -103,14 +103,14 @@ pub fn settle<O: Start, C: Client<R, T>, T: Drop, R: Wait>(
     accounts: &mut Vec<Account<T>>,
 )
     requires several { O.sole ≡ false }
-    requires done { All (λ seat. HasFinished C.reports O.sole O.start O.trees O.number O.hives seat.asker seat.report) seats.items }
+    requires done { All (λ seat. HasFinished (C.reports O.store) O.sole O.start O.trees O.number O.hives seat.asker seat.report) seats.items }
     requires unused { permissions.old.asked ≡ 0 }
     requires empty { accounts.old.items ≡ [] }
     requires room { length seats.items ≤ vec_capacity accounts.old }
     ensures left { permissions.new.left ≡ permissions.old.left + length seats.items }
     ensures count { length accounts.new.items ≡ length seats.items }
     ensures book { All (λ account. account.seen.book ≡ O.history) accounts.new.items }
-    ensures together { AskTogether C.reports O.sole O.start O.trees O.number O.hives accounts.new.items permissions.new.asked }
+    ensures together { AskTogether (C.reports O.store) O.sole O.start O.trees O.number O.hives accounts.new.items permissions.new.asked }
 {
     for seat in seats {
         let account = seat.into_account(permissions);

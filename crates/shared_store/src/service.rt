@@ -17,7 +17,7 @@ use crate::account::{Account, seen_by_all};
 use crate::client::Client;
 use crate::seat::{Seat, new_seats, settle};
 use disk_model::Disk;
-use flusher::run_beside_from;
+use flusher::{Gate, run_beside};
 use histories::{EventCount, PermissionPool, RequestCount, SeenEvents, Start};
 use ktm_calls::{Ended, Registry, Sight, Stopped, Told};
 use published_trees::{ChangeCount, SeenChanges};
@@ -28,7 +28,7 @@ use std::sync::Wait;
 use std::sync::ledger::Blank;
 use std::thread;
 use std::thread::Threads;
-use store_driver::{BUSY_ROOM, open_engine};
+use store_driver::open_engine;
 use store_engine::StoreEngine;
 
 /// What came of a client's use of a store.
@@ -49,16 +49,24 @@ pub struct Served<T: Drop> {
 /// whatever a crash leaves recovers a beginning of what was accepted by then. Each thread's report is so in a beginning of
 /// it. Nobody but the threads asked for an event of it, but for the ends of sessions that a client left open.
 ///
-/// What no thread can be made for runs on the caller's. No more than 32 sessions are open at once.
+/// What no thread can be made for runs on the caller's. No more than 32 sessions are open at once. The gate sets the
+/// flusher's pace: [`BusyGate`](crate::BusyGate) serves most programs.
 ///
 /// Refused if the store isn't opened, and with `NoMemory` or `NoSeat` if there can be no registry; the client doesn't
 /// run then.
-pub fn serve<D: Disk + Send, C: Client<R, T> + Sync, T: Send + Drop, R: Threads + Wait + Sync>(
+pub fn serve<
+    D: Disk + Send,
+    C: Client<R, T> + Sync,
+    T: Send + Drop,
+    R: Threads + Wait + Sync,
+    G: Gate + Sync,
+>(
     rt: &R,
     alloc: Global,
     disk: D,
     client: &C,
     threads: usize,
+    gate: &G,
 ) -> (D, Result<Served<T>, Refusal>)
     ensures kept { IfOk result.1 (KeepsStore D.faithful D.state_at D.clock D.failures C.reports
         (seen_in (D.state_at disk (D.clock disk))) result.0 threads) }
@@ -72,7 +80,7 @@ pub fn serve<D: Disk + Send, C: Client<R, T> + Sync, T: Send + Drop, R: Threads 
         Err((why, disk)) => return (disk, Err(why)),
     };
     let (count, seen) = ChangeCount::open();
-    let (engine, served) = serve_over::<Brand, _, _, _, _>(
+    let (engine, served) = serve_over::<Brand, _, _, _, _, _>(
         rt,
         alloc,
         engine,
@@ -84,6 +92,7 @@ pub fn serve<D: Disk + Send, C: Client<R, T> + Sync, T: Send + Drop, R: Threads 
             client,
             threads,
             opened,
+            gate,
         },
     );
     engine.keeps_a_prefix(); // for the prover
@@ -91,12 +100,13 @@ pub fn serve<D: Disk + Send, C: Client<R, T> + Sync, T: Send + Drop, R: Threads 
     (engine.into_disk(), served)
 }
 
-// a client, the number of its threads, and that of the last change as the store was opened
+// a client, the number of its threads, that of the last change as the store was opened, and the flusher's gate
 #[derive(Drop)]
-struct Sharing<'a, C> {
+struct Sharing<'a, C, G> {
     client: &'a C,
     threads: usize,
     opened: u64,
+    gate: &'a G,
 }
 
 // the same over an engine that was just opened, with an empty list of changes
@@ -106,6 +116,7 @@ fn serve_over<
     C: Client<R, T> + Sync,
     T: Send + Drop,
     R: Threads + Wait + Sync,
+    G: Gate + Sync,
 >(
     rt: &R,
     alloc: Global,
@@ -114,7 +125,7 @@ fn serve_over<
     events: EventCount,
     count: ChangeCount,
     seen: SeenChanges,
-    sharing: Sharing<'_, C>,
+    sharing: Sharing<'_, C, G>,
 ) -> (E, Result<Served<T>, Refusal>)
     requires shared { O.sole ≡ false }
     requires blank { (blank.name ≡ O.name) × (blank.parts ≡ O.parts) }
@@ -131,7 +142,7 @@ fn serve_over<
     ensures owner { IsOf O.trees O.number O.hives (E.state result.0).machine }
     ensures opened { IfOk result.1 (λ served. served.opened ≡ sharing.entry.opened) }
     ensures kept { HasLedWith O.start O.safe O.faithful (E.safe result.0) (E.faithful result.0) (E.state result.0)
-        (λ history. IfOk result.1 (TellsOf C.reports O.sole O.start O.trees O.number O.hives history (E.state result.0)
+        (λ history. IfOk result.1 (TellsOf (C.reports O.store) O.sole O.start O.trees O.number O.hives history (E.state result.0)
         sharing.entry.threads)) }
     ensures refused { IfErr result.1 (λ why. (why ≡ NoMemory) ⊎ (why ≡ NoSeat)) }
 {
@@ -140,6 +151,7 @@ fn serve_over<
         client,
         threads,
         opened,
+        gate,
     } = sharing;
     let before = events.all().again();
     let changes = seen.again();
@@ -155,7 +167,7 @@ fn serve_over<
         Ok(registry) => registry,
         Err((why, engine)) => return (engine, Err(why)),
     };
-    let (seats, flushed) = share(rt, &registry, client, seats);
+    let (seats, flushed) = share(rt, &registry, client, seats, gate);
     settle::<O, C, T, R>(seats, &mut permissions, &mut accounts);
     let all = seen_at_end(&accounts, &flushed, &before);
     let Ended {
@@ -179,27 +191,29 @@ fn share<
     C: Client<R, T> + Sync,
     T: Send + Drop,
     R: Threads + Wait + Sync,
+    G: Gate + Sync,
 >(
     rt: &R,
     registry: &Registry<E, O>,
     client: &C,
     seats: Vec<Seat<O, T>>,
+    gate: &G,
 ) -> (Vec<Seat<O, T>>, Result<Stopped, Told>)
     requires first { All (λ seat. seat.asker ≡ Some no_sight) seats.items }
     ensures count { length result.0.items ≡ length seats.items }
-    ensures ended { All (λ seat. HasFinished C.reports O.sole O.start O.trees O.number O.hives seat.asker seat.report) result.0.items }
+    ensures ended { All (λ seat. HasFinished (C.reports O.store) O.sole O.start O.trees O.number O.hives seat.asker seat.report) result.0.items }
     ensures stopped { IfOk result.1 (IsDone O.history O.start) }
     ensures failed { IfErr result.1 IsFailedStep }
 {
-    run_beside_from(
+    run_beside(
         rt,
         registry,
-        BUSY_ROOM,
+        gate,
         move || -> Vec<Seat<O, T>>
             requires { IsSend E.row × IsSync C.row × IsSync R.row × IsSend T.row × IsSend O.row
                 × All (λ seat. seat.asker ≡ Some no_sight) seats.items }
             ensures { (length result.items ≡ length seats.items)
-                × All (λ seat. HasFinished C.reports O.sole O.start O.trees O.number O.hives seat.asker seat.report) result.items }
+                × All (λ seat. HasFinished (C.reports O.store) O.sole O.start O.trees O.number O.hives seat.asker seat.report) result.items }
         {
             let mut seats = seats;
             let threads = seats.len().max(1);
@@ -209,7 +223,7 @@ fn share<
                 threads,
                 &|thread: usize, seat: &mut Seat<O, T>|
                     requires { seat.now.asker ≡ Some no_sight }
-                    ensures { HasFinished C.reports O.sole O.start O.trees O.number O.hives seat.exit.now.asker seat.exit.now.report }
+                    ensures { HasFinished (C.reports O.store) O.sole O.start O.trees O.number O.hives seat.exit.now.asker seat.exit.now.report }
                 { seat.work(rt, registry, client, thread) },
             );
             seats

@@ -38,7 +38,7 @@ impl<R: Wait, T: Drop, C: SessionClient<R, T> + Drop> Client<R, Result<T, Refusa
     for InSession<C> {
     ghost use Rattle.shared_store.specs.Accounts.{Did};
 
-    ghost reports = { λ sole begun trees number hives is report. Did C.tells sole begun trees number hives is report };
+    ghost reports = { λ store sole begun trees number hives is report. Did C.tells sole begun trees number hives is report };
 
     fn run<E: StoreEngine, O: Start>(
         &self,

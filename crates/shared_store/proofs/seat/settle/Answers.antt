@@ -16,19 +16,19 @@ loop-seat-init g c =
     let parts = c.into_iter-seat-iterator.ensures.into_iter_gives.0 in
     record {
       parts = parts;
-      done = subst (λ (l : List (Seat g.row.O.Denot g.row.T.Denot)). All (λ seat. HasFinished g.C.Client.reports S.sole S.start O.trees O.number O.hives seat.asker seat.report) l) (sym parts) c.requires.done;
+      done = subst (λ (l : List (Seat g.row.O.Denot g.row.T.Denot)). All (λ seat. HasFinished (g.C.Client.reports S.store) S.sole S.start O.trees O.number O.hives seat.asker seat.report) l) (sym parts) c.requires.done;
       left = omega arith;
       count = ap (λ (l : List (Account g.row.T.Denot)). length l) c.requires.empty;
       room = c.requires.room;
       book = subst (λ (l : List (Account g.row.T.Denot)). All (λ account. account.seen.book ≡ S.history) l) (sym c.requires.empty) (All-nil (λ (account : Account g.row.T.Denot). account.seen.book ≡ S.history));
-      together = subst (λ (l : List (Account g.row.T.Denot)). AskTogether g.C.Client.reports S.sole S.start O.trees O.number O.hives l c.args.permissions.now.asked) (sym c.requires.empty) c.requires.unused;
+      together = subst (λ (l : List (Account g.row.T.Denot)). AskTogether (g.C.Client.reports S.store) S.sole S.start O.trees O.number O.hives l c.args.permissions.now.asked) (sym c.requires.empty) c.requires.unused;
     }
 
 pub into_account-account-requires-clause-asked : goal.into_account-account-requires-clause-asked
 into_account-account-requires-clause-asked g c none =
     let O = g.O.Origin in
     let S = g.O.Start in
-    let P : Seat g.row.O.Denot g.row.T.Denot → Type 0 = λ seat. HasFinished g.C.Client.reports S.sole S.start O.trees O.number O.hives seat.asker seat.report in
+    let P : Seat g.row.O.Denot g.row.T.Denot → Type 0 = λ seat. HasFinished (g.C.Client.reports S.store) S.sole S.start O.trees O.number O.hives seat.asker seat.report in
     let now = All-head P c.in-Some.seat c.next.new.self.rest.items (subst (λ (l : List (Seat g.row.O.Denot g.row.T.Denot)). All P l) c.in-Some.ensures.steps.0 c.loop-seat.invariant.done) in
     absurd (cc (sym none ∙ now.2))
 
@@ -36,7 +36,7 @@ pub into_account-account-requires-clause-done : goal.into_account-account-requir
 into_account-account-requires-clause-done g c none =
     let O = g.O.Origin in
     let S = g.O.Start in
-    let P : Seat g.row.O.Denot g.row.T.Denot → Type 0 = λ seat. HasFinished g.C.Client.reports S.sole S.start O.trees O.number O.hives seat.asker seat.report in
+    let P : Seat g.row.O.Denot g.row.T.Denot → Type 0 = λ seat. HasFinished (g.C.Client.reports S.store) S.sole S.start O.trees O.number O.hives seat.asker seat.report in
     let now = All-head P c.in-Some.seat c.next.new.self.rest.items (subst (λ (l : List (Seat g.row.O.Denot g.row.T.Denot)). All P l) c.in-Some.ensures.steps.0 c.loop-seat.invariant.done) in
     absurd (cc (sym none ∙ now.3))
 
@@ -44,7 +44,7 @@ pub loop-seat-preserved : goal.loop-seat-preserved
 loop-seat-preserved g c =
     let O = g.O.Origin in
     let S = g.O.Start in
-    let P : Seat g.row.O.Denot g.row.T.Denot → Type 0 = λ seat. HasFinished g.C.Client.reports S.sole S.start O.trees O.number O.hives seat.asker seat.report in
+    let P : Seat g.row.O.Denot g.row.T.Denot → Type 0 = λ seat. HasFinished (g.C.Client.reports S.store) S.sole S.start O.trees O.number O.hives seat.asker seat.report in
     let was = c.loop-seat.invariant in
     let seat = c.in-Some.seat in
     let rest = c.next.new.self.rest.items in
@@ -58,8 +58,8 @@ loop-seat-preserved g c =
     let seen : (account.seen ≡ record { book = S.history; log = is.history }) × (c.into_account-account.new.permissions.asked ≡ c.loop-seat.permissions.asked + is.asked) =
     subst (λ o. MatchOption o ⊥ (λ (s : Sight). (account.seen ≡ record { book = S.history; log = s.history }) × (c.into_account-account.new.permissions.asked ≡ c.loop-seat.permissions.asked + s.asked))) now.2 made.seen in
     let same : now.1 ≡ account.report = cc (sym now.3 ∙ made.report) in
-    let did = subst (λ (r : g.row.T.Denot). g.C.Client.reports S.sole S.start O.trees O.number O.hives is r) same now.4 in
-    let joined = one_more g.C.Client.reports S.sole S.start O.trees O.number O.hives c.loop-seat.accounts.items c.loop-seat.permissions.asked account is was.together (ap (λ (s : SeenHistory). s.log) seen.0, did) in
+    let did = subst (λ (r : g.row.T.Denot). (g.C.Client.reports S.store) S.sole S.start O.trees O.number O.hives is r) same now.4 in
+    let joined = one_more (g.C.Client.reports S.store) S.sole S.start O.trees O.number O.hives c.loop-seat.accounts.items c.loop-seat.permissions.asked account is was.together (ap (λ (s : SeenHistory). s.log) seen.0, did) in
     record {
       parts = append_assoc c.loop-seat.yielded (seat ∷ []) rest ∙ (ap (λ (l : List (Seat g.row.O.Denot g.row.T.Denot)). c.loop-seat.yielded ++ l) (sym step) ∙ was.parts);
       done = All-tail P seat rest all;
@@ -68,6 +68,6 @@ loop-seat-preserved g c =
       room = omega (arith, was.room, c.in-Ok.ensures.capacity);
       book = subst (λ (l : List (Account g.row.T.Denot)). All (λ account. account.seen.book ≡ S.history) l) (sym items)
           (All-push (λ (account : Account g.row.T.Denot). account.seen.book ≡ S.history) c.loop-seat.accounts.items account was.book (ap (λ (s : SeenHistory). s.book) seen.0));
-      together = subst (λ (l : List (Account g.row.T.Denot)). AskTogether g.C.Client.reports S.sole S.start O.trees O.number O.hives l c.into_account-account.new.permissions.asked) (sym items)
-          (subst (λ (n : ℕ). AskTogether g.C.Client.reports S.sole S.start O.trees O.number O.hives (c.loop-seat.accounts.items ++ account ∷ []) n) (sym seen.1) joined);
+      together = subst (λ (l : List (Account g.row.T.Denot)). AskTogether (g.C.Client.reports S.store) S.sole S.start O.trees O.number O.hives l c.into_account-account.new.permissions.asked) (sym items)
+          (subst (λ (n : ℕ). AskTogether (g.C.Client.reports S.store) S.sole S.start O.trees O.number O.hives (c.loop-seat.accounts.items ++ account ∷ []) n) (sym seen.1) joined);
     }
