@@ -1,2 +1,9 @@
+mod LineKinds
+mod Texts
+mod Subjects
+mod Followers
+mod Slices
+mod Followed
 mod Serving
+mod Ends
 mod Openings

@@ -1,3 +1,6 @@
 pub mod Served
+pub mod Following
+pub mod Steps
+pub mod OwnLines
 pub mod Visits
 pub mod Generations

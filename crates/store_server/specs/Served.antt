@@ -1,9 +1,8 @@
 -- What a served session answers to lines.
-use Rattle.std.specs.Prelude.{◌≡◌, ◌⊎◌, ◌++◌, ℕ, Bool, true, List, [], ◌∷◌, Some, None}
+use Rattle.std.specs.Prelude.{◌≡◌, ◌⊎◌, ℕ, Bool, true, List, Some}
 use Rattle.refusals.specs.declared.refusal.Refusal.{Refusal}
 use Rattle.refusals.specs.declared.refusal.Refusal.TheVariants.{Conflict, NoMemory, NoSeat, Unsupported}
 use Rattle.reg_tree.specs.Maps.{TreeMap}
-use Rattle.reply_lines.specs.Replies.{reply_line}
 use Rattle.reply_lines.specs.declared.reply.ReplyLine.{ReplyLine}
 use Rattle.script_runner.specs.Plays.{is_refusal}
 use Rattle.script_runner.specs.Scripts.{line_asked}
@@ -51,16 +50,3 @@ AnswersServed sole origin trees number hives old asked reported new = AnswersKin
 -- from old these bytes are a line, which is answered so
 abbrev pub AnswersBytes : Bool → EngineView → List TreeMap → ℕ → ℕ → Script → List ℕ → ReplyLine → Script → Type 0
 AnswersBytes sole origin trees number hives old bytes reported new = (asked : Line) × (line_asked bytes ≡ Some asked) × AnswersServed sole origin trees number hives old asked reported new
-
--- From old these lines were answered in turn by these replies, each in the state that the last one left, and new is left.
-abbrev pub AnswersLines : Bool → EngineView → List TreeMap → ℕ → ℕ → Script → List (List ℕ) → List ReplyLine → Script → Type 0
-AnswersLines sole origin trees number hives old [] [] new = new ≡ old
-AnswersLines sole origin trees number hives old [] (reply ∷ replies) new = ⊥
-AnswersLines sole origin trees number hives old (bytes ∷ lines) [] new = ⊥
-AnswersLines sole origin trees number hives old (bytes ∷ lines) (reply ∷ replies) new =
-    (mid : Script) × AnswersBytes sole origin trees number hives old bytes reply mid × AnswersLines sole origin trees number hives mid lines replies new
-
--- the text of replies, one a line
-abbrev pub replies_text : List ReplyLine → List ℕ
-replies_text [] = []
-replies_text (reply ∷ replies) = reply_line reply ++ replies_text replies

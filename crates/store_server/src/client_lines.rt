@@ -1,7 +1,7 @@
 //! The lines of a client, as its session reads them.
 
 use crate::history_share::HistoryShare;
-use client_desks::{Desk, DeskReader, Desks, InputEnd};
+use client_desks::{Desk, DeskReader, Desks, InputEnd, NewsWait};
 use registry_lines::number_told;
 use reply_lines::ReplyLine;
 use script_loop::{EndOfScript, next_line};
@@ -79,12 +79,54 @@ impl<'a, R: Wait + Print> ClientLines<'a, R> {
         self.desk.has_line(self.rt)
     }
 
-    /// The reply to a line told this.
+    /// How many clients have a place.
+    pub fn clients(&self) -> usize {
+        self.desks.clients(self.rt)
+    }
+
+    /// The reply to a line told this. Those who follow are woken if it told that something is durable.
     pub fn note_reply(&self, reply: &ReplyLine) {
         let number = number_told(reply);
         if number > 0 {
             self.share.note_change(self.rt, self.desks, number);
         }
+        if matches!(
+            reply,
+            ReplyLine::Committed { .. } | ReplyLine::Flushed { .. }
+        ) {
+            self.note_durable();
+        }
+    }
+
+    /// Something is durable: those who follow are woken.
+    pub fn note_durable(&self) {
+        self.desks.tell_news(self.rt);
+    }
+
+    /// The session follows changes from now on: it is told if there are news.
+    pub fn follow(&self) {
+        self.desk.follow(self.rt);
+    }
+
+    /// The session follows no changes any more.
+    pub fn unfollow(&self) {
+        self.desk.unfollow();
+    }
+
+    /// How often there were news.
+    pub fn news(&self) -> u64 {
+        self.desk.news()
+    }
+
+    /// Waits until there are other news than these, or until the session has something else to do. One that knows of its end
+    /// isn't told of it again.
+    pub fn wait_for_news(&self, known: u64, knows_end: bool) -> NewsWait {
+        self.desk.wait_for_news(self.rt, known, knows_end)
+    }
+
+    /// Whether only sessions that follow are left, once a rest or a stop was asked for: no other change is made then.
+    pub fn is_followed_alone(&self) -> bool {
+        self.desk.is_followed_alone()
     }
 
     /// Why there is no further line.

@@ -7,6 +7,7 @@ use crate::client_lines::ClientLines;
 use crate::clients::Clients;
 use crate::served_lines::{LinesServed, serve_lines};
 use crate::served_script::{ServedScript, Workplace};
+use crate::session_ends::SessionEnds;
 use client_desks::{Desk, DeskWriter, InputEnd};
 use histories::Start;
 use ktm_calls::Asker;
@@ -17,6 +18,7 @@ use script_loop::wrong;
 use std::io;
 use std::io::Write;
 use std::sync::Wait;
+use store_backup::BackupFolder;
 use store_engine::StoreEngine;
 
 /// Where the session of a client begins.
@@ -39,7 +41,7 @@ enum VisitEnd {
     Rests { line: u64 },
 }
 
-impl Clients<'_> {
+impl<B: BackupFolder> Clients<'_, B> {
     /// Serves a client from here to its last line, or to a rest. Its session ends with all of its transactions, whatever
     /// ended the lines; then its place is free, or the client waits for its next session.
     pub(crate) fn serve_client<E: StoreEngine, O: Start, R: Wait + Print>(
@@ -48,8 +50,8 @@ impl Clients<'_> {
         desk: Desk<'_>,
         start: VisitStart,
         asker: Asker<O>,
-    ) -> Asker<O>
-        ensures { ServesClient O.sole O.start O.trees O.number O.hives asker result }
+    ) -> (Asker<O>, SessionEnds)
+        ensures { ServesClient B.holds O.store O.sole O.start O.trees O.number O.hives asker result.0 result.1 }
     {
         let mut writer = DeskWriter::new(caller.rt, caller.alloc, desk);
         let script = match Script::begin(caller, asker, start.moment) {
@@ -58,21 +60,25 @@ impl Clients<'_> {
                 // a client that can't be told has gone
                 let _ = tell(&mut writer, why);
                 desk.clear(caller.rt);
-                return asker;
+                return (asker, SessionEnds::Granted);
             }
         };
         let mut session = ServedScript::new(caller.alloc, script);
         let end = self.serve_session(caller, desk, start, &mut session, &mut writer);
         let moment = session.script.moment;
         let open = session.open.count();
-        let asker = session.finish(caller);
+        let (asker, ends) = session.finish(caller);
+        if ends == SessionEnds::Denied {
+            // its transactions stay open up to the end of the service
+            self.desks.stop(caller.rt);
+        }
         self.units.leave_all(caller.rt, desk.place());
         self.share.close_transactions(caller.rt, self.desks, open);
         match end {
             VisitEnd::Left => desk.clear(caller.rt),
             VisitEnd::Rests { line } => desk.park(caller.rt, moment, line),
         }
-        asker
+        (asker, ends)
     }
 
     // tells a client that its session was opened, and serves its lines; all replies were written, or nobody reads them
@@ -84,7 +90,7 @@ impl Clients<'_> {
         session: &mut ServedScript<O>,
         writer: &mut DeskWriter<'_, R>,
     ) -> VisitEnd
-        ensures { HasServed O.sole O.start O.trees O.number O.hives (script_of session.old.script)
+        ensures { HasServed B.holds O.store O.sole O.start O.trees O.number O.hives (script_of session.old.script)
             (script_of session.new.script) }
     {
         let flushed = session.script.flush(caller);
@@ -108,6 +114,7 @@ impl Clients<'_> {
             units: self.units,
             share: self.share,
             desks: self.desks,
+            backups: self.backups,
         };
         let served = serve_lines(caller, &at, session, &mut lines, writer);
         let _ = write_end(served, &lines, writer);
@@ -134,6 +141,7 @@ impl Clients<'_> {
             return Err(io::ErrorKind::Other.into());
         };
         self.share.note_opening(caller.rt, *number);
+        self.desks.tell_news(caller.rt);
         if start.is_resumed {
             return Ok(());
         }

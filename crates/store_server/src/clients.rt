@@ -5,6 +5,7 @@ ghost use Rattle.store_server.specs.Visits.{ServesInTurn};
 
 use crate::client_visit::VisitStart;
 use crate::history_share::HistoryShare;
+use crate::session_ends::SessionEnds;
 use client_desks::{Arrival, Desk, Desks, Units};
 use histories::Start;
 use ktm_calls::{Asker, Registry};
@@ -12,12 +13,13 @@ use registry_lines::Caller;
 use shared_store::Client;
 use std::alloc::Global;
 use std::sync::Wait;
+use store_backup::BackupFolder;
 use store_engine::StoreEngine;
 
 /// What each thread of a service does: it serves the clients at its desk, one after another, until all are to stop or to
 /// rest.
 #[derive(Drop)]
-pub struct Clients<'a> {
+pub struct Clients<'a, B> {
     /// From where memory is taken.
     pub alloc: Global,
     /// The desks.
@@ -26,14 +28,16 @@ pub struct Clients<'a> {
     pub units: &'a Units,
     /// What is left of the history.
     pub share: &'a HistoryShare,
+    /// Where copies of the store are made.
+    pub backups: &'a B,
     /// Whether the store is opened for the first time, which the broker is told.
     pub is_first: bool,
 }
 
-impl<R: Wait + Print> Client<R, ()> for Clients<'_> {
+impl<R: Wait + Print, B: BackupFolder> Client<R, SessionEnds> for Clients<'_, B> {
     ghost use Rattle.store_server.specs.Visits.{ReportsVisits};
 
-    ghost reports = { ReportsVisits };
+    ghost reports = { ReportsVisits B.holds };
 
     fn run<E: StoreEngine, O: Start>(
         &self,
@@ -41,7 +45,7 @@ impl<R: Wait + Print> Client<R, ()> for Clients<'_> {
         registry: &Registry<E, O>,
         asker: Asker<O>,
         thread: usize,
-    ) -> (Asker<O>, ()) {
+    ) -> (Asker<O>, SessionEnds) {
         let caller = Caller {
             rt,
             alloc: self.alloc,
@@ -52,24 +56,25 @@ impl<R: Wait + Print> Client<R, ()> for Clients<'_> {
             let _ = self.desks.write_ready(rt);
         }
         let Some(desk) = self.desks.desk(thread) else {
-            return (asker, ());
+            return (asker, SessionEnds::Granted);
         };
-        let asker = self.serve_desk(&caller, desk, asker);
-        (asker, ())
+        self.serve_desk(&caller, desk, asker)
     }
 }
 
-impl Clients<'_> {
+impl<B: BackupFolder> Clients<'_, B> {
     // serves the clients at a desk, one after another
     fn serve_desk<E: StoreEngine, O: Start, R: Wait + Print>(
         &self,
         caller: &Caller<'_, E, O, R>,
         desk: Desk<'_>,
         asker: Asker<O>,
-    ) -> Asker<O>
-        ensures { (visits : List AnySight) × ServesInTurn O.sole O.start O.trees O.number O.hives asker visits result }
+    ) -> (Asker<O>, SessionEnds)
+        ensures { (visits : List AnySight) × ServesInTurn B.holds O.store O.sole O.start O.trees O.number O.hives asker visits
+            result.0 result.1 }
     {
         let mut asker = asker;
+        let mut ends = SessionEnds::Granted;
         for _ in caller.rt.forever() {
             let start = match desk.wait(caller.rt) {
                 Arrival::Client => VisitStart {
@@ -82,9 +87,11 @@ impl Clients<'_> {
                     line,
                     is_resumed: true,
                 },
-                Arrival::Rest | Arrival::Stop => return asker,
+                Arrival::Rest | Arrival::Stop => return (asker, ends),
             };
-            asker = self.serve_client(caller, desk, start, asker);
+            let (back, ended) = self.serve_client(caller, desk, start, asker);
+            asker = back;
+            ends = ends.and(ended);
         }
         unreachable!()
     }

@@ -8,11 +8,18 @@
 mod client_lines;
 mod client_visit;
 mod clients;
+mod following;
 mod generations;
 mod history_share;
+pub mod laws;
+mod news_gate;
 mod open_transactions;
+mod own_lines;
 mod served_kind;
 mod served_lines;
 mod served_script;
+mod session_ends;
+mod subject;
 
 pub use generations::serve_desks;
+pub use session_ends::SessionEnds;

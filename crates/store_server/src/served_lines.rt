@@ -1,13 +1,15 @@
 //! The lines of a client, one after another.
-ghost use Rattle.std.specs.Prelude.{IfErr, List, OnOk, ℕ};
-ghost use Rattle.std.specs.Io.KnownBytes.{Appends};
+ghost use Rattle.std.specs.Prelude.{◌≡◌, IfErr, List, OnOk, ℕ};
+ghost use Rattle.std.specs.Io.KnownBytes.{Appends, Keeps};
 ghost use Rattle.reply_lines.specs.Replies.{reply_line};
-ghost use Rattle.reply_lines.specs.declared.reply.ReplyLine.{ReplyLine as AnyReply};
+ghost use Rattle.served_replies.specs.ServedReplies.{served_texts};
+ghost use Rattle.served_replies.specs.declared.reply.ServedReply.{ServedReply as AnyReply};
 ghost use Rattle.registry_lines.specs.Interpreters.{script_of};
-ghost use Rattle.store_server.specs.Served.{AnswersBytes};
+ghost use Rattle.store_server.specs.OwnLines.{AnswersTold};
 ghost use Rattle.store_server.specs.Visits.{ServesLines};
 
 use crate::client_lines::ClientLines;
+use crate::own_lines::{answer_own, own_line};
 use crate::served_script::{ServedScript, Workplace};
 use histories::Start;
 use registry_lines::Caller;
@@ -17,6 +19,7 @@ use std::alloc::AllocError;
 use std::io;
 use std::io::Write;
 use std::sync::Wait;
+use store_backup::BackupFolder;
 use store_engine::StoreEngine;
 
 /// How the lines of a client end.
@@ -34,14 +37,14 @@ pub enum LinesServed {
 
 /// Reads the lines of a client and lets each be answered, up to one that is none. A reply is written out before its session
 /// waits for a further line.
-pub fn serve_lines<E: StoreEngine, O: Start, R: Wait + Print, W: Write>(
+pub fn serve_lines<B: BackupFolder, E: StoreEngine, O: Start, R: Wait + Print, W: Write>(
     caller: &Caller<'_, E, O, R>,
-    at: &Workplace<'_>,
+    at: &Workplace<'_, B>,
     session: &mut ServedScript<O>,
     lines: &mut ClientLines<'_, R>,
     writer: &mut W,
 ) -> LinesServed
-    ensures { ServesLines O.sole O.start O.trees O.number O.hives (script_of session.old.script)
+    ensures { ServesLines B.holds O.store O.sole O.start O.trees O.number O.hives (script_of session.old.script)
         (W.contents writer.old) result (script_of session.new.script) (W.contents writer.new) }
 {
     for _ in 0..u64::MAX {
@@ -53,19 +56,19 @@ pub fn serve_lines<E: StoreEngine, O: Start, R: Wait + Print, W: Write>(
     LinesServed::Over
 }
 
-// reads a line and writes the reply to it
-fn serve_line<E: StoreEngine, O: Start, R: Wait + Print, W: Write>(
+// reads a line and writes the replies to it
+fn serve_line<B: BackupFolder, E: StoreEngine, O: Start, R: Wait + Print, W: Write>(
     caller: &Caller<'_, E, O, R>,
-    at: &Workplace<'_>,
+    at: &Workplace<'_, B>,
     session: &mut ServedScript<O>,
     lines: &mut ClientLines<'_, R>,
     writer: &mut W,
 ) -> Result<(), LinesServed>
-    ensures served { OnOk result ((bytes : List ℕ) × (reply : AnyReply)
-        × AnswersBytes O.sole O.start O.trees O.number O.hives (script_of session.old.script) bytes reply
+    ensures served { OnOk result ((bytes : List ℕ) × (told : List AnyReply)
+        × AnswersTold B.holds O.store O.sole O.start O.trees O.number O.hives (script_of session.old.script) bytes told
         (script_of session.new.script)
-        × Appends (W.contents writer.old) (W.contents writer.new) (reply_line reply)) }
-    ensures ended { IfErr result (λ end. ServesLines O.sole O.start O.trees O.number O.hives
+        × Appends (W.contents writer.old) (W.contents writer.new) (served_texts O.hives told)) }
+    ensures ended { IfErr result (λ end. ServesLines B.holds O.store O.sole O.start O.trees O.number O.hives
         (script_of session.old.script) (W.contents writer.old) end (script_of session.new.script)
         (W.contents writer.new)) }
 {
@@ -82,6 +85,35 @@ fn serve_line<E: StoreEngine, O: Start, R: Wait + Print, W: Write>(
                 Err(_) => Err(LinesServed::Unwritten),
             }
         }
+        Ok(None) => serve_own_line(caller, at, session, lines, writer),
+        Err(AllocError) => Err(LinesServed::OutOfMemory),
+    }
+}
+
+// serves the line that was read, which scripts don't have
+fn serve_own_line<B: BackupFolder, E: StoreEngine, O: Start, R: Wait + Print, W: Write>(
+    caller: &Caller<'_, E, O, R>,
+    at: &Workplace<'_, B>,
+    session: &mut ServedScript<O>,
+    lines: &ClientLines<'_, R>,
+    writer: &mut W,
+) -> Result<(), LinesServed>
+    ensures served { OnOk result ((bytes : List ℕ) × (told : List AnyReply)
+        × AnswersTold B.holds O.store O.sole O.start O.trees O.number O.hives (script_of session.old.script) bytes told
+        (script_of session.new.script)
+        × Appends (W.contents writer.old) (W.contents writer.new) (served_texts O.hives told)) }
+    ensures ended { IfErr result (λ end. ServesLines B.holds O.store O.sole O.start O.trees O.number O.hives
+        (script_of session.old.script) (W.contents writer.old) end (script_of session.new.script)
+        (W.contents writer.new)) }
+{
+    match own_line(caller.alloc, lines.bytes()) {
+        Ok(Some(line)) => {
+            answer_own(caller, at.backups, &mut session.script, lines, writer, line)?;
+            match flush_unless_followed(writer, lines.has_line()) {
+                Ok(()) => Ok(()),
+                Err(_) => Err(LinesServed::Unwritten),
+            }
+        }
         Ok(None) => Err(LinesServed::NotUnderstood),
         Err(AllocError) => Err(LinesServed::OutOfMemory),
     }
@@ -93,6 +125,13 @@ fn write_reply<W: Write>(writer: &mut W, reply: &ReplyLine, is_followed: bool) -
         (reply_line reply.now)) }
 {
     reply.write(writer)?;
+    flush_unless_followed(writer, is_followed)
+}
+
+// writes out what was written, unless another line follows at once
+fn flush_unless_followed<W: Write>(writer: &mut W, is_followed: bool) -> io::Result<()>
+    ensures { Keeps (W.contents writer.old) (W.contents writer.new) }
+{
     if !is_followed {
         writer.flush()?;
     }

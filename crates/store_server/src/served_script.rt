@@ -5,15 +5,16 @@ ghost use Rattle.reply_lines.specs.declared.reply.ReplyLine.TheVariants.{Refused
 ghost use Rattle.script_runner.specs.Scripts.{later_line, line_asked};
 ghost use Rattle.script_syntax.specs.declared.line.Line.TheVariants as line;
 ghost use Rattle.ktm_calls.specs.Moments.{SeesMore};
-ghost use Rattle.shared_store.specs.Accounts.{EndsOrNot};
 ghost use Rattle.registry_lines.specs.Interpreters.{script_of};
 ghost use Rattle.registry_lines.specs.Scripts.{Answers};
 ghost use Rattle.store_server.specs.Served.{AnswersBytes, AnswersServed, IsBeginRefusal, TellsDurablyKept, kind_of as kind_of_line};
+ghost use Rattle.store_server.specs.Visits.{EndsSessionAs};
 ghost use Rattle.store_server.specs.declared.served_kind.ServedKind.TheVariants.{Other};
 
 use crate::history_share::HistoryShare;
 use crate::open_transactions::OpenTransactions;
 use crate::served_kind::{ServedKind, kind_of};
+use crate::session_ends::SessionEnds;
 use client_desks::{Desks, UnitRefusal, Units};
 use client_frames::ClientPlace;
 use histories::Start;
@@ -31,7 +32,7 @@ use word_syntax::ParseError;
 
 /// Where a session works: the place of its client, and what it shares with the sessions at other places.
 #[derive(Drop)]
-pub struct Workplace<'a> {
+pub struct Workplace<'a, B> {
     /// The client's place.
     pub place: ClientPlace,
     /// The units of work that are active.
@@ -40,9 +41,11 @@ pub struct Workplace<'a> {
     pub share: &'a HistoryShare,
     /// The desks of all clients.
     pub desks: &'a Desks,
+    /// Where copies of the store are made.
+    pub backups: &'a B,
 }
 
-impl Workplace<'_> {
+impl<B> Workplace<'_, B> {
     // a unit of work isn't active here any more
     fn leave<R: Wait>(&self, rt: &R, unit: Uuid) {
         self.units.leave(rt, self.place, unit);
@@ -93,10 +96,10 @@ impl<O: Start> ServedScript<O> {
 
     /// Answers a line, or `None` if the bytes are no line that a client may send. Memory is refused only for reading the
     /// line, before anything is asked.
-    pub fn reply_to<E: StoreEngine, R: Wait>(
+    pub fn reply_to<E: StoreEngine, R: Wait, B>(
         &mut self,
         caller: &Caller<'_, E, O, R>,
-        at: &Workplace<'_>,
+        at: &Workplace<'_, B>,
         bytes: &[u8],
     ) -> Result<Option<ReplyLine>, AllocError>
         ensures none { IfOk result (λ made. IfNone made
@@ -114,21 +117,27 @@ impl<O: Start> ServedScript<O> {
     }
 
     /// Ends the session, with all of its transactions. Who asked in it comes back.
-    pub fn finish<E: StoreEngine, R: Wait>(self, caller: &Caller<'_, E, O, R>) -> Asker<O>
-        ensures seen { SeesMore (script_of self.script).session.seen result }
-        ensures ended { EndsOrNot O.sole O.start O.trees O.number O.hives (script_of self.script).session.seen result
-            (script_of self.script).session.number }
+    pub fn finish<E: StoreEngine, R: Wait>(
+        self,
+        caller: &Caller<'_, E, O, R>,
+    ) -> (Asker<O>, SessionEnds)
+        ensures seen { SeesMore (script_of self.script).session.seen result.0 }
+        ensures ended { EndsSessionAs O.sole O.start O.trees O.number O.hives (script_of self.script).session.seen result.0
+            (script_of self.script).session.number result.1 }
     {
         let ServedScript { script, open: _ } = self;
-        let (asker, _) = script.finish(caller);
-        asker
+        let (asker, ended) = script.finish(caller);
+        match ended {
+            Ok(_) => (asker, SessionEnds::Granted),
+            Err(_) => (asker, SessionEnds::Denied),
+        }
     }
 
     // answers a line, or `None` if it makes a script's store or only a laboratory takes it
-    fn answer<E: StoreEngine, R: Wait>(
+    fn answer<E: StoreEngine, R: Wait, B>(
         &mut self,
         caller: &Caller<'_, E, O, R>,
-        at: &Workplace<'_>,
+        at: &Workplace<'_, B>,
         line: Line,
     ) -> Option<ReplyLine>
         ensures answered { MatchOption result
@@ -164,10 +173,10 @@ impl<O: Start> ServedScript<O> {
     }
 
     // begins a transaction, unless another session has its unit of work active
-    fn begin<E: StoreEngine, R: Wait>(
+    fn begin<E: StoreEngine, R: Wait, B>(
         &mut self,
         caller: &Caller<'_, E, O, R>,
-        at: &Workplace<'_>,
+        at: &Workplace<'_, B>,
         label: Label,
         id: Uuid,
     ) -> ReplyLine
@@ -194,10 +203,10 @@ impl<O: Start> ServedScript<O> {
 
     // Makes room for a transaction, and lets this place have its unit of work. While sessions are to rest none is begun: a
     // client that tries again is served by its next session
-    fn enter<E: StoreEngine, R: Wait>(
+    fn enter<E: StoreEngine, R: Wait, B>(
         &mut self,
         caller: &Caller<'_, E, O, R>,
-        at: &Workplace<'_>,
+        at: &Workplace<'_, B>,
         id: Uuid,
     ) -> Result<(), Refusal>
         ensures same { self.new.script ≡ self.old.script }
@@ -219,10 +228,10 @@ impl<O: Start> ServedScript<O> {
     }
 
     // answers a line as a run does
-    fn answer_other<E: StoreEngine, R: Wait>(
+    fn answer_other<E: StoreEngine, R: Wait, B>(
         &mut self,
         caller: &Caller<'_, E, O, R>,
-        at: &Workplace<'_>,
+        at: &Workplace<'_, B>,
         line: Line,
     ) -> Option<ReplyLine>
         requires { kind_of_line line ≡ Other }
@@ -246,10 +255,10 @@ impl<O: Start> ServedScript<O> {
     }
 
     // a transaction was ended so: its unit of work isn't active any more
-    fn end_transaction<E: StoreEngine, R: Wait>(
+    fn end_transaction<E: StoreEngine, R: Wait, B>(
         &mut self,
         caller: &Caller<'_, E, O, R>,
-        at: &Workplace<'_>,
+        at: &Workplace<'_, B>,
         ending: Ending,
     )
         ensures { self.new.script ≡ self.old.script }

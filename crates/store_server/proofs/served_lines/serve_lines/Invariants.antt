@@ -10,5 +10,7 @@ abbrev pub invariant-loop : goal.invariant-loop
 invariant-loop g l =
     let O = g.O.Origin in
     let S = g.O.Start in
+    let saves = g.B.BackupFolder.holds in
     let contents = g.W.Write.contents in
-    (end : LinesServed) (new : Script) (is : Option (List ℕ)) → ServesLines S.sole S.start O.trees O.number O.hives (script_of l.session.script) (contents l.writer) end new is → ServesLines S.sole S.start O.trees O.number O.hives (script_of l.fn.session.script) (contents l.fn.writer) end new is
+    (end : LinesServed) (new : Script) (is : Option (List ℕ)) → ServesLines saves S.store S.sole S.start O.trees O.number O.hives (script_of l.session.script) (contents l.writer) end new is
+    → ServesLines saves S.store S.sole S.start O.trees O.number O.hives (script_of l.fn.session.script) (contents l.fn.writer) end new is
