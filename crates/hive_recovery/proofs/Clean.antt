@@ -106,3 +106,11 @@ made_clean sector number size body bytes made sum long fits is_body is_bytes is_
     let all : made ≡ put_at 508 (little_bytes 4 (sum_of (take 508 own))) own = is_made ∙ ap (λ k. put_at 508 (little_bytes 4 k) body) same ∙ ap (put_at 508 (little_bytes 4 (sum_of (take 508 own)))) is_body in
     let Clean : List ℕ → Type 0 = λ sector. is_clean_block (block_at sector) ≡ true in
     subst Clean (sym all) (recovered_clean sector number size long fits (omega (arith, same, small)))
+
+-- the number that is put is the first one
+pub made_numbered : (sector : List ℕ) (number size : ℕ) (body made : List ℕ) (sum : ℕ) → length sector ≡ 512 → number < 2 ^ 32 → body ≡ recovered_body sector number size → made ≡ put_at 508 (little_bytes 4 sum) body → (block_at made).primary.0 ≡ number
+made_numbered sector number size body made sum long fits is_body is_made =
+    let own = recovered_body sector number size in
+    let has = body_has sector number size long fits in
+    let its_long : length own ≡ 512 = has.long in
+    ap (number_at 4 4) (is_made ∙ ap (put_at 508 (little_bytes 4 sum)) is_body) ∙ put_before 4 508 (little_bytes 4 sum) own (omega arith) (omega (arith, its_long)) ∙ has.first

@@ -2,6 +2,7 @@ pub mod Laid
 pub mod Logs
 pub mod Sectors
 pub mod Sequences
+pub mod Limits
 pub mod Runs
 pub mod Plans
 pub mod Recovered

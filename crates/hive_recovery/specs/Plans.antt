@@ -1,5 +1,5 @@
 -- What a recovered hive is made of: which entries are applied, and what its first sector is.
-use Rattle.std.specs.Prelude.{◌≡◌, ◌≤◌, ◌⊎◌, ℕ, ◌-◌, ◌==◌, nat_lt, not, Bool, false, ◌&&◌, if◌then◌else◌, List, [], ◌∷◌, length, take, map, slice_index_or, Option, Some, None, Result, Ok, Err}
+use Rattle.std.specs.Prelude.{◌≡◌, ◌≤◌, ◌⊎◌, ℕ, ◌-◌, ◌==◌, nat_lt, not, Bool, false, ◌&&◌, if◌then◌else◌, List, [], ◌∷◌, length, take, slice_index_or, Option, Some, None, Result, Ok, Err}
 use Rattle.refusals.specs.declared.refusal.Refusal.{Refusal}
 use Rattle.refusals.specs.declared.refusal.Refusal.TheVariants.{HiveDamaged, NoMemory}
 use Rattle.refusals.specs.declared.refusal.Cause.TheVariants.{BadLog, BadBase, Truncated}
@@ -8,8 +8,12 @@ use Rattle.base_block.specs.Layout.{block_at, is_clean_block}
 use Rattle.base_block.specs.declared.block.BaseBlock.{BaseBlock}
 use Rattle.hive_log_entries.specs.Entries.{number_of}
 use Rattle.hive_log_entries.specs.Pages.{bins_size_of}
+use Rattle.base_block.specs.declared.fields.SequenceNumber.{SequenceNumber}
 use Rattle.hive_recovery.specs.Sectors.{recovered_sector}
-use Rattle.hive_recovery.specs.Sequences.{entries_of, is_older, number_behind, in_sequence}
+use Rattle.hive_recovery.specs.Limits.{reach_of, usable, starting, sequence_of}
+use Rattle.hive_recovery.specs.Sequences.{is_older, number_behind}
+use Rattle.hive_recovery.specs.declared.limits.RecoveryLimits.{RecoveryLimits}
+use Rattle.hive_recovery.specs.declared.limits.Reach.{Reach}
 use Rattle.hive_recovery.specs.declared.log.Log.{Log}
 use Rattle.hive_recovery.specs.declared.planning.RecoveryPlan.{RecoveryPlan}
 
@@ -33,53 +37,56 @@ replayed sector entries =
 abbrev pub is_torn_block : BaseBlock → Bool
 is_torn_block block = not ((block.signature.0 == 0x6667_6572) && block.sum_is_right)
 
--- a log has entries, the last of which has a greater number than the last one of another log
-abbrev pub is_newer : Option Log → Log → Bool
-is_newer None log = nat_lt 0 (length (entries_of log))
-is_newer (Some best) log = nat_lt 0 (length (entries_of log)) && is_older (number_behind 0 (entries_of best)) (number_behind 0 (entries_of log))
+-- a log has entries that may be applied, the last of which has a greater number than the last one of another log
+abbrev pub is_newer : Option SequenceNumber → Option Log → Log → Bool
+is_newer most None log = nat_lt 0 (length (usable most log))
+is_newer most (Some best) log = nat_lt 0 (length (usable most log)) && is_older (number_behind 0 (usable most best)) (number_behind 0 (usable most log))
 
--- the newest log of these and another
-abbrev pub newest_of : Option Log → List Log → Option Log
-newest_of best [] = best
-newest_of best (log ∷ rest) = newest_of (if is_newer best log then Some log else best) rest
+-- the newest log of these and another, by the entries that may be applied
+abbrev pub newest_of : Option SequenceNumber → Option Log → List Log → Option Log
+newest_of most best [] = best
+newest_of most best (log ∷ rest) = newest_of most (if is_newer most best log then Some log else best) rest
 
 -- why there is no plan if the base block is torn and no log fits
 abbrev pub no_log : BaseBlock → Refusal
 no_log block = if block.signature.0 == 0x6667_6572 then HiveDamaged 0 BadLog else HiveDamaged 0 BadBase
 
--- all entries of a log, over its own first sector
-abbrev pub log_replayed : Log → Result PlanSeen Refusal
-log_replayed log = if nat_lt (length log.bytes.now) 512 then Err (HiveDamaged 0 BadLog) else replayed (take 512 log.bytes.now) (entries_of log)
+-- the entries of a log that may be applied, over its own first sector: all of them, or those from the first number on
+abbrev pub log_replayed : RecoveryLimits → Log → Result PlanSeen Refusal
+log_replayed limits log =
+    if nat_lt (length log.bytes.now) 512 then Err (HiveDamaged 0 BadLog)
+    else replayed (take 512 log.bytes.now) (starting limits.from (usable limits.to log))
 
--- the plan of a hive whose base block is torn: the newest log, whole
-unfoldable pub torn_plan : BaseBlock → List Log → Result PlanSeen Refusal
-torn_plan block logs = elim (newest_of None logs) as (λ _. Result PlanSeen Refusal) [ None ↦ Err (no_log block) | Some log ↦ log_replayed log ]
+-- the plan of a hive whose base block is torn: the newest log
+unfoldable pub torn_plan : BaseBlock → RecoveryLimits → List Log → Result PlanSeen Refusal
+torn_plan block limits logs = elim (newest_of limits.to None logs) as (λ _. Result PlanSeen Refusal) [ None ↦ Err (no_log block) | Some log ↦ log_replayed limits log ]
 
--- the plan of a hive that wasn't closed cleanly: the entries from its second number on, each in its turn
-unfoldable pub unclean_plan : List ℕ → ℕ → List Log → Result PlanSeen Refusal
-unclean_plan sector number logs = replayed sector (in_sequence (length logs) number number (map entries_of logs))
+-- the plan of a hive that wasn't closed cleanly: the entries within a reach, each in its turn
+unfoldable pub unclean_plan : List ℕ → Reach → List Log → Result PlanSeen Refusal
+unclean_plan sector reach logs = replayed sector (sequence_of reach logs)
 
--- the plan of a hive with a first sector and a block: nothing is applied to a clean one
-unfoldable pub plan_by_block : List ℕ → BaseBlock → List Log → Result PlanSeen Refusal
-plan_by_block sector block logs =
-    if is_torn_block block then torn_plan block logs
+-- the plan of a hive with a first sector and a block: nothing is applied to a clean one, whatever the limits; to one that wasn't
+-- closed cleanly, the entries from its second number on, if the limits tell no other number
+unfoldable pub plan_by_block : List ℕ → BaseBlock → RecoveryLimits → List Log → Result PlanSeen Refusal
+plan_by_block sector block limits logs =
+    if is_torn_block block then torn_plan block limits logs
     else (if is_clean_block block then Ok (record { sector = sector; entries = []; bins_size = block.bins_size })
-    else unclean_plan sector block.secondary.0 logs)
+    else unclean_plan sector (reach_of limits block.secondary) logs)
 
--- the plan of a file and logs
-unfoldable pub plan_of : List ℕ → List Log → Result PlanSeen Refusal
-plan_of file logs =
+-- the plan of a file and logs, within limits
+unfoldable pub plan_of : List ℕ → RecoveryLimits → List Log → Result PlanSeen Refusal
+plan_of file limits logs =
     if nat_lt (length file) 512 then Err (HiveDamaged 0 Truncated)
-    else plan_by_block (take 512 file) (block_at (take 512 file)) logs
+    else plan_by_block (take 512 file) (block_at (take 512 file)) limits logs
 
 -- the file's own base block isn't torn, and is refused
 abbrev pub IsOwnBlockRefused : List ℕ → Refusal → Type 0
 IsOwnBlockRefused file why = (512 ≤ length file) × (is_torn_block (block_at (take 512 file)) ≡ false) × PrimaryRefused (block_at (take 512 file)) why
 
 -- why nothing is chosen: there is no plan, or the file's own base block is refused, or there is no memory
-abbrev pub NothingChosen : List ℕ → List Log → Refusal → Type 0
-NothingChosen file logs why = (why ≡ NoMemory) ⊎ ((plan_of file logs ≡ Err why) ⊎ IsOwnBlockRefused file why)
+abbrev pub NothingChosen : List ℕ → RecoveryLimits → List Log → Refusal → Type 0
+NothingChosen file limits logs why = (why ≡ NoMemory) ⊎ ((plan_of file limits logs ≡ Err why) ⊎ IsOwnBlockRefused file why)
 
 -- why a plan is refused: nothing is chosen, or the base block of the recovered hive is refused
-abbrev pub IsPlanRefused : List ℕ → List Log → Refusal → Type 0
-IsPlanRefused file logs why = NothingChosen file logs why ⊎ ((chosen : PlanSeen) × (plan_of file logs ≡ Ok chosen) × PrimaryRefused (block_at chosen.sector) why)
+abbrev pub IsPlanRefused : List ℕ → RecoveryLimits → List Log → Refusal → Type 0
+IsPlanRefused file limits logs why = NothingChosen file limits logs why ⊎ ((chosen : PlanSeen) × (plan_of file limits logs ≡ Ok chosen) × PrimaryRefused (block_at chosen.sector) why)

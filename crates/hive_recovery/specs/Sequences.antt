@@ -1,5 +1,5 @@
 -- Which entries of several logs are applied, by their numbers. A log is the list of its entries, an entry the list of its bytes.
-use Rattle.std.specs.Prelude.{◌≡◌, ℕ, zero, suc, ◌+◌, ◌-◌, ◌%◌, ◌^◌, ◌==◌, nat_le, Bool, true, false, Option, Some, None, if◌then◌else◌, List, [], ◌∷◌, ◌++◌, length, map}
+use Rattle.std.specs.Prelude.{ℕ, zero, suc, ◌+◌, ◌-◌, ◌%◌, ◌^◌, ◌==◌, nat_le, Bool, false, Option, Some, None, if◌then◌else◌, List, [], ◌∷◌, ◌++◌}
 use Rattle.base_block.specs.Numbers.{number_after}
 use Rattle.hive_log_entries.specs.Entries.{number_of}
 use Rattle.hive_recovery.specs.declared.log.Log.{Log}
@@ -36,14 +36,6 @@ first_with number next (log ∷ rest) = if begins next (left_from number log) th
 abbrev pub in_sequence : ℕ → ℕ → ℕ → List (List (List ℕ)) → List (List ℕ)
 in_sequence zero number next logs = []
 in_sequence (suc n) number next logs = let more = first_with number next logs in more ++ in_sequence n number (number_behind next more) logs
-
--- the number behind all entries that logs have from a number on, each in its turn
-abbrev pub next_of : ℕ → List Log → ℕ
-next_of number logs = number_behind number (in_sequence (length logs) number number (map entries_of logs))
-
--- what two logs have from a number on begins with different numbers, if each has something
-abbrev pub BeginApart : ℕ → Log → Log → Type 0
-BeginApart number one other = (next : ℕ) → begins next (left_from number (entries_of one)) ≡ true → begins next (left_from number (entries_of other)) ≡ false
 
 -- a log that isn't gone on with, though it has entries behind the next number, lacks that number
 abbrev pub missing_of : ℕ → List (List ℕ) → Option ℕ

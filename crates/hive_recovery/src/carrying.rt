@@ -10,13 +10,14 @@ use refusals::{Cause, Refusal};
 use std::alloc::{AllocError, Global};
 
 #[tactic(auto, unfolding(crate::specs::Recovered::recovered_file))]
-/// All bytes of the recovered file.
+/// All bytes of the recovered file, which begins with the plan's first sector.
 ///
 /// Refused with `HiveDamaged` of hive 0: `Truncated` if the file has fewer than 4,096 bytes, or if nothing is applied and it
 /// ends before its bins data do; `BadLog` if a byte is neither the file's nor of a page that is applied. Otherwise refused for
 /// want of memory alone.
 pub fn carry_out(alloc: Global, file: &[u8], plan: &RecoveryPlan<'_>) -> Result<Vec<u8>, Refusal>
     ensures recovered { IfOk result (λ out. recovered_file file.now (seen plan.now) ≡ Ok out.items) }
+    ensures begins { IfOk result (λ out. take 512 out.items ≡ plan.now.sector) }
     ensures refused { IfErr result (λ why. (why ≡ NoMemory) ⊎ (recovered_file file.now (seen plan.now) ≡ Err why)) }
 {
     if file.len() < HEAD_BYTES {

@@ -2,7 +2,8 @@
 ghost use Rattle.std.specs.Prelude.{◌≡◌, ◌++◌, ◌∷◌, ℕ, List, Option};
 ghost use Rattle.hive_recovery.specs.Laid.{laid, IsByteOfState};
 ghost use Rattle.hive_recovery.specs.Plans.{unclean_plan};
-ghost use Rattle.hive_recovery.specs.Sequences.{BeginApart};
+ghost use Rattle.hive_recovery.specs.Limits.{BeginApart};
+ghost use Rattle.hive_recovery.specs.declared.limits.Reach.{Reach};
 ghost use Rattle.hive_recovery.specs.declared.log.Log.{Log};
 
 /// A machine's bins data go from state to state by entries. If each byte of a file is that of one of these states, the
@@ -15,6 +16,6 @@ pub fn goes_on()
 
 /// Two logs that stand side by side may change places, if they don't begin with the same number.
 pub fn order_of_logs()
-    ensures { (sector : List ℕ) (number : ℕ) (front back : List Log) (one other : Log) → BeginApart number one other →
-        unclean_plan sector number (front ++ one ∷ other ∷ back) ≡ unclean_plan sector number (front ++ other ∷ one ∷ back) }
+    ensures { (sector : List ℕ) (reach : Reach) (front back : List Log) (one other : Log) → BeginApart reach one other →
+        unclean_plan sector reach (front ++ one ∷ other ∷ back) ≡ unclean_plan sector reach (front ++ other ∷ one ∷ back) }
 {}

@@ -13,6 +13,7 @@ use byteorder::{ByteOrder, LittleEndian};
 pub fn recovered(sector: &[u8; 512], number: SequenceNumber, bins_size: u32) -> [u8; 512]
     ensures made { result ≡ recovered_sector sector.now number.0 bins_size }
     ensures clean { is_clean_block (block_at result) ≡ true }
+    ensures numbered { (block_at result).primary.0 ≡ number.0 }
 {
     let mut made = *sector;
     put_fields(&mut made, number, bins_size);

@@ -1,10 +1,13 @@
 //! Entries in the order of their numbers.
-ghost use Rattle.std.specs.Prelude.{◌≡◌, ◌<◌, ◌-◌, ◌++◌, List, [], ℕ, true, length, slice_index_or, map, option_map, IfOk, OnOk, IfSome, IfNone};
+ghost use Rattle.std.specs.Prelude.{◌≡◌, ◌<◌, ◌-◌, ◌++◌, List, [], ℕ, true, Option, length, slice_index_or, map, option_map, IfOk, OnOk, IfSome, IfNone};
 ghost use Rattle.hive_log_entries.specs.Entries.{number_of};
 ghost use Rattle.hive_recovery.specs.declared.log.Log.{Log};
 ghost use Rattle.hive_recovery.specs.Runs.{AreLastOf, AreRunsOf, IsNumbered};
-ghost use Rattle.hive_recovery.specs.Sequences.{is_older, left_from, begins, number_behind, first_with, in_sequence, entries_of, missing_of, next_of};
+ghost use Rattle.hive_recovery.specs.Sequences.{is_older, left_from, begins, number_behind, first_with, missing_of};
+ghost use Rattle.hive_recovery.specs.Limits.{upto, usable, starting, sequence_of, next_of};
+ghost use Rattle.base_block.specs.declared.fields.SequenceNumber.{SequenceNumber};
 
+use crate::limits::{Reach, RecoveryLimits, is_beyond};
 use crate::log::Log;
 use base_block::SequenceNumber;
 use hive_log_entries::LogEntry;
@@ -17,7 +20,7 @@ pub fn is_below(number: SequenceNumber, other: SequenceNumber) -> bool
     number.0.wrapping_sub(other.0) >= 0x8000_0000
 }
 
-/// A run of a log's entries that are applied: those from one on, up to the log's last.
+/// A run of a log's entries that are applied: those from one on, up to the log's last that may be applied.
 #[derive(Clone, Copy)]
 pub struct LogRun {
     /// The number of the log among the logs, from 1 on.
@@ -44,21 +47,21 @@ struct Part<'l, 'a> {
     entries: &'l [LogEntry<'a>],
 }
 
-/// The entries from a number on whose turn comes one after the other, of all logs: first those of a log that has the number,
+/// The entries within a reach whose turn comes one after the other, of all logs: first those of a log that has the first number,
 /// and then those of a log that has the number behind them, and so on.
 pub(crate) fn sequence_from<'a>(
     alloc: Global,
     logs: &[Log<'a>],
-    from: SequenceNumber,
+    reach: Reach,
 ) -> Result<Sequence<'a>, AllocError>
-    ensures entries { IfOk result (λ found. found.entries.items ≡ in_sequence (length logs.now) from.0 from.0 (map entries_of logs.now)) }
-    ensures runs { IfOk result (λ found. AreRunsOf logs.now found.runs.items found.entries.items) }
+    ensures entries { IfOk result (λ found. found.entries.items ≡ sequence_of reach logs.now) }
+    ensures runs { IfOk result (λ found. AreRunsOf reach.to logs.now found.runs.items found.entries.items) }
 {
     let mut entries = Vec::new(alloc);
     let mut runs = Vec::new(alloc);
-    let mut next = from;
+    let mut next = reach.from;
     'rounds: for _round in 0..logs.len() {
-        next = add_round(&mut entries, &mut runs, logs, from, next)?;
+        next = add_round(&mut entries, &mut runs, logs, reach, next)?;
     }
     Ok(Sequence { entries, runs })
 }
@@ -68,14 +71,15 @@ fn add_round<'a>(
     entries: &mut Vec<LogEntry<'a>>,
     runs: &mut Vec<LogRun>,
     logs: &[Log<'a>],
-    from: SequenceNumber,
+    reach: Reach,
     next: SequenceNumber,
 ) -> Result<SequenceNumber, AllocError>
-    ensures entries { OnOk result (entries.new.items ≡ entries.old.items ++ first_with from.0 next.0 (map entries_of logs.now)) }
-    ensures next { IfOk result (λ then. then.0 ≡ number_behind next.0 (first_with from.0 next.0 (map entries_of logs.now))) }
-    ensures runs { OnOk result (AreRunsOf logs.now runs.old.items entries.old.items → AreRunsOf logs.now runs.new.items entries.new.items) }
+    ensures entries { OnOk result (entries.new.items ≡ entries.old.items ++ first_with reach.from.0 next.0 (map (usable reach.to) logs.now)) }
+    ensures next { IfOk result (λ then. then.0 ≡ number_behind next.0 (first_with reach.from.0 next.0 (map (usable reach.to) logs.now))) }
+    ensures runs { OnOk result (AreRunsOf reach.to logs.now runs.old.items entries.old.items →
+        AreRunsOf reach.to logs.now runs.new.items entries.new.items) }
 {
-    let Some(part) = next_part(logs, from, next) else {
+    let Some(part) = next_part(logs, reach, next) else {
         return Ok(next);
     };
     append(entries, part.entries)?;
@@ -83,31 +87,33 @@ fn add_round<'a>(
     Ok(number_after(part.entries, next))
 }
 
-/// All entries of a log, which has a number among others.
-pub(crate) fn whole_log<'a>(
+/// The entries of a log that may be applied, which has a number among others: all, or those from the first number on.
+pub(crate) fn one_log<'a>(
     alloc: Global,
     number: usize,
     log: &Log<'a>,
+    limits: RecoveryLimits,
 ) -> Result<Sequence<'a>, AllocError>
-    ensures entries { IfOk result (λ found. found.entries.items ≡ entries_of log.now) }
+    ensures entries { IfOk result (λ found. found.entries.items ≡ starting limits.from (usable limits.to log.now)) }
     ensures runs { IfOk result (λ found. (logs : List Log) → IsNumbered logs number log.now →
-        AreRunsOf logs found.runs.items found.entries.items) }
+        AreRunsOf limits.to logs found.runs.items found.entries.items) }
 {
-    let mut entries = Vec::new(alloc);
-    append(&mut entries, &log.entries)?;
-    let mut runs = Vec::new(alloc);
     let part = Part {
         log: number,
-        entries: &log.entries,
+        entries: starting(usable(log, limits.to), limits.from),
     };
+    let mut entries = Vec::new(alloc);
+    append(&mut entries, part.entries)?;
+    let mut runs = Vec::new(alloc);
     push_run(&mut runs, &part)?;
     Ok(Sequence { entries, runs })
 }
 
 // puts the run of a part behind others, if the part has entries
 fn push_run(runs: &mut Vec<LogRun>, part: &Part<'_, '_>) -> Result<(), AllocError>
-    ensures { OnOk result ((logs : List Log) (entries : List (List ℕ)) → AreLastOf logs part.now.log part.now.entries.now →
-        AreRunsOf logs runs.old.items entries → AreRunsOf logs runs.new.items (entries ++ part.now.entries.now)) }
+    ensures { OnOk result ((most : Option SequenceNumber) (logs : List Log) (entries : List (List ℕ)) →
+        AreLastOf most logs part.now.log part.now.entries.now →
+        AreRunsOf most logs runs.old.items entries → AreRunsOf most logs runs.new.items (entries ++ part.now.entries.now)) }
 {
     if part.entries.is_empty() {
         return Ok(());
@@ -139,18 +145,18 @@ pub(crate) fn last_of<'l, 'a>(entries: &'l [LogEntry<'a>]) -> &'l LogEntry<'a>
     &entries[entries.len() - 1]
 }
 
-// what the first log that goes on with a number has from the old number on
+// what the first log that goes on with a number has within a reach
 fn next_part<'l, 'a>(
     logs: &'l [Log<'a>],
-    from: SequenceNumber,
+    reach: Reach,
     next: SequenceNumber,
 ) -> Option<Part<'l, 'a>>
-    ensures some { IfSome result (λ part. part.entries.now ≡ first_with from.0 next.0 (map entries_of logs.now)) }
-    ensures last { IfSome result (λ part. AreLastOf logs.now part.log part.entries.now) }
-    ensures none { IfNone result (first_with from.0 next.0 (map entries_of logs.now) ≡ []) }
+    ensures some { IfSome result (λ part. part.entries.now ≡ first_with reach.from.0 next.0 (map (usable reach.to) logs.now)) }
+    ensures last { IfSome result (λ part. AreLastOf reach.to logs.now part.log part.entries.now) }
+    ensures none { IfNone result (first_with reach.from.0 next.0 (map (usable reach.to) logs.now) ≡ []) }
 {
     'logs: for index in 0..logs.len() {
-        let left = entries_left(&logs[index].entries, from);
+        let left = entries_left(usable(&logs[index], reach.to), reach.from);
         if begins_with(left, next) {
             return Some(Part {
                 log: index + 1,
@@ -159,6 +165,42 @@ fn next_part<'l, 'a>(
         }
     }
     None
+}
+
+/// The entries of a log that may be applied.
+pub(crate) fn usable<'l, 'a>(log: &'l Log<'a>, most: Option<SequenceNumber>) -> &'l [LogEntry<'a>]
+    ensures { result.now ≡ usable most log.now }
+{
+    entries_upto(&log.entries, most)
+}
+
+// the entries up to the first that is above the greatest number
+fn entries_upto<'l, 'a>(
+    entries: &'l [LogEntry<'a>],
+    most: Option<SequenceNumber>,
+) -> &'l [LogEntry<'a>]
+    ensures { result.now ≡ upto most entries.now }
+{
+    'entries: for index in 0..entries.len() {
+        if is_beyond(most, entries[index].number()) {
+            return &entries[..index];
+        }
+    }
+    entries
+}
+
+// the entries from the one with the first number on, or all if none is told
+fn starting<'l, 'a>(
+    entries: &'l [LogEntry<'a>],
+    first: Option<SequenceNumber>,
+) -> &'l [LogEntry<'a>]
+    ensures { result.now ≡ starting first entries.now }
+{
+    let Some(number) = first else {
+        return entries;
+    };
+    let left = entries_left(entries, number);
+    if begins_with(left, number) { left } else { &[] }
 }
 
 // the entries from the first on that isn't below a number
@@ -207,42 +249,34 @@ pub(crate) fn append<'a>(
     Ok(())
 }
 
-/// The number for want of which a log isn't gone on with: the next number behind what is applied, if all that the log has from
-/// the old number on is behind that.
-pub fn missing_number(
-    log: &Log<'_>,
-    from: SequenceNumber,
-    next: SequenceNumber,
-) -> Option<SequenceNumber>
-    ensures { option_map (λ number. number.0) result ≡ missing_of next.0 (left_from from.0 (entries_of log.now)) }
+/// The number for want of which a log isn't gone on with: the next number behind what is applied, if all that the log has within
+/// a reach is behind that.
+pub fn missing_number(log: &Log<'_>, reach: Reach, next: SequenceNumber) -> Option<SequenceNumber>
+    ensures { option_map (λ number. number.0) result ≡ missing_of next.0 (left_from reach.from.0 (usable reach.to log.now)) }
 {
-    let left = entries_left(&log.entries, from);
+    let left = entries_left(usable(log, reach.to), reach.from);
     if left.is_empty() || !is_below(next, left[0].number()) {
         return None;
     }
     Some(next)
 }
 
-/// The number of the entry that would be applied next, behind those that [`plan`](crate::plan) applies from a number on.
-pub fn next_number(logs: &[Log<'_>], from: SequenceNumber) -> SequenceNumber
-    ensures { result.0 ≡ next_of from.0 logs.now }
+/// The number of the entry that would be applied next, behind those that [`plan`](crate::plan) applies within a reach.
+pub fn next_number(logs: &[Log<'_>], reach: Reach) -> SequenceNumber
+    ensures { result.0 ≡ next_of reach logs.now }
 {
-    let mut next = from;
+    let mut next = reach.from;
     'rounds: for _round in 0..logs.len() {
-        next = number_after_round(logs, from, next);
+        next = number_after_round(logs, reach, next);
     }
     next
 }
 
 // the number behind what the first log has that goes on with a number
-fn number_after_round(
-    logs: &[Log<'_>],
-    from: SequenceNumber,
-    next: SequenceNumber,
-) -> SequenceNumber
-    ensures { result.0 ≡ number_behind next.0 (first_with from.0 next.0 (map entries_of logs.now)) }
+fn number_after_round(logs: &[Log<'_>], reach: Reach, next: SequenceNumber) -> SequenceNumber
+    ensures { result.0 ≡ number_behind next.0 (first_with reach.from.0 next.0 (map (usable reach.to) logs.now)) }
 {
-    match next_part(logs, from, next) {
+    match next_part(logs, reach, next) {
         Some(part) => number_after(part.entries, next),
         None => next,
     }

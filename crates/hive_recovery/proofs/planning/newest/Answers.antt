@@ -16,12 +16,12 @@ logs-preserved c =
     let There : Option (Bor Log) → ℕ → Type 0 = λ best number. IfSome best (λ other. IsNumbered logs number other.now) in
     elim c.if-is_ahead.branch [
       | then-is_ahead w ↦ (
-        newest_more logs c.logs.index log (known c.logs.best) (known c.if-is_ahead.best) _ c.logs-test.true c.index-logs-index.is (ap known w.best-is ∙ ap pick w.if-is_ahead.ensures) c.logs.invariant.0,
+        newest_more c.args.most logs c.logs.index log (known c.logs.best) (known c.if-is_ahead.best) _ c.logs-test.true c.index-logs-index.is (ap known w.best-is ∙ ap pick w.if-is_ahead.ensures) c.logs.invariant.0,
         subst (λ (number : ℕ). There c.if-is_ahead.best number) (sym w.number-is)
             (subst (λ (best : Option (Bor Log)). There best (c.logs.index + 1)) (sym w.best-is) (c.logs.index, refl, slice_get_read logs (length logs) c.logs.index log refl c.logs-test.true c.index-logs-index.is)),
       )
       | else-is_ahead w ↦ (
-        newest_more logs c.logs.index log (known c.logs.best) (known c.if-is_ahead.best) _ c.logs-test.true c.index-logs-index.is (ap known w.best-is ∙ ap pick w.if-is_ahead.ensures) c.logs.invariant.0,
+        newest_more c.args.most logs c.logs.index log (known c.logs.best) (known c.if-is_ahead.best) _ c.logs-test.true c.index-logs-index.is (ap known w.best-is ∙ ap pick w.if-is_ahead.ensures) c.logs.invariant.0,
         subst (λ (number : ℕ). There c.if-is_ahead.best number) (sym w.number-is)
             (subst (λ (best : Option (Bor Log)). There best c.logs.number) (sym w.best-is) c.logs.invariant.1),
       )

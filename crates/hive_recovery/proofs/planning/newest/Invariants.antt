@@ -6,5 +6,5 @@ use Rattle.hive_recovery.proofs.planning.newest.Given as goal
 
 abbrev pub invariant-logs : goal.invariant-logs
 invariant-logs l =
-    (newest_of (option_map (λ log. log.now) l.best) (drop l.index l.logs) ≡ newest_of None l.logs)
+    (newest_of l.fn.most (option_map (λ log. log.now) l.best) (drop l.index l.logs) ≡ newest_of l.fn.most None l.logs)
     × IfSome l.best (λ log. IsNumbered l.logs l.number log.now)
