@@ -1,9 +1,11 @@
 -- Logs of pages as they are read.
-use Rattle.std.proofs.Common.{◌≡◌, ◌≤◌, ℕ, ◌+◌, ◌*◌, ◌==◌, Bool, true, false, List, length, take, drop, Some, None, Result, Ok, Err, refl, sym, ◌∙◌, ap, subst, if◌then◌else◌, not}
+use Rattle.std.proofs.Common.{◌≡◌, ◌≤◌, ℕ, ◌+◌, ◌*◌, ◌==◌, Bool, true, false, List, ◌++◌, length, take, drop, Some, None, Result, Ok, Err, refl, sym, ◌∙◌, ap, append_assoc, subst, if◌then◌else◌, not}
 use Rattle.std.specs.Prelude.{nat_lt}
 use Rattle.std.proofs.lemmas.Bool.{le-ltb}
+use Rattle.std.proofs.lemmas.List.{take_at}
 use Rattle.base_block.specs.Layout.{block_at}
 use Rattle.base_block.specs.declared.block.BaseBlock.{BaseBlock}
+use Rattle.dirt_log.specs.WholeLog.{block_of}
 use Rattle.dirty_vector.specs.Pages.{Pages, dirty_count, is_bins_size}
 use Rattle.hive_recovery.specs.Logs.{is_read_version}
 use Rattle.hive_page_logs.specs.PageLogs.{PagesSeen, block_fault, bitmap_end, bitmap_at, marked_by, pages_start, pages_of, pages_at_letters, pages_behind, page_log_of, letters_at}
@@ -44,3 +46,7 @@ pages_whole bytes block at sector marked pages long first mark there part =
     let Ending : List ℕ → Result PagesSeen PageFault = λ s. Ok (record { sector = s; block = block; marked = marked; bytes = take (512 * dirty_count marked) (drop start bytes) }) in
     let Paged : List ℕ → Result PagesSeen PageFault = λ l. Ok (record { sector = sector; block = block; marked = marked; bytes = l }) in
     shown ∙ ap (λ (m : Pages). Ok (Made m)) (sym mark) ∙ ap Ending (sym first) ∙ ap Paged (sym part)
+
+-- the block of a file that begins with a sector is the sector's
+pub block_first : (sector rest bins out : List ℕ) → length sector ≡ 512 → out ≡ sector ++ rest ++ bins → block_of out ≡ block_at sector
+block_first sector rest bins out long is = ap block_at (ap (take 512) (is ∙ append_assoc sector rest bins) ∙ take_at sector (rest ++ bins) 512 long)

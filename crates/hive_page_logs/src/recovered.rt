@@ -1,7 +1,8 @@
 //! The file that a log of pages makes of a hive's.
-ghost use Rattle.std.specs.Prelude.{◌≡◌, ◌≤◌, IfOk, IfErr, length, drop};
+ghost use Rattle.std.specs.Prelude.{◌≡◌, ◌≤◌, true, IfOk, IfErr, length, drop};
+ghost use Rattle.base_block.specs.Layout.{is_clean_block};
 ghost use Rattle.refusals.specs.Answers.{RefusedFor};
-ghost use Rattle.dirt_log.specs.WholeLog.{IsCovered, not_whole, repaired};
+ghost use Rattle.dirt_log.specs.WholeLog.{IsCovered, block_of, not_whole, repaired};
 ghost use Rattle.hive_page_logs.specs.PageLogs.{whole_seen};
 ghost use Rattle.hive_page_logs.specs.RecoveredPages.{IsRecoveredByPages, IsRefusedByPages};
 
@@ -16,7 +17,7 @@ const HEAD_BYTES: usize = 4096;
 
 const _: () = prove!(HEAD_BYTES == 4096);
 
-/// All bytes of the file of a hive that a log of pages recovers, with a number as both its sequence numbers.
+/// All bytes of the file of a hive that a log of pages recovers. It is clean, with a number as both its sequence numbers.
 ///
 /// Refused with `HiveDamaged` of hive 0: `Truncated` if the file has fewer than 4,096 bytes; `BadLog` if a page of the bins
 /// data is neither the log's nor whole in the file. Otherwise refused for want of memory alone.
@@ -27,6 +28,8 @@ pub fn recover_by_pages(
     number: SequenceNumber,
 ) -> Result<Vec<u8>, Refusal>
     ensures ok { IfOk result (λ out. IsRecoveredByPages file.now (whole_seen log.now) number.0 out.items) }
+    ensures clean { IfOk result (λ out. is_clean_block (block_of out.items) ≡ true) }
+    ensures numbered { IfOk result (λ out. (block_of out.items).primary ≡ number) }
     ensures refused { IfErr result (IsRefusedByPages file.now (whole_seen log.now)) }
 {
     if file.len() < HEAD_BYTES {

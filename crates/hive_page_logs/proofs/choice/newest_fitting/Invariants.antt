@@ -5,4 +5,4 @@ use Rattle.hive_page_logs.specs.PageLogs.{page_view, whole_seen}
 use Rattle.hive_page_logs.proofs.choice.newest_fitting.Given as goal
 
 abbrev pub invariant-logs : goal.invariant-logs
-invariant-logs l = newest_of l.time (option_map (λ log. whole_seen log.now) l.best) (map page_view (drop l.index l.logs)) ≡ newest_of l.time None (map page_view l.logs)
+invariant-logs l = newest_of l.fn.time l.fn.limits (option_map (λ log. whole_seen log.now) l.best) (map page_view (drop l.index l.logs)) ≡ newest_of l.fn.time l.fn.limits None (map page_view l.logs)

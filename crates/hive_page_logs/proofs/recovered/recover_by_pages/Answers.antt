@@ -1,6 +1,10 @@
-use Rattle.std.proofs.Common.{List, ℕ, ◌++◌, ◌∙◌, ap, subst, drop, take, length, inl, inr}
+use Rattle.std.proofs.Common.{◌≡◌, List, ℕ, true, ◌++◌, ◌∙◌, sym, ap, subst, drop, take, length, inl, inr, rules}
+use Rattle.base_block.specs.Layout.{is_clean_block}
+use Rattle.base_block.specs.declared.block.BaseBlock.{BaseBlock}
+use Rattle.base_block.specs.declared.fields.SequenceNumber.{SequenceNumber}
 use Rattle.dirt_log.specs.WholeLog.{IsCovered, repaired}
 use Rattle.hive_recovery.specs.Sectors.{recovered_sector}
+use Rattle.hive_page_logs.proofs.Read.{block_first}
 use Rattle.hive_page_logs.proofs.recovered.recover_by_pages.Goals as goal
 
 pub returns-in-Err-clause-refused : goal.returns-in-Err-clause-refused
@@ -23,3 +27,17 @@ returns-clause-ok c =
           ∙ ap (λ (sector : List ℕ). sector ++ rest ++ c.deref.result.now) c.recovered-sector.ensures.made
           ∙ ap (λ (bins : List ℕ). recovered_sector c.args.log.now.sector c.args.number.0 dirt.base.bins_size ++ rest ++ bins) (c.deref.ensures.value ∙ c.in-Ok.ensures.ok ∙ ap (λ (own : List ℕ). repaired own dirt.vector dirt.pages.now) c.bins_in.ensures);
     }
+
+pub returns-clause-clean : goal.returns-clause-clean
+returns-clause-clean c =
+    let sector = c.recovered-sector.result in
+    let long : length sector ≡ 512 = first_of (search (rules, c.recovered-sector.type_inv), search rules) in
+    let Clean : BaseBlock → Type 0 = λ block. is_clean_block block ≡ true in
+    subst Clean (sym (block_first sector (take 3584 (drop 512 c.args.file.now)) c.deref.result.now c.in_ok-file_of_parts.field-0.items long c.in_ok-file_of_parts.ensures)) c.recovered-sector.ensures.clean
+
+pub returns-clause-numbered : goal.returns-clause-numbered
+returns-clause-numbered c =
+    let sector = c.recovered-sector.result in
+    let long : length sector ≡ 512 = first_of (search (rules, c.recovered-sector.type_inv), search rules) in
+    let Number : ℕ → SequenceNumber = λ n. record { 0 = n } in
+    ap (λ (block : BaseBlock). block.primary) (block_first sector (take 3584 (drop 512 c.args.file.now)) c.deref.result.now c.in_ok-file_of_parts.field-0.items long c.in_ok-file_of_parts.ensures) ∙ ap Number c.recovered-sector.ensures.numbered
