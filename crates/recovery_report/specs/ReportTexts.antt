@@ -1,18 +1,24 @@
 -- The text of a recovery's report.
-use Rattle.std.specs.Prelude.{ℕ, ◌+◌, ◌==◌, not, Bool, if◌then◌else◌, List, [], ◌∷◌, ◌++◌, Option, Some, None, codes}
+use Rattle.std.specs.Prelude.{ℕ, ◌+◌, ◌==◌, not, Bool, false, ◌&&◌, if◌then◌else◌, List, [], ◌∷◌, ◌++◌, Option, Some, None, codes}
 use Rattle.std.specs.Fmt.{decimal}
 use Rattle.refusals.specs.Refusals.{refusal_text}
 use Rattle.base_block.specs.Layout.{is_clean_block}
 use Rattle.base_block.specs.declared.block.BaseBlock.{BaseBlock}
 use Rattle.base_block.specs.declared.fields.SequenceNumber.{SequenceNumber}
-use Rattle.hive_check.specs.ReportTexts.{reason_text}
-use Rattle.hive_recovery.specs.Endings.{ending_text}
+use Rattle.std.specs.Io.KnownBytes.{Appends}
+use Rattle.hive_check.specs.Blocks.{is_log_type}
+use Rattle.hive_check.specs.ReportTexts.{PrintsReport, reason_text, unread_lines}
+use Rattle.hive_recovery.specs.Endings as endings
+use Rattle.hive_recovery.specs.Plans.{is_torn_block}
 use Rattle.hive_page_logs.specs.FaultTexts.{fault_text}
 use Rattle.hive_recovery.specs.declared.report.LogEnding.{LogEnding}
 use Rattle.hive_recovery.specs.declared.report.EntryNumbers.{EntryNumbers}
 use Rattle.hive_recovery.specs.declared.sequence.LogRun.{LogRun}
-use Rattle.recovery_report.specs.declared.outcome.RecoveryOutcome.{RecoveryOutcome}
-use Rattle.recovery_report.specs.declared.outcome.RecoveryOutcome.TheVariants as outcome
+use Rattle.recovery_report.specs.declared.judgement.RecoveryOutcome.{RecoveryOutcome}
+use Rattle.recovery_report.specs.declared.judgement.RecoveryOutcome.TheVariants as outcome
+use Rattle.recovery_report.specs.declared.judgement.RecoveredFile.{RecoveredFile}
+use Rattle.recovery_report.specs.declared.judgement.Wholeness.{Wholeness}
+use Rattle.recovery_report.specs.declared.judgement.Wholeness.TheVariants as wholeness
 use Rattle.recovery_report.specs.declared.outcome.PagesRun.{PagesRun}
 use Rattle.recovery_report.specs.declared.report.LogReport.{LogReport}
 use Rattle.recovery_report.specs.declared.report.PagesReport.{PagesReport}
@@ -51,7 +57,7 @@ missing_text (Some number) = codes ", " ++ decimal number.0 ++ codes " is missin
 
 -- how a log ended, or what it is as one of pages
 abbrev pub log_text : PagesReport → LogEnding → List ℕ
-log_text report.Other ending = ending_text ending
+log_text report.Other ending = endings.ending_text ending
 log_text (report.Faulty why) ending = fault_text why
 log_text (report.Whole count) ending = decimal count ++ codes " pages"
 
@@ -81,9 +87,32 @@ pages_line (Some run) = (codes "applied " ++ decimal run.count ++ codes " pages"
 abbrev pub steps_text : Recovery → List ℕ
 steps_text found = block_line found.block ++ (log_lines 1 found.logs.items ++ (run_lines found.runs.items ++ pages_line found.pages))
 
--- the last line
-abbrev pub ending_line : RecoveryOutcome → List ℕ
-ending_line (outcome.Clean file) = codes "clean " ++ decimal file.number.0 ++ codes "\n"
-ending_line (outcome.Recovered file) = codes "recovered " ++ decimal file.number.0 ++ codes "\n"
-ending_line (outcome.NoHive finding) = reason_text finding ++ codes "\n"
-ending_line (outcome.Refused why) = refusal_text why ++ codes "\n"
+-- what was made, and its number
+abbrev pub file_text : Bool → ℕ → List ℕ
+file_text was_clean number = if was_clean then codes "clean " ++ decimal number else codes "recovered " ++ decimal number
+
+-- the end of a line, and what was made though it isn't whole
+abbrev pub all_the_same_text : Bool → ℕ → List ℕ
+all_the_same_text was_clean number = codes "\n" ++ (file_text was_clean number ++ codes ", not whole\n")
+
+-- why a file isn't whole; and what was made, if it needn't be
+abbrev pub not_whole_text : Wholeness → RecoveredFile → List ℕ
+not_whole_text wholeness.Demanded file = reason_text file.report.finding ++ codes "\n"
+not_whole_text wholeness.Waived file = reason_text file.report.finding ++ all_the_same_text file.was_clean file.number.0
+
+-- the last line; if a file is made that isn't whole, the line before says why it isn't
+abbrev pub ending_text : Wholeness → RecoveryOutcome → List ℕ
+ending_text its (outcome.Whole file) = file_text file.was_clean file.number.0 ++ codes "\n"
+ending_text its (outcome.NotWhole file) = not_whole_text its file
+ending_text its (outcome.Refused why) = refusal_text why ++ codes "\n"
+
+-- a file is a log by its base block
+abbrev pub is_log_file : Option BaseBlock → Bool
+is_log_file None = false
+is_log_file (Some block) = not (is_torn_block block) && is_log_type block
+
+-- known bytes grew by what a check prints of the result: its report; or why there is none, and what to do
+abbrev pub PrintsResult : Option BaseBlock → RecoveryOutcome → Option (List ℕ) → Option (List ℕ) → Type 0
+PrintsResult block (outcome.Whole file) before after = PrintsReport file.report before after
+PrintsResult block (outcome.NotWhole file) before after = PrintsReport file.report before after
+PrintsResult block (outcome.Refused why) before after = Appends before after (unread_lines (is_log_file block) why)

@@ -1,37 +1,16 @@
 //! What comes of a recovery.
-ghost use Rattle.std.specs.Prelude.{◌≡◌, map, option_map};
+ghost use Rattle.std.specs.Prelude.{◌≡◌, true, map, option_map};
+ghost use Rattle.base_block.specs.Layout.{block_at, is_clean_block};
 ghost use Rattle.hive_recovery.specs.Plans.{seen, is_torn_block};
 ghost use Rattle.hive_page_logs.specs.PageLogs.{page_view, whole_seen};
-ghost use Rattle.recovery_report.specs.Outcomes.{IsOutcome, IsUnplanned, IsOutcomeOfPlan, IsOutcomeOfPages, IsOutcomeOfBytes, held_as, fitting, lacks_log, time_for, number_for};
+ghost use Rattle.recovery_report.specs.Outcomes.{IsOutcome, IsUnplanned, IsOutcomeOfPlan, IsOutcomeOfPages, fitting, lacks_log, time_for, number_for};
 
+use crate::judgement::{RecoveryOutcome, judged};
 use base_block::{BaseBlock, SequenceNumber, Signature};
-use hive_check::{Finding, HiveReport, report_of};
 use hive_page_logs::{PageLog, WholePageLog, newest_fitting, recover_by_pages};
-use hive_recovery::{Log, LogRun, RecoveryPlan, carry_out, plan};
+use hive_recovery::{Log, LogRun, RecoveryLimits, RecoveryPlan, carry_out, plan};
 use refusals::{Cause, Refusal};
 use std::alloc::Global;
-
-/// The file of a hive that is clean.
-#[derive(Drop)]
-pub struct CleanHive {
-    /// All its bytes.
-    pub bytes: Vec<u8>,
-    /// Both its sequence numbers.
-    pub number: SequenceNumber,
-}
-
-/// What comes of a recovery.
-#[derive(Drop)]
-pub enum RecoveryOutcome {
-    /// The hive was clean. Its file has these bytes, without what followed the bins data.
-    Clean(CleanHive),
-    /// Entries or pages were applied. The recovered hive's file has these bytes.
-    Recovered(CleanHive),
-    /// The recovered bytes hold no hive, for what is found of them.
-    NoHive(Finding),
-    /// There are no recovered bytes, for this reason.
-    Refused(Refusal),
-}
 
 /// The pages of a log that are applied: the log is one of Windows 8 and before.
 #[derive(Clone, Copy)]
@@ -53,17 +32,18 @@ pub(crate) struct RunsOutcome {
     pub(crate) outcome: RecoveryOutcome,
 }
 
-/// What comes of the recovery of a hive's file, which has this base block, by logs, which are these as logs of pages.
+/// What comes of the recovery of a hive's file, which has this base block, by logs, which are these as logs of pages, within limits.
 pub(crate) fn outcome_of(
     alloc: Global,
     file: &[u8],
     block: &Option<BaseBlock>,
     logs: &[Log<'_>],
     pages: &[PageLog<'_>],
+    limits: RecoveryLimits,
 ) -> RunsOutcome
-    ensures { IsOutcome file.now block.now logs.now (map page_view pages.now) result.runs.items result.pages result.outcome }
+    ensures { IsOutcome file.now block.now limits logs.now (map page_view pages.now) result.runs.items result.pages result.outcome }
 {
-    match plan(alloc, file, logs) {
+    match plan(alloc, file, logs, limits) {
         Ok(chosen) => {
             let outcome = made(alloc, file, &chosen);
             RunsOutcome {
@@ -72,7 +52,7 @@ pub(crate) fn outcome_of(
                 outcome,
             }
         }
-        Err(why) => unplanned(alloc, file, block, pages, why),
+        Err(why) => unplanned(alloc, file, block, pages, limits, why),
     }
 }
 
@@ -82,11 +62,12 @@ fn unplanned(
     file: &[u8],
     block: &Option<BaseBlock>,
     pages: &[PageLog<'_>],
+    limits: RecoveryLimits,
     why: Refusal,
 ) -> RunsOutcome
-    ensures { IsUnplanned file.now block.now (map page_view pages.now) why result.runs.items result.pages result.outcome }
+    ensures { IsUnplanned file.now block.now limits (map page_view pages.now) why result.runs.items result.pages result.outcome }
 {
-    match fitting(block, pages, why) {
+    match fitting(block, pages, limits, why) {
         Some(log) => RunsOutcome {
             runs: Vec::new(alloc),
             pages: Some(PagesRun {
@@ -107,12 +88,15 @@ fn unplanned(
 fn fitting<'l, 'a>(
     block: &Option<BaseBlock>,
     pages: &'l [PageLog<'a>],
+    limits: RecoveryLimits,
     why: Refusal,
 ) -> Option<&'l WholePageLog<'a>>
-    ensures { option_map (λ log. whole_seen log.now) result ≡ fitting block.now (map page_view pages.now) why }
+    ensures { option_map (λ log. whole_seen log.now) result ≡ fitting block.now limits (map page_view pages.now) why }
 {
     match block {
-        Some(block) if lacks_log(is_torn(block), why) => { newest_fitting(pages, time_for(block)) }
+        Some(block) if lacks_log(is_torn(block), why) => {
+            newest_fitting(pages, time_for(block), limits)
+        }
         _ => None,
     }
 }
@@ -169,46 +153,19 @@ fn made_by_pages(
     ensures { IsOutcomeOfPages file.now number (whole_seen log.now) result }
 {
     match recover_by_pages(alloc, file, log, number) {
-        Ok(bytes) => judged(alloc, bytes, false),
+        Ok(bytes) => judged(alloc, bytes, number, false),
         Err(why) => RecoveryOutcome::Refused(why),
     }
 }
 
 // what comes of a plan
 fn made(alloc: Global, file: &[u8], chosen: &RecoveryPlan<'_>) -> RecoveryOutcome
+    requires { is_clean_block (block_at chosen.now.sector) ≡ true }
     ensures { IsOutcomeOfPlan file.now (seen chosen.now) result }
 {
+    let number = BaseBlock::read(&chosen.sector).primary;
     match carry_out(alloc, file, chosen) {
-        Ok(bytes) => judged(alloc, bytes, chosen.entries.is_empty()),
+        Ok(bytes) => judged(alloc, bytes, number, chosen.entries.is_empty()),
         Err(why) => RecoveryOutcome::Refused(why),
-    }
-}
-
-// what is found of recovered bytes, which are those of the hive as it was if nothing was applied
-fn judged(alloc: Global, bytes: Vec<u8>, was_clean: bool) -> RecoveryOutcome
-    ensures { IsOutcomeOfBytes bytes.items was_clean result }
-{
-    let report = match report_of(alloc, &mut bytes.as_slice()) {
-        Ok(report) => report,
-        Err(_) => return RecoveryOutcome::Refused(Refusal::NoMemory),
-    };
-    let HiveReport { block, finding } = report;
-    match (block, finding) {
-        (Some(block), Finding::Walked(..)) => {
-            let number = block.block.primary;
-            held(CleanHive { bytes, number }, was_clean)
-        }
-        (_, finding) => RecoveryOutcome::NoHive(finding),
-    }
-}
-
-// the file of a hive, as it was or recovered
-fn held(file: CleanHive, was_clean: bool) -> RecoveryOutcome
-    ensures { result ≡ held_as file was_clean }
-{
-    if was_clean {
-        RecoveryOutcome::Clean(file)
-    } else {
-        RecoveryOutcome::Recovered(file)
     }
 }

@@ -5,10 +5,13 @@ ghost use Rattle.hive_page_logs.specs.PageLogs.{IsPageLog, page_view, page_view_
 ghost use Rattle.hive_recovery.specs.declared.log.Log.{Log};
 ghost use Rattle.recovery_report.specs.Recoveries.{is_unclean, waiting_of, log_report, pages_report, missing_in, IsRecoveryOf};
 
-use crate::outcome::{PagesRun, RecoveryOutcome, RunsOutcome, outcome_of};
+use crate::judgement::RecoveryOutcome;
+use crate::outcome::{PagesRun, RunsOutcome, outcome_of};
 use base_block::{BaseBlock, SequenceNumber, Signature};
 use hive_page_logs::{PageFault, PageLog, read_pages};
-use hive_recovery::{EntryNumbers, Log, LogEnding, LogRun, missing_number, next_number};
+use hive_recovery::{
+    EntryNumbers, Log, LogEnding, LogRun, Reach, RecoveryLimits, missing_number, next_number,
+};
 use refusals::Refusal;
 use std::alloc::Global;
 
@@ -51,10 +54,10 @@ pub struct Recovery {
     pub outcome: RecoveryOutcome,
 }
 
-// the number that the hive's file waits for, and that behind all that is applied
+// the numbers of entries that the hive's file waits for, and that behind all that are applied
 #[derive(Clone, Copy)]
 pub(crate) struct Waiting {
-    pub(crate) from: SequenceNumber,
+    pub(crate) reach: Reach,
     pub(crate) next: SequenceNumber,
 }
 
@@ -65,19 +68,24 @@ struct LogsFound<'a> {
     pages: Vec<PageLog<'a>>,
 }
 
-/// Recovers a hive's file by logs: chooses entries by their numbers, or the pages of one log, applies them, and judges the result as
-/// a hive of any weight. Refused for want of memory alone; what else refuses the hive or its logs is the outcome.
-pub fn recover(alloc: Global, file: &[u8], logs: &[Log<'_>]) -> Result<Recovery, Refusal>
-    ensures recovers { IfOk result (IsRecoveryOf file.now logs.now) }
+/// Recovers a hive's file by logs: chooses entries by their numbers, or the pages of one log, within limits, applies them, and judges
+/// the result as a hive of any weight. Refused for want of memory alone; what else refuses the hive or its logs is the outcome.
+pub fn recover(
+    alloc: Global,
+    file: &[u8],
+    logs: &[Log<'_>],
+    limits: RecoveryLimits,
+) -> Result<Recovery, Refusal>
+    ensures recovers { IfOk result (IsRecoveryOf file.now limits logs.now) }
     ensures refused { IfErr result (λ why. why ≡ NoMemory) }
 {
     let block = BaseBlock::read_first(file);
-    let found = logs_found(alloc, numbers_wanted(&block, logs), logs)?;
+    let found = logs_found(alloc, numbers_wanted(&block, logs, limits), logs)?;
     let RunsOutcome {
         runs,
         pages,
         outcome,
-    } = outcome_of(alloc, file, &block, logs, &found.pages);
+    } = outcome_of(alloc, file, &block, logs, &found.pages, limits);
     Ok(Recovery {
         block,
         logs: found.reports,
@@ -87,15 +95,20 @@ pub fn recover(alloc: Global, file: &[u8], logs: &[Log<'_>]) -> Result<Recovery,
     })
 }
 
-// which numbers are waited for by a file with this base block
-fn numbers_wanted(block: &Option<BaseBlock>, logs: &[Log<'_>]) -> Option<Waiting>
-    ensures { result ≡ waiting_of block.now logs.now }
+// which numbers are waited for by a file with this base block, within limits
+fn numbers_wanted(
+    block: &Option<BaseBlock>,
+    logs: &[Log<'_>],
+    limits: RecoveryLimits,
+) -> Option<Waiting>
+    ensures { result ≡ waiting_of block.now limits logs.now }
 {
     match block {
-        Some(block) if is_unclean(block) => Some(Waiting {
-            from: block.secondary,
-            next: next_number(logs, block.secondary),
-        }),
+        Some(block) if is_unclean(block) => {
+            let reach = limits.reach(block.secondary);
+            let next = next_number(logs, reach);
+            Some(Waiting { reach, next })
+        }
         _ => None,
     }
 }
@@ -156,7 +169,7 @@ fn missing(log: &Log<'_>, waiting: Option<Waiting>) -> Option<SequenceNumber>
     ensures { result ≡ missing_in waiting log.now }
 {
     match waiting {
-        Some(Waiting { from, next }) => missing_number(log, from, next),
+        Some(Waiting { reach, next }) => missing_number(log, reach, next),
         None => None,
     }
 }

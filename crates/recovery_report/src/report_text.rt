@@ -1,12 +1,13 @@
 //! The lines of a recovery's report.
-ghost use Rattle.std.specs.Prelude.{◌+◌, ◌<◌, ◌^◌, length, OnOk};
+ghost use Rattle.std.specs.Prelude.{◌≡◌, ◌+◌, ◌<◌, ◌^◌, length, OnOk};
 ghost use Rattle.std.specs.Io.KnownBytes.{Appends};
-ghost use Rattle.recovery_report.specs.ReportTexts.{state_text, version_text, numbers_text, whole_line, block_line, entries_text, missing_text, log_line, log_lines, log_text, run_line, run_lines, pages_line, steps_text, ending_line};
+ghost use Rattle.recovery_report.specs.ReportTexts.{state_text, version_text, numbers_text, whole_line, block_line, entries_text, missing_text, log_line, log_lines, log_text, run_line, run_lines, pages_line, steps_text, ending_text, file_text, not_whole_text, all_the_same_text, is_log_file, PrintsResult};
 
-use crate::outcome::{PagesRun, RecoveryOutcome};
+use crate::judgement::{RecoveredFile, RecoveryOutcome, Wholeness};
+use crate::outcome::PagesRun;
 use crate::report::{LogReport, PagesReport, Recovery};
 use base_block::{BaseBlock, SequenceNumber, Signature};
-use hive_check::write_reason;
+use hive_check::{is_log, write_reason, write_report, write_unread};
 use hive_recovery::{EntryNumbers, LogEnding, LogRun};
 use std::io::{self, Write};
 
@@ -20,25 +21,83 @@ pub fn write_steps<W: Write>(writer: &mut W, found: &Recovery) -> io::Result<()>
     write_pages(writer, found.pages)
 }
 
-/// Writes the last line: what came of a recovery.
-pub fn write_ending<W: Write>(writer: &mut W, outcome: &RecoveryOutcome) -> io::Result<()>
-    ensures { OnOk result (Appends (W.contents writer.old) (W.contents writer.new) (ending_line outcome.now)) }
+/// Writes the last line: what came of a recovery. If a file is made that isn't whole, the line before says why it isn't.
+pub fn write_ending<W: Write>(
+    writer: &mut W,
+    wholeness: Wholeness,
+    outcome: &RecoveryOutcome,
+) -> io::Result<()>
+    ensures { OnOk result (Appends (W.contents writer.old) (W.contents writer.new) (ending_text wholeness outcome.now)) }
 {
     match outcome {
-        RecoveryOutcome::Clean(file) => {
-            let number = file.number.0;
-            writeln!(writer, "clean {number}")
-        }
-        RecoveryOutcome::Recovered(file) => {
-            let number = file.number.0;
-            writeln!(writer, "recovered {number}")
-        }
-        RecoveryOutcome::NoHive(finding) => {
-            write_reason(writer, finding)?;
+        RecoveryOutcome::Whole(file) => {
+            write_file(writer, file.was_clean, file.number)?;
             writer.write_all(b"\n")
         }
+        RecoveryOutcome::NotWhole(file) => write_not_whole(writer, wholeness, file),
         RecoveryOutcome::Refused(why) => writeln!(writer, "{why}"),
     }
+}
+
+/// Writes what a check prints of the result: its report; or why there is none, and what to do.
+pub fn write_result<W: Write>(writer: &mut W, found: &Recovery) -> io::Result<()>
+    ensures { OnOk result (PrintsResult found.now.block found.now.outcome (W.contents writer.old) (W.contents writer.new)) }
+{
+    match &found.outcome {
+        RecoveryOutcome::Whole(file) => write_report(writer, &file.report),
+        RecoveryOutcome::NotWhole(file) => write_report(writer, &file.report),
+        RecoveryOutcome::Refused(why) => write_unread(writer, is_log_file(&found.block), *why),
+    }
+}
+
+// whether a file is a log by its base block
+fn is_log_file(block: &Option<BaseBlock>) -> bool
+    ensures { result ≡ is_log_file block.now }
+{
+    match block {
+        Some(block) => block.signature == Signature::REGF && block.sum_is_right && is_log(block),
+        None => false,
+    }
+}
+
+// what was made, and its number
+fn write_file<W: Write>(writer: &mut W, was_clean: bool, number: SequenceNumber) -> io::Result<()>
+    ensures { OnOk result (Appends (W.contents writer.old) (W.contents writer.new) (file_text was_clean number.0)) }
+{
+    let number = number.0;
+    if was_clean {
+        write!(writer, "clean {number}")
+    } else {
+        write!(writer, "recovered {number}")
+    }
+}
+
+// why a file isn't whole; and what was made, if it needn't be
+fn write_not_whole<W: Write>(
+    writer: &mut W,
+    wholeness: Wholeness,
+    file: &RecoveredFile,
+) -> io::Result<()>
+    ensures { OnOk result (Appends (W.contents writer.old) (W.contents writer.new) (not_whole_text wholeness file.now)) }
+{
+    write_reason(writer, &file.report.finding)?;
+    match wholeness {
+        Wholeness::Demanded => writer.write_all(b"\n"),
+        Wholeness::Waived => write_all_the_same(writer, file.was_clean, file.number),
+    }
+}
+
+// the end of a line, and what was made though it isn't whole
+fn write_all_the_same<W: Write>(
+    writer: &mut W,
+    was_clean: bool,
+    number: SequenceNumber,
+) -> io::Result<()>
+    ensures { OnOk result (Appends (W.contents writer.old) (W.contents writer.new) (all_the_same_text was_clean number.0)) }
+{
+    writer.write_all(b"\n")?;
+    write_file(writer, was_clean, number)?;
+    writer.write_all(b", not whole\n")
 }
 
 // the base block, if there is one
