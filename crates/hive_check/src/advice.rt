@@ -23,8 +23,8 @@ pub fn file_advice(is_log: bool, refusal: Refusal) -> &'static str
     ensures { result.now ≡ file_advice is_log refusal }
 {
     match (is_log, refusal) {
-        (true, Refusal::Unsupported) => "a log, not a hive: check the hive's own file",
-        _ => advice(refusal),
+        (false, _) | (true, Refusal::NoMemory) => advice(refusal),
+        (true, _) => "a log, not a hive: check the hive's own file, or `recover` it by its logs",
     }
 }
 
@@ -37,7 +37,10 @@ fn advice_on_damage(cause: Cause) -> &'static str
             "the file ends early: copy it again from its source, or restore a backup",
         Cause::BadBase => "no hive begins here: check which file this is, or restore a backup",
         Cause::NotClean => {
-            "not closed: open its store, or let the system that wrote it shut down; or restore a backup"
+            "not closed: open its store, or `recover` it by its logs; or restore a backup"
+        }
+        Cause::BadLog => {
+            "its logs don't fit: take the hive and all its logs from one moment; or restore a backup"
         }
         _ => "damaged: restore a backup; other programs may read what is left",
     }

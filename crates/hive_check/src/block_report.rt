@@ -1,10 +1,15 @@
 //! What the first sector of a hive's file says.
-ghost use Rattle.std.specs.Prelude.{◌≡◌, ◌==◌, ◌||◌, take};
+ghost use Rattle.std.specs.Prelude.{◌≡◌, take};
 ghost use Rattle.base_block.specs.Sums.{sum_of};
-ghost use Rattle.hive_check.specs.Blocks.{block_in_sector, is_log_block, sector_report};
+ghost use Rattle.hive_check.specs.Blocks.{block_in_sector, is_log_block, is_log_type, sector_report};
 
 use base_block::{BaseBlock, FileType, Signature, sum};
 use hive_records::u32_at;
+
+/// The type of a log of entries, as Windows 8.1 and later write it.
+const ENTRIES_LOG: FileType = FileType(6);
+
+const _: () = prove!(ENTRIES_LOG.0 == 6);
 
 /// The offset of the sum, and the bytes that are summed.
 const SUM_AT: usize = 508;
@@ -38,19 +43,22 @@ pub fn block_report(sector: &Option<[u8; 512]>) -> Option<BlockReport>
 }
 
 /// Whether a block is a log's by its type, if there is one.
-pub fn is_log(report: &Option<BlockReport>) -> bool
+pub(crate) fn is_of_log(report: &Option<BlockReport>) -> bool
     ensures { result ≡ is_log_block report.now }
 {
     match report {
-        Some(report) => is_log_type(report.block.file_type.0),
+        Some(report) => is_log(&report.block),
         None => false,
     }
 }
 
-fn is_log_type(file_type: u32) -> bool
-    ensures { result ≡ ((file_type == 1) || (file_type == 2)) }
+/// Whether a block is a log's by its type: 1 or 2, or 6 of a log of Windows 8.1 and later.
+pub fn is_log(block: &BaseBlock) -> bool
+    ensures { result ≡ is_log_type block.now }
 {
-    file_type == FileType::LOG.0 || file_type == FileType::OTHER_LOG.0
+    block.file_type == FileType::LOG
+        || block.file_type == FileType::OTHER_LOG
+        || block.file_type == ENTRIES_LOG
 }
 
 fn sector_report(sector: &[u8; 512]) -> BlockReport

@@ -6,7 +6,7 @@ ghost use Rattle.hive_check.specs.declared.finding.HiveReport.{HiveReport};
 ghost use Rattle.hive_check.specs.Findings.{IsReportOf, status_of};
 ghost use Rattle.hive_check.specs.ReportTexts.{PrintsReport};
 
-use crate::block_report::is_log;
+use crate::block_report::is_of_log;
 use crate::block_text::write_block;
 use crate::finding::{HiveReport, report_of};
 use crate::finding_text::write_finding;
@@ -57,10 +57,11 @@ pub fn check_hive<R: Read, W: Write>(
     Ok(report.status())
 }
 
-fn write_report<W: Write>(writer: &mut W, report: &HiveReport) -> io::Result<()>
+/// Prints what is found of a hive's file, as [`check_hive`] does.
+pub fn write_report<W: Write>(writer: &mut W, report: &HiveReport) -> io::Result<()>
     ensures { OnOk result (PrintsReport report.now (W.contents writer.old) (W.contents writer.new)) }
 {
     write_block(writer, &report.block)?;
-    write_finding(writer, is_log(&report.block), &report.finding)?;
+    write_finding(writer, is_of_log(&report.block), &report.finding)?;
     writer.flush()
 }

@@ -93,8 +93,8 @@ fn write_fault_reason<W: Write>(writer: &mut W, fault: &Fault) -> io::Result<()>
     write_key(writer, &fault.path)
 }
 
-// why a file has no bins data, which may be a log by its base block, and what to do
-fn write_unread<W: Write>(writer: &mut W, is_log: bool, refusal: Refusal) -> io::Result<()>
+/// Writes why nothing is found of a file's bins data, which may be a log by its base block, and what to do.
+pub fn write_unread<W: Write>(writer: &mut W, is_log: bool, refusal: Refusal) -> io::Result<()>
     ensures { OnOk result (Appends (W.contents writer.old) (W.contents writer.new)
         (unread_lines is_log refusal)) }
 {

@@ -18,9 +18,9 @@ mod finding_text;
 mod key_counts;
 pub mod laws;
 
-pub use block_report::BlockReport;
+pub use block_report::{BlockReport, is_log};
 pub use cell_counts::{CellCounts, TileFault};
-pub use check::{CheckError, check_hive};
+pub use check::{CheckError, check_hive, write_report};
 pub use finding::{Finding, HiveReport, report_of};
-pub use finding_text::write_reason;
+pub use finding_text::{write_reason, write_unread};
 pub use key_counts::KeyCounts;
