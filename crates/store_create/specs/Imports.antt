@@ -49,7 +49,7 @@ pub record IsImportedStore (id : List ℕ) (files : List (Option (List ℕ))) (t
   pub bytes : List (List ℕ)
   pub of_files : MayBeBytesOf files bytes
   pub made : StoreIsCreatedFrom id bytes trees state
-  pub recovers : RecoversTrees (new_store id WithOutcomes (length trees)) (trees ++ fresh_tree ∷ []) state
+  pub recovers : RecoversTrees (new_store id WithOutcomes (length trees)) 0 (trees ++ fresh_tree ∷ []) state
 
 -- why no store is made of files, except for the device: a refusal of one of them, with the number of its index, if each
 -- before it holds a hive; or want of memory
