@@ -2,7 +2,7 @@
 use Rattle.std.proofs.Common.{◌≡◌, Option, Some, None, refl}
 use Rattle.std.specs.Prelude.{MatchOption}
 use Rattle.script_syntax.specs.declared.line.Line.{Line}
-use Rattle.script_syntax.specs.declared.line.Line.TheVariants.{Hives, History, At, Session, End, Plain, Begin, Inside, Commit, Rollback, Close, Outcome, Kept, Flush, Fold, Lab}
+use Rattle.script_syntax.specs.declared.line.Line.TheVariants.{Hives, History, At, Session, End, Plain, Begin, Inside, Commit, Rollback, Close, Outcome, Kept, Flush, Fold, Served, Lab}
 use Rattle.reply_lines.specs.declared.reply.ReplyLine.{ReplyLine}
 use Rattle.script_runner.specs.Scripts.{Answers as AnswersOf}
 use Rattle.crash_lab.specs.LabStates.{LabState}
@@ -28,6 +28,7 @@ answered_as_theirs old new (Outcome label) reported is kept = (refl, (is, kept.0
 answered_as_theirs old new (Kept id) reported is kept = (refl, (is, kept.0, kept.1))
 answered_as_theirs old new Flush reported is kept = (refl, (is, kept.0, kept.1))
 answered_as_theirs old new Fold reported is kept = (refl, (is, kept.0, kept.1))
+answered_as_theirs old new (Served line) reported is kept = absurd is
 answered_as_theirs old new (Lab line) reported is kept = absurd is
 
 -- what is known after a line, whichever it is, holds of its answer too

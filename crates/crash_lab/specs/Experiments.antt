@@ -12,7 +12,7 @@ use Rattle.script_syntax.specs.declared.lab_line.CrashTear.TheVariants as crash
 use Rattle.script_syntax.specs.declared.lab_line.LabLine.{LabLine}
 use Rattle.script_syntax.specs.declared.lab_line.LabLine.TheVariants.{Accept, JournalStep, FlusherStep, TrimStep, FlushWhole, StopAt, FailAt, Crash}
 use Rattle.script_syntax.specs.declared.line.Line.{Line}
-use Rattle.script_syntax.specs.declared.line.Line.TheVariants.{Hives, History, Lab}
+use Rattle.script_syntax.specs.declared.line.Line.TheVariants.{Hives, History, Served, Lab}
 use Rattle.reply_lines.specs.declared.reply.ReplyLine.{ReplyLine}
 use Rattle.reply_lines.specs.declared.reply.ReplyLine.TheVariants as reply
 use Rattle.script_runner.specs.Plays.{is_refusal}
@@ -25,11 +25,13 @@ use Rattle.crash_lab.specs.Crashes.{MayNotReopen, OpensAfterCrash}
 use Rattle.crash_lab.specs.declared.reply.LabReply.{LabReply}
 use Rattle.crash_lab.specs.declared.reply.LabReply.TheVariants.{OneLine, Opened}
 
--- `hives` is a script's first line alone, and `history` its second; any other line may follow them
+-- `hives` is a script's first line alone, and `history` its second; any other line may follow them, but those of served
+-- sessions
 abbrev pub following_line : Option Line → Option Line
 following_line None = None
 following_line (Some (Hives count)) = None
 following_line (Some (History limit)) = None
+following_line (Some (Served line)) = None
 following_line (Some line) = Some line
 
 -- the line of the bytes of any further line

@@ -169,7 +169,7 @@ impl Laboratory {
         }
     }
 
-    // answers a line, or `None` if it is `hives` or `history`; what a loss of power would leave then is known
+    // answers a line, or `None` if it is `hives`, `history` or one of served sessions; what a loss of power would leave then is known
     fn answer(&mut self, line: Line) -> Option<LabReply>
         ensures { MatchOption result (following_line (Some line) ≡ None)
             (λ reported. (following_line (Some line) ≡ Some line)
@@ -180,7 +180,7 @@ impl Laboratory {
         reported
     }
 
-    // the reply to a line, or `None` if it is `hives` or `history`
+    // the reply to a line, or `None` if it is `hives`, `history` or one of served sessions
     fn reply(&mut self, line: Line) -> Option<LabReply>
         ensures { MatchOption result (following_line (Some line) ≡ None)
             (λ reported. (following_line (Some line) ≡ Some line)
