@@ -10,7 +10,7 @@ use ktm_calls::{Key, Registry, Session};
 use refusals::Refusal;
 use reg_names::{Name, Path};
 use reg_tree::{Data, Trees};
-use shared_store::{InSession, Served, SessionClient, serve};
+use shared_store::{BusyGate, InSession, Served, SessionClient, serve};
 use std::alloc::Global;
 use std::fs;
 use std::io::{self, ErrorKind};
@@ -89,7 +89,7 @@ fn main(rt: HostRuntime) -> io::Result<()> {
     if let Err(why) = recovery::create(alloc, &mut disk, Uuid::nil(), &trees) {
         return refused(&rt, why);
     }
-    let (_disk, served) = serve(&rt, alloc, disk, &InSession(Counters(alloc)), 3);
+    let (_disk, served) = serve(&rt, alloc, disk, &InSession(Counters(alloc)), 3, &BusyGate);
     match served {
         Ok(served) => tell(&rt, &served),
         Err(why) => refused(&rt, why),
