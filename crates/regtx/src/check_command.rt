@@ -1,10 +1,11 @@
-//! What the word `check` does with files: the folder of a store, or a hive's file.
+//! What the word `check` does with files: the folder of a store, or a hive's file, alone or with its logs.
 //!
 //! `store_check` reports a store, over the folder as a disk that is only read, and `hive_check` a hive's file.
 use crate::command_error::CommandError;
 use crate::files::{Source, Target, Trouble, last_error};
 use crate::hint::Hint;
 use crate::input_file::{is_folder, opened};
+use crate::recover_command::check_recovery;
 use crate::script_commands::{hint_at, store_in};
 use crate::store_disk::StoreDisk;
 use crate::terminal::TerminalOutput;
@@ -15,15 +16,24 @@ use std::io::{self, BufWriter, Eprint, Input};
 use std::rt::Files;
 use store_check::check_store;
 
-/// Prints a report of a store or of a hive's file.
+/// Prints a report of a store or of a hive's file; or of what a recovery of the hive by its logs would give, if there are some.
 pub fn check<
     'a,
     R: Files + Input + Print + Eprint + AllocGlobal,
     D: StoreDisk + Drop,
-    F: FnOnce(&'a str) -> Result<D, LockError>,
->(rt: &R, output: TerminalOutput, opener: F, source: &'a str) -> Result<Status, CommandError<'a>>
+    F: FnOnce(&'a str) -> Result<D, LockError> + Drop,
+>(
+    rt: &R,
+    output: TerminalOutput,
+    opener: F,
+    source: &'a str,
+    logs: &[&'a str],
+) -> Result<Status, CommandError<'a>>
     requires { F.pre opener source }
 {
+    if !logs.is_empty() {
+        return check_recovery(rt, output, source, logs);
+    }
     if is_folder(rt, source) {
         report_store(rt, output, opener, source)
     } else {

@@ -4,6 +4,9 @@ use reply_lines::Status;
 /// The status that says that a unit of work isn't kept.
 const NOT_KEPT: u8 = 3;
 
+/// The status that says that a file was made which is no whole hive.
+const NOT_WHOLE: u8 = 3;
+
 /// How the program ends.
 #[derive(Clone, Copy, Debug, PartialEq, Eq)]
 pub enum Ending {
@@ -11,6 +14,8 @@ pub enum Ending {
     Replied(Status),
     /// `kept` has found no commit of the unit of work.
     NotKept,
+    /// `recover-damaged` has made a file that is no whole hive.
+    NotWhole,
 }
 
 impl Ending {
@@ -19,6 +24,7 @@ impl Ending {
         match self {
             Ending::Replied(status) => status.code(),
             Ending::NotKept => NOT_KEPT,
+            Ending::NotWhole => NOT_WHOLE,
         }
     }
 }

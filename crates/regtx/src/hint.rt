@@ -7,13 +7,15 @@ use std::io::{self, Eprint, ErrorKind};
 
 /// Why a file or a folder can't be used.
 #[derive(Clone, Copy, Debug)]
-pub enum Why {
+pub enum Why<'a> {
     /// The system refuses it.
     Denied(io::Error),
     /// It is a key with subkeys, which another command deletes.
     HasSubkeys,
     /// Another program has it.
     InUse,
+    /// Another program has it, and serves it at the socket of this path.
+    ServedAt(&'a str),
     /// It is there already.
     IsThere,
     /// There is no such file.
@@ -33,12 +35,12 @@ pub struct Hint<'a> {
     subject: &'a str,
     // the file of a store, if the path is that of the store's folder
     file: Option<FileName>,
-    why: Why,
+    why: Why<'a>,
 }
 
 impl<'a> Hint<'a> {
     /// Why what a path names can't be used.
-    pub fn of(subject: &'a str, why: Why) -> Hint<'a> {
+    pub fn of(subject: &'a str, why: Why<'a>) -> Hint<'a> {
         Hint {
             subject,
             file: None,
@@ -63,7 +65,7 @@ impl<'a> Hint<'a> {
     }
 
     // why a file of the store in a folder can't be used, or the folder
-    fn of_store(folder: &'a str, file: Option<FileName>, why: Why) -> Hint<'a> {
+    fn of_store(folder: &'a str, file: Option<FileName>, why: Why<'a>) -> Hint<'a> {
         Hint {
             subject: folder,
             file,
@@ -77,6 +79,23 @@ impl<'a> Hint<'a> {
             LockError::NoMemory => None,
             LockError::InUse => Some(Hint::of(folder, Why::InUse)),
             LockError::Denied(error) => Some(Hint::denied(folder, *error)),
+        }
+    }
+
+    /// The folder, if another program has it.
+    pub fn folder_in_use(&self) -> Option<&'a str> {
+        match self.why {
+            Why::InUse => Some(self.subject),
+            _ => None,
+        }
+    }
+
+    /// That another program serves this at the socket of a path.
+    pub fn served_at(&self, socket: &'a str) -> Hint<'a> {
+        Hint {
+            subject: self.subject,
+            file: self.file,
+            why: Why::ServedAt(socket),
         }
     }
 
@@ -113,7 +132,7 @@ impl<'a> Hint<'a> {
     }
 }
 
-impl Why {
+impl Why<'_> {
     // in words, without the number that the system's error has
     fn reason(self, alloc: Global) -> io::Result<String> {
         let mut words = String::new(alloc);
@@ -124,6 +143,7 @@ impl Why {
             Why::Denied(error) => write!(words, "{error}")?,
             Why::HasSubkeys => words.push_str("has subkeys; del-tree deletes all of it")?,
             Why::InUse => words.push_str("another program has it")?,
+            Why::ServedAt(socket) => write!(words, "another program has it, served at {socket}")?,
             Why::IsThere => words.push_str("is there already")?,
             Why::NoFile => words.push_str("no such file")?,
             Why::NoFolder => words.push_str("no such folder")?,

@@ -6,7 +6,8 @@
 //! standard error is a terminal, or `REGTX_HINTS` is `1`, it shows why something can't be done. If standard output is
 //! no terminal, standard error also shows on a terminal how far a long script is read. The status is 0 if no refusal
 //! was printed. It is 1 if one was, a script or a file can't be read, a store can't be made or opened, or a write fails.
-//! It is 2 at a line that is none or at wrong words, and 3 if `kept` finds nothing.
+//! It is 2 at a line that is none or at wrong words, and 3 if `kept` finds nothing, or if `recover-damaged` makes a file that is
+//! no whole hive.
 #![tactic(auto)]
 
 mod about;
@@ -17,15 +18,17 @@ mod command_error;
 mod ending;
 mod export_command;
 mod files;
+mod follow_command;
 mod hint;
 mod input_file;
 mod kept_command;
 mod key_words;
 mod lock_wait;
-mod new_file;
+mod made_file;
 mod recover_command;
 mod script_commands;
 mod serve_command;
+mod served_file;
 mod store_commands;
 mod store_disk;
 mod tasks;
@@ -44,6 +47,7 @@ use crate::command_error::CommandError;
 use crate::ending::Ending;
 use crate::export_command::export;
 use crate::files::{Source, Target, Trouble, last_error};
+use crate::follow_command::follow;
 use crate::hint::Hint;
 use crate::input_file::opened;
 use crate::kept_command::{parse_kept, tell_kept};
@@ -57,6 +61,7 @@ use crate::tasks::Task;
 use crate::terminal::TerminalOutput;
 use crate::value_commands::{read_store, write_store};
 use crate::words::parse_task;
+use file_backups::BackupsIn;
 use file_disk::LockError;
 use hive_dump::{DumpError, dump};
 use reply_lines::Status;
@@ -69,6 +74,7 @@ use std::sync::Wait;
 use std::thread::Threads;
 use std::time::Clock;
 use std::{env, io};
+use store_backup::BackupFolder;
 
 fn main(rt: HostRuntime) -> ExitCode {
     let output = TerminalOutput::of(&rt, &rt.stderr(), &rt.stdout(), &rt.stdin());
@@ -79,6 +85,7 @@ fn main(rt: HostRuntime) -> ExitCode {
             output,
             |folder| wait.open(&rt, alloc, Access::ReadWrite, folder),
             |folder| wait.open(&rt, alloc, Access::ReadOnly, folder),
+            |folder| BackupsIn::new(&rt, folder),
             &words,
         ),
         Err(command_error) => Ending::Replied(print_error(&rt, output, None, &command_error)),
@@ -93,11 +100,21 @@ fn answer<
     D: StoreDisk + Drop + Send,
     F: FnOnce(&'a str) -> Result<D, LockError> + Drop,
     G: FnOnce(&'a str) -> Result<D, LockError> + Drop,
->(rt: &'a R, output: TerminalOutput, opener: F, reader: G, words: &'a [String]) -> Ending
+    B: BackupFolder + Sync + Drop,
+    H: FnOnce(Option<&'a str>) -> B + Drop,
+>(
+    rt: &'a R,
+    output: TerminalOutput,
+    opener: F,
+    reader: G,
+    backups_in: H,
+    words: &'a [String],
+) -> Ending
     requires opens { F.IsAlwaysCallable opener }
     requires reads { G.IsAlwaysCallable reader }
+    requires backs_up { H.IsAlwaysCallable backups_in }
 {
-    match act(rt, output, opener, reader, words) {
+    match act(rt, output, opener, reader, backups_in, words) {
         Ok(ending) => ending,
         Err(command_error) => {
             Ending::Replied(print_error(rt, output, words.get(1), &command_error))
@@ -112,19 +129,23 @@ fn act<
     D: StoreDisk + Drop + Send,
     F: FnOnce(&'a str) -> Result<D, LockError> + Drop,
     G: FnOnce(&'a str) -> Result<D, LockError> + Drop,
+    B: BackupFolder + Sync + Drop,
+    H: FnOnce(Option<&'a str>) -> B + Drop,
 >(
     rt: &'a R,
     output: TerminalOutput,
     opener: F,
     reader: G,
+    backups_in: H,
     words: &'a [String],
 ) -> Result<Ending, CommandError<'a>>
     requires opens { F.IsAlwaysCallable opener }
     requires reads { G.IsAlwaysCallable reader }
+    requires backs_up { H.IsAlwaysCallable backups_in }
 {
     match parse_kept(words)? {
         Some(question) => tell_kept(rt, output, reader, question),
-        None => Ok(Ending::Replied(run(rt, output, opener, reader, words)?)),
+        None => run(rt, output, opener, reader, backups_in, words),
     }
 }
 
@@ -135,17 +156,22 @@ fn run<
     D: StoreDisk + Drop + Send,
     F: FnOnce(&'a str) -> Result<D, LockError> + Drop,
     G: FnOnce(&'a str) -> Result<D, LockError> + Drop,
+    B: BackupFolder + Sync + Drop,
+    H: FnOnce(Option<&'a str>) -> B + Drop,
 >(
     rt: &'a R,
     output: TerminalOutput,
     opener: F,
     reader: G,
+    backups_in: H,
     words: &'a [String],
-) -> Result<Status, CommandError<'a>>
+) -> Result<Ending, CommandError<'a>>
     requires opens { F.IsAlwaysCallable opener }
     requires reads { G.IsAlwaysCallable reader }
+    requires backs_up { H.IsAlwaysCallable backups_in }
 {
-    match parse_task(rt.alloc(), words)? {
+    let replied = match parse_task(rt.alloc(), words)? {
+        Task::Recover(asked) => return recover_hive(rt, output, &asked),
         Task::Play { script } => play_script(rt, output, InMemory::Play, script),
         Task::Lab { script } => play_script(rt, output, InMemory::Lab, script),
         Task::Sweep { script } => play_script(rt, output, InMemory::Sweep, script),
@@ -158,7 +184,9 @@ fn run<
         } => import_store(rt, output, folder, id, &sources),
         Task::Upgrade { source, folder } => upgrade_store(rt, output, opener, source, folder),
         Task::Run { folder, script } => run_script(rt, output, opener, folder, script),
-        Task::Serve { folder } => serve_store(rt, output, opener, folder),
+        Task::Serve { folder, backups } => {
+            serve_store(rt, output, opener, folder, &backups_in(backups))
+        }
         Task::Apply {
             folder,
             file,
@@ -176,16 +204,17 @@ fn run<
         } => export(rt, output, reader, source, form, &words),
         Task::Read { folder, reading } => read_store(rt, output, reader, folder, reading),
         Task::Write { folder, writing } => write_store(rt, output, opener, folder, writing),
-        Task::Check { source } => check(rt, output, reader, source),
-        Task::Recover { hive, paths } => recover_hive(rt, output, hive, &paths),
+        Task::Check { source, logs } => check(rt, output, reader, source, &logs),
+        Task::Follow { folder, after } => follow(rt, output, reader, folder, after),
         Task::About => print_about(rt, output),
         Task::Usage { word } => print_usages(rt, output, word),
-    }
+    };
+    Ok(Ending::Replied(replied?))
 }
 
 // prints why nothing could be begun; a terminal shows more: which word is wrong, and the usage of the command of this
 // name if the words are
-fn print_error<R: Print + Eprint + AllocGlobal>(
+fn print_error<R: Files + Print + Eprint + AllocGlobal>(
     rt: &R,
     output: TerminalOutput,
     name: Option<&String>,
@@ -194,7 +223,7 @@ fn print_error<R: Print + Eprint + AllocGlobal>(
     if let Err(error) = println!(rt; "{command_error}") {
         return output.status(rt, Err(error));
     }
-    output.hint(rt, command_error.hint());
+    output.hint_at_start(rt, command_error.hint());
     if command_error.status() == Status::Wrong {
         output.usage(rt, name.map(|name| name.as_str()));
     }

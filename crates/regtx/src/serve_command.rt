@@ -16,21 +16,30 @@ use std::alloc::Global;
 use std::io::{self, BufReader, Eprint, Input};
 use std::sync::Wait;
 use std::thread::{self, Threads};
+use store_backup::BackupFolder;
 use store_server::serve_desks;
 
-/// Serves the store in a folder, which no other program has open until this ends, up to the end of standard input.
+/// Serves the store in a folder, which no other program has open until this ends, up to the end of standard input. Copies of
+/// it are made in a folder of backups.
 pub fn serve_store<
     'a,
     R: Input + Print + Eprint + AllocGlobal + Threads + Wait + Sync,
     D: StoreDisk + Drop + Send,
     F: FnOnce(&'a str) -> Result<D, LockError>,
->(rt: &R, output: TerminalOutput, opener: F, folder: &'a str) -> Result<Status, CommandError<'a>>
+    B: BackupFolder + Sync,
+>(
+    rt: &R,
+    output: TerminalOutput,
+    opener: F,
+    folder: &'a str,
+    backups: &B,
+) -> Result<Status, CommandError<'a>>
     requires { F.pre opener folder }
 {
     let alloc = rt.alloc();
     let disk = store_in(opener(folder), folder)?;
     let desks = Desks::new(alloc, MOST_CLIENTS)?;
-    let (frames, (disk, served)) = serve_beside_input(rt, alloc, disk, &desks);
+    let (frames, (disk, served)) = serve_beside_input(rt, alloc, disk, &desks, backups);
     let ran = match frames {
         FramesEnd::Broken => Ok(Status::Wrong),
         // what the broker sent since wasn't read
@@ -43,15 +52,20 @@ pub fn serve_store<
 }
 
 // serves the store on a thread of its own, and reads frames on the caller's
-fn serve_beside_input<R: Input + Print + Threads + Wait + Sync, D: Disk + Drop + Send>(
+fn serve_beside_input<
+    R: Input + Print + Threads + Wait + Sync,
+    D: Disk + Drop + Send,
+    B: BackupFolder + Sync,
+>(
     rt: &R,
     alloc: Global,
     disk: D,
     desks: &Desks,
+    backups: &B,
 ) -> (FramesEnd, (D, io::Result<Status>)) {
     let (served, frames) = thread::join(
         rt,
-        move || serve_to_end(rt, alloc, disk, desks),
+        move || serve_to_end(rt, alloc, disk, desks, backups),
         || read_input(rt, alloc, desks),
     );
     (frames, served)
@@ -69,13 +83,14 @@ fn read_input<R: Input + Wait>(rt: &R, alloc: Global, desks: &Desks) -> FramesEn
 }
 
 // serves the clients at the desks until they are told to stop, and prints a refusal of the opening or of the end
-fn serve_to_end<R: Print + Threads + Wait + Sync, D: Disk + Drop + Send>(
+fn serve_to_end<R: Print + Threads + Wait + Sync, D: Disk + Drop + Send, B: BackupFolder + Sync>(
     rt: &R,
     alloc: Global,
     disk: D,
     desks: &Desks,
+    backups: &B,
 ) -> (D, io::Result<Status>) {
-    let (disk, served) = serve_desks(rt, alloc, disk, desks, MOST_HISTORY);
+    let (disk, served) = serve_desks(rt, alloc, disk, desks, backups, MOST_HISTORY);
     // nobody is served any more
     desks.stop(rt);
     let told = match served {

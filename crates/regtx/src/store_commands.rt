@@ -15,7 +15,7 @@ use crate::store_disk::StoreDisk;
 use crate::tasks::{HiveCount, Sources};
 use crate::terminal::{TerminalOutput, end};
 use disk_model::Disk;
-use file_disk::{Denial, FileDisk, LockError, Unknown};
+use file_disk::{Denial, FileDisk, LockError, Unknown, sync_parent};
 use progress_line::{Moved, ProgressLine, WatchedDisk, WatchedReader, Work, WorkStage};
 use refusals::Refusal;
 use reply_lines::Status;
@@ -173,7 +173,7 @@ fn held_folder<'a, 'b, R: Files<File = File> + AllocGlobal>(
 // makes a folder if it is missing, so that a power cut leaves it
 fn make_folder<'a, R: Files<File = File>>(rt: &R, folder: &'a str) -> Result<(), CommandError<'a>> {
     match fs::create_dir(rt, folder) {
-        Ok(()) => sync_parent(rt, folder),
+        Ok(()) => sync_parent(rt, folder).map_err(|error| unmade(folder, error)),
         Err(error) if error.kind() == ErrorKind::AlreadyExists => find_folder(rt, folder),
         Err(error) => Err(unmade(folder, error)),
     }
@@ -186,19 +186,6 @@ fn find_folder<'a, R: Files>(rt: &R, folder: &'a str) -> Result<(), CommandError
         Ok(_) => Err(unmade(folder, ErrorKind::NotADirectory.into())),
         Err(error) => Err(unmade(folder, error)),
     }
-}
-
-// syncs the folder in which a folder is
-fn sync_parent<'a, R: Files<File = File>>(rt: &R, folder: &'a str) -> Result<(), CommandError<'a>> {
-    let parent = match Path::new(folder).parent() {
-        Some(parent) if !parent.as_os_str().is_empty() => parent,
-        _ => Path::new("."),
-    };
-    let synced = match File::open(rt, parent) {
-        Ok(handle) => handle.sync_all(),
-        Err(error) => Err(error),
-    };
-    synced.map_err(|error| unmade(folder, error))
 }
 
 // looks that a folder has no entry of a journal's name, whatever that is

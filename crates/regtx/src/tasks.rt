@@ -3,6 +3,8 @@ ghost use Rattle.std.specs.Prelude.{◌≤◌, length};
 ghost use Rattle.refusals.specs.declared.limits.TheConstants.{MOST_HIVES};
 
 use crate::value_commands::{Reading, Writing};
+use hive_recovery::RecoveryLimits;
+use recovery_report::Wholeness;
 use uuid::Uuid;
 
 /// What the words of the command line ask for.
@@ -30,10 +32,12 @@ pub enum Task<'a> {
         /// The path of the script.
         script: &'a str,
     },
-    /// `serve DIR`: a store is to be served to the clients of a broker.
+    /// `serve DIR [BACKUPS]`: a store is to be served to the clients of a broker, who may have copies made in a folder.
     Serve {
         /// The folder of the store.
         folder: &'a str,
+        /// The folder in which copies of it are made, if there is one.
+        backups: Option<&'a str>,
     },
     /// `dump FILE`: a hive is to be printed.
     Dump {
@@ -90,18 +94,23 @@ pub enum Task<'a> {
         /// What.
         writing: Writing<'a>,
     },
-    /// `check SOURCE`: a report is to be printed.
+    /// `check SOURCE [LOG ..]`: a report is to be printed.
     Check {
         /// The folder of a store, or the path of a hive's file.
         source: &'a str,
+        /// The paths of the hive's logs.
+        logs: Vec<&'a str>,
     },
-    /// `recover HIVE LOG.. OUT`: a hive that wasn't closed cleanly is to be recovered to a new file.
-    Recover {
-        /// The path of the hive's file.
-        hive: &'a str,
-        /// The paths of its logs, and that of the new file.
-        paths: Vec<&'a str>,
+    /// `follow DIR N`: the changes of a store after a number are to be told.
+    Follow {
+        /// The folder of the store.
+        folder: &'a str,
+        /// The number.
+        after: u64,
     },
+    /// `recover HIVE LOG.. OUT`, `recover-from N ..`, `recover-to N ..`, `recover-damaged ..`: a hive that wasn't closed cleanly is
+    /// to be recovered to a new file.
+    Recover(RecoveryTask<'a>),
     /// `about`: what the program is.
     About,
     /// `usage [WORD]`: how a command is used, or each of them.
@@ -125,6 +134,19 @@ pub enum Task<'a> {
         /// The folder of the store that is to be made.
         folder: &'a str,
     },
+}
+
+/// What a hive is to be recovered by, and to which file.
+#[derive(Drop)]
+pub struct RecoveryTask<'a> {
+    /// The path of the hive's file.
+    pub hive: &'a str,
+    /// The paths of its logs, and that of the new file.
+    pub paths: Vec<&'a str>,
+    /// Which entries may be applied.
+    pub limits: RecoveryLimits,
+    /// Whether the new file has to be that of a whole hive.
+    pub wholeness: Wholeness,
 }
 
 /// How many hives a store is to have, 1 to 16.

@@ -2,6 +2,7 @@
 //! lines are typed at one.
 use crate::hint::Hint;
 use crate::input_file::{is_standard_input, length_of};
+use crate::served_file::socket_of;
 use crate::usages::{USAGES, Usage};
 use progress_line::{ProgressLine, Work, WorkStage};
 use reply_lines::Status;
@@ -60,6 +61,22 @@ impl TerminalOutput {
             if self.hints {
                 hint.say(rt, rt.alloc());
             }
+        }
+    }
+
+    /// Says why nothing could be begun, if there is a hint. Of a store that another program has it says at which socket that
+    /// serves it, if the folder tells.
+    pub fn hint_at_start<R: Files + Eprint + AllocGlobal>(self, rt: &R, hint: Option<Hint<'_>>) {
+        let folder = match hint {
+            Some(hint) if self.hints => hint.folder_in_use(),
+            _ => None,
+        };
+        match (
+            hint,
+            folder.and_then(|folder| socket_of(rt, rt.alloc(), folder)),
+        ) {
+            (Some(hint), Some(socket)) => self.hint(rt, Some(hint.served_at(&socket))),
+            _ => self.hint(rt, hint),
         }
     }
 

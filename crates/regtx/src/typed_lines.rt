@@ -89,7 +89,8 @@ impl<'a, T: Read + Drop, R: Print> Read for TypedLines<'a, T, R> {
 // whether a run takes a line. For want of memory it isn't known, and the run tells that itself
 fn is_taken(alloc: Global, line: &[u8]) -> bool {
     match read_line(alloc, line.strip_suffix(&[LINE_END]).unwrap_or(line)) {
-        Ok(Line::Hives { .. } | Line::History { .. } | Line::Lab { .. }) => false,
+        Ok(Line::Hives { .. } | Line::History { .. } | Line::Served { .. } | Line::Lab { .. }) =>
+            false,
         Ok(_) => true,
         Err(ParseError::NotUnderstood) => false,
         Err(ParseError::NoMemory) => true,

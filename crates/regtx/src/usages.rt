@@ -18,7 +18,7 @@ impl fmt::Display for Usage {
 }
 
 /// How each command is used.
-pub const USAGES: [Usage; 29] = [
+pub const USAGES: [Usage; 33] = [
     Usage {
         name: "new",
         call: "new DIR ID COUNT",
@@ -41,7 +41,7 @@ pub const USAGES: [Usage; 29] = [
     },
     Usage {
         name: "serve",
-        call: "serve DIR",
+        call: "serve DIR [BACKUPS]",
         does: "serves a store to the clients of the broker regtxd, by frames on standard input and output",
     },
     Usage {
@@ -126,13 +126,33 @@ pub const USAGES: [Usage; 29] = [
     },
     Usage {
         name: "check",
-        call: "check SOURCE",
-        does: "reports what a store or a hive's file has, and whether it is whole",
+        call: "check SOURCE [LOG ..]",
+        does: "reports what a store or a hive's file has, and whether it is whole; with its logs, what `recover` would make",
+    },
+    Usage {
+        name: "follow",
+        call: "follow DIR N",
+        does: "tells the changes after number N that a store's journal holds, as lines that make them",
     },
     Usage {
         name: "recover",
         call: "recover HIVE LOG.. OUT",
         does: "makes a clean hive of one that wasn't closed, by its logs",
+    },
+    Usage {
+        name: "recover-from",
+        call: "recover-from N HIVE LOG.. OUT",
+        does: "the same, if the first entry that is applied has the number N",
+    },
+    Usage {
+        name: "recover-to",
+        call: "recover-to N HIVE LOG.. OUT",
+        does: "the same by the entries up to the number N: an earlier state",
+    },
+    Usage {
+        name: "recover-damaged",
+        call: "recover-damaged HIVE LOG.. OUT",
+        does: "the same, also if the result is no whole hive; status 3 if it isn't",
     },
     Usage {
         name: "play",

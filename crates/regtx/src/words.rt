@@ -1,9 +1,12 @@
 //! The words of the command line: one level of sub-commands, with positional arguments alone.
 
 use crate::command_error::CommandError;
-use crate::tasks::{ExportForm, HiveCount, Sources, Task};
+use crate::tasks::{ExportForm, HiveCount, RecoveryTask, Sources, Task};
 use crate::value_words::parse_value_task;
+use base_block::SequenceNumber;
 use clap::{Arg, ArgAction, ArgMatches, Command};
+use hive_recovery::RecoveryLimits;
+use recovery_report::Wholeness;
 use refusals::limits::MOST_HIVES;
 use std::alloc::{AllocError, Global};
 use uuid::Uuid;
@@ -42,6 +45,7 @@ fn parse_command<'a>(alloc: Global, words: &'a [String]) -> Result<Task<'a>, Com
         }),
         Some(("serve", given)) => Ok(Task::Serve {
             folder: text(given, "DIR")?,
+            backups: given.get_str("BACKUPS"),
         }),
         Some(("dump", given)) => Ok(Task::Dump {
             file: text(given, "FILE")?,
@@ -88,17 +92,65 @@ fn parse_file_task<'a>(
         "export-tsv" => export_task(alloc, ExportForm::Tsv, given),
         "check" => Ok(Task::Check {
             source: text(given, "SOURCE")?,
+            logs: words_after(alloc, given)?,
         }),
-        "recover" => Ok(Task::Recover {
-            hive: text(given, "HIVE")?,
-            paths: words_after(alloc, given)?,
+        "follow" => Ok(Task::Follow {
+            folder: text(given, "DIR")?,
+            after: number(text(given, "N")?)?,
         }),
         "about" => Ok(Task::About),
         "usage" => Ok(Task::Usage {
             word: given.get_str("COMMAND"),
         }),
+        _ => parse_recovery(alloc, name, given),
+    }
+}
+
+// what the words of a command that recovers a hive ask for
+fn parse_recovery<'a>(
+    alloc: Global,
+    name: &str,
+    given: &ArgMatches<'a>,
+) -> Result<Task<'a>, CommandError<'a>> {
+    let none = RecoveryLimits::NONE;
+    match name {
+        "recover" => recovery_task(alloc, given, none, Wholeness::Demanded),
+        "recover-from" => {
+            let from = Some(entry_number(given)?);
+            recovery_task(
+                alloc,
+                given,
+                RecoveryLimits { from, ..none },
+                Wholeness::Demanded,
+            )
+        }
+        "recover-to" => {
+            let to = Some(entry_number(given)?);
+            recovery_task(
+                alloc,
+                given,
+                RecoveryLimits { to, ..none },
+                Wholeness::Demanded,
+            )
+        }
+        "recover-damaged" => recovery_task(alloc, given, none, Wholeness::Waived),
         _ => Err(CommandError::WrongWords),
     }
+}
+
+// a recovery of the hive that the words name
+fn recovery_task<'a>(
+    alloc: Global,
+    given: &ArgMatches<'a>,
+    limits: RecoveryLimits,
+    wholeness: Wholeness,
+) -> Result<Task<'a>, CommandError<'a>> {
+    Ok(Task::Recover(RecoveryTask {
+        hive: text(given, "HIVE")?,
+        paths: words_after(alloc, given)?,
+        limits,
+        wholeness,
+    }))
 }
 
 // what the words of an export ask for
@@ -134,7 +186,7 @@ fn command<'a>(alloc: Global) -> Result<Command<'a>, AllocError> {
     let all = with_one(alloc, all, "sweep", "SCRIPT")?;
     let all = with_one(alloc, all, "dump", "FILE")?;
     let all = with_run(alloc, all)?;
-    let all = with_one(alloc, all, "serve", "DIR")?;
+    let all = with_serve(alloc, all)?;
     let all = with_new(alloc, all)?;
     let all = with_import(alloc, all)?;
     let all = with_upgrade(alloc, all)?;
@@ -144,8 +196,12 @@ fn command<'a>(alloc: Global) -> Result<Command<'a>, AllocError> {
     let all = with_export(alloc, all, "export-utf8")?;
     let all = with_export(alloc, all, "export-json")?;
     let all = with_export(alloc, all, "export-tsv")?;
-    let all = with_one(alloc, all, "check", "SOURCE")?;
-    let all = with_recover(alloc, all)?;
+    let all = with_check(alloc, all)?;
+    let all = with_follow(alloc, all)?;
+    let all = with_recover(alloc, all, "recover")?;
+    let all = with_limited_recover(alloc, all, "recover-from")?;
+    let all = with_limited_recover(alloc, all, "recover-to")?;
+    let all = with_recover(alloc, all, "recover-damaged")?;
     let all = with_usage(alloc, all)?;
     all.subcommand(Command::new(alloc, "about"))
 }
@@ -171,9 +227,36 @@ fn with_export<'a>(
     all.subcommand(export.arg(others(alloc))?)
 }
 
-// the same, and `recover`
-fn with_recover<'a>(alloc: Global, all: Command<'a>) -> Result<Command<'a>, AllocError> {
-    let recover = Command::new(alloc, "recover").arg(one(alloc, "HIVE"))?;
+// the same, and `check`
+fn with_check<'a>(alloc: Global, all: Command<'a>) -> Result<Command<'a>, AllocError> {
+    let check = Command::new(alloc, "check").arg(one(alloc, "SOURCE"))?;
+    all.subcommand(check.arg(others(alloc))?)
+}
+
+// the same, and `follow`
+fn with_follow<'a>(alloc: Global, all: Command<'a>) -> Result<Command<'a>, AllocError> {
+    let follow = Command::new(alloc, "follow").arg(one(alloc, "DIR"))?;
+    all.subcommand(follow.arg(one(alloc, "N"))?)
+}
+
+// the same, and a recovery of this name
+fn with_recover<'a>(
+    alloc: Global,
+    all: Command<'a>,
+    name: &'a str,
+) -> Result<Command<'a>, AllocError> {
+    let recover = Command::new(alloc, name).arg(one(alloc, "HIVE"))?;
+    all.subcommand(recover.arg(others(alloc))?)
+}
+
+// the same, and a recovery of this name with the number of an entry
+fn with_limited_recover<'a>(
+    alloc: Global,
+    all: Command<'a>,
+    name: &'a str,
+) -> Result<Command<'a>, AllocError> {
+    let recover = Command::new(alloc, name).arg(one(alloc, "N"))?;
+    let recover = recover.arg(one(alloc, "HIVE"))?;
     all.subcommand(recover.arg(others(alloc))?)
 }
 
@@ -204,6 +287,13 @@ fn with_one<'a>(
 fn with_run<'a>(alloc: Global, all: Command<'a>) -> Result<Command<'a>, AllocError> {
     let run = Command::new(alloc, "run").arg(one(alloc, "DIR"))?;
     all.subcommand(run.arg(one(alloc, "SCRIPT"))?)
+}
+
+// the same, and `serve`
+fn with_serve<'a>(alloc: Global, all: Command<'a>) -> Result<Command<'a>, AllocError> {
+    let serve = Command::new(alloc, "serve").arg(one(alloc, "DIR"))?;
+    let backups = Arg::new(alloc, "BACKUPS").action(ArgAction::Set);
+    all.subcommand(serve.arg(backups)?)
 }
 
 // the same, and `new`
@@ -246,14 +336,33 @@ fn id<'a>(given: &ArgMatches<'a>) -> Result<Uuid, CommandError<'a>> {
     }
 }
 
-// a number of hives, in decimal digits; a sign isn't allowed
+// the number of an entry
+fn entry_number<'a>(given: &ArgMatches<'a>) -> Result<SequenceNumber, CommandError<'a>> {
+    let word = text(given, "N")?;
+    match u32::try_from(number(word)?) {
+        Ok(number) => Ok(SequenceNumber(number)),
+        Err(_) => Err(CommandError::WrongWord(word)),
+    }
+}
+
+// a number of hives
 fn hive_count<'a>(word: &'a str) -> Result<HiveCount, CommandError<'a>> {
+    match number(word)? {
+        count if count >= 1 && count <= MOST_HIVES as u64 => Ok(HiveCount {
+            number: count as usize,
+        }),
+        _ => Err(CommandError::WrongWord(word)),
+    }
+}
+
+// a number in decimal digits; a sign isn't allowed
+fn number<'a>(word: &'a str) -> Result<u64, CommandError<'a>> {
     if !word.as_bytes().iter().all(|byte| byte.is_ascii_digit()) {
         return Err(CommandError::WrongWord(word));
     }
-    match word.parse::<usize>() {
-        Ok(number) if number >= 1 && number <= MOST_HIVES => Ok(HiveCount { number }),
-        _ => Err(CommandError::WrongWord(word)),
+    match word.parse::<u64>() {
+        Ok(number) => Ok(number),
+        Err(_) => Err(CommandError::WrongWord(word)),
     }
 }
 
