@@ -27,6 +27,7 @@ void start_service(struct broker *broker)
         stop(broker);
         return;
     }
+    write_served_file(&broker->served_file, broker->options.store, broker->listener.fd);
     print_line("ready", 5);
     notify(&broker->notify_socket, "READY=1");
 }
@@ -36,6 +37,7 @@ void stop(struct broker *broker)
     if (broker->is_stopping)
         return;
     broker->is_stopping = true;
+    remove_served_file(&broker->served_file, broker->options.store);
     close_listener(&broker->listener, broker->options.path);
     notify(&broker->notify_socket, "STOPPING=1");
 }
@@ -43,6 +45,7 @@ void stop(struct broker *broker)
 _Noreturn void give_up(struct broker *broker, const char *what)
 {
     say_errno(what);
+    remove_served_file(&broker->served_file, broker->options.store);
     remove_socket_file(&broker->listener, broker->options.path);
     exit(EXIT_FAILURE);
 }

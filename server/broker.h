@@ -10,11 +10,13 @@
 #include "listener.h"
 #include "options.h"
 #include "program.h"
+#include "served_file.h"
 #include "systemd.h"
 
 struct broker {
     struct options options;
     struct listener listener;
+    struct served_file served_file;
     struct notify_socket notify_socket;
     struct program program;
     struct queue queue;

@@ -42,6 +42,8 @@ static bool parse_option(struct options *options, int letter, const char *word)
     } else if (letter == 'n') {
         is_right = parse_number(word, PLACES, 10, &number) && number > 0;
         options->most = (int)number;
+    } else if (letter == 's') {
+        is_right = (options->store = word)[0] != 0;
     } else if (letter == 't') {
         is_right = parse_number(word, INT32_MAX, 10, &number) && number > 0;
         options->idle = (int64_t)number * 1000;
@@ -57,7 +59,7 @@ bool parse_options(struct options *options, int count, char **words)
 {
     int letter;
     *options = (struct options){.mode = 0600, .most = PLACES};
-    while ((letter = getopt(count, words, "+m:g:n:t:v")) != -1)
+    while ((letter = getopt(count, words, "+m:g:n:s:t:v")) != -1)
         if (!parse_option(options, letter, optarg))
             return false;
     if (count - optind < 2)

@@ -12,6 +12,7 @@ enum { PATH_SIZE = sizeof((struct sockaddr_un *)0)->sun_path };
 
 struct options {
     const char *path;
+    const char *store; /* the folder in which the socket's path is told; NULL: it isn't */
     char **command;
     mode_t mode;
     gid_t group;

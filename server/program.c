@@ -7,6 +7,7 @@
 #include <fcntl.h>
 #include <signal.h>
 #include <spawn.h>
+#include <stdlib.h>
 #include <unistd.h>
 
 #include "messages.h"
@@ -54,10 +55,13 @@ static int spawn(pid_t *pid, char **command, int input, int output)
     return failed;
 }
 
-/* Its ends of the pipes are its own, so that those of the broker don't wait. */
+/* Its ends of the pipes are its own, so that those of the broker don't wait. Its hints say on standard
+   error which file the system refused, though that is no terminal: unless the caller chose otherwise. */
 void start_program(struct program *program, char **command)
 {
     int input[2], output[2];
+    if (setenv("REGTX_HINTS", "1", 0) != 0)
+        die("setenv");
     if (pipe2(input, O_CLOEXEC) != 0 || pipe2(output, O_CLOEXEC) != 0)
         die("pipe");
     errno = spawn(&program->pid, command, input[0], output[1]);

@@ -46,6 +46,7 @@ struct replies {
     size_t size;
     char start[START];
     bool is_explained; /* a line was none, or there was a refusal in the place of `opened` */
+    bool has_followed; /* a refusal came, or that no more is told to one who follows */
 };
 
 /* a blank in a name, as lines have it */
@@ -58,6 +59,7 @@ static unsigned long long asked; /* lines that were read, those without an end l
 static bool is_in_line;          /* the last byte that was read ended no line */
 static bool has_input = true, has_end, may_send = true, is_over;
 static bool holds_first; /* the first line is kept back until it is whole */
+static bool is_follower; /* the line is one whose replies end when more is sent, or no more */
 static int server = -1, status;
 
 static void say(const char *format, ...)
@@ -118,9 +120,12 @@ static void judge_reply(void)
     if (is_refusal(line, replies.size)) {
         raise_status(REFUSED);
         replies.is_explained |= replies.count == 0;
+        replies.has_followed = true;
     } else if (is_wrong_line(line, replies.size)) {
         raise_status(WRONG);
         replies.is_explained = true;
+    } else if (begins(line, replies.size, "followed ")) {
+        replies.has_followed = true;
     }
     replies.count++;
     replies.size = 0;
@@ -231,6 +236,17 @@ static void fill(struct pollfd *polled)
     polled[OUTPUT] = (struct pollfd){.fd = has_answers ? STDOUT_FILENO : -1, .events = POLLOUT};
 }
 
+/* This side is closed once all is sent, and the service sees the end. One who follows keeps it open
+   until nothing more is told. */
+static void close_side(void)
+{
+    if (has_input || !may_send || !is_empty(&lines) || (is_follower && !replies.has_followed))
+        return;
+    may_send = false;
+    if (shutdown(server, SHUT_WR) != 0 && errno != ENOTCONN)
+        give_up("the service");
+}
+
 /* Moves what can be moved, in both directions, and waits for neither alone. */
 static void turn(void)
 {
@@ -245,16 +261,11 @@ static void turn(void)
         read_input();
     if (!is_empty(&lines))
         send_lines();
-    /* its side is closed once all is sent, and the service sees the end */
-    if (!has_input && may_send && is_empty(&lines)) {
-        may_send = false;
-        if (shutdown(server, SHUT_WR) != 0 && errno != ENOTCONN)
-            give_up("the service");
-    }
     if (polled[OUTPUT].revents)
         print_answers();
     if (polled[SERVER].revents && is_empty(&answers))
         read_answers();
+    close_side();
 }
 
 /* --- one line by its words --- */
@@ -299,6 +310,7 @@ static void take_words(char *const *words, int count)
     asked = 1;
     has_input = false;
     holds_first = true;
+    is_follower = strcmp(words[0], "follow") == 0 || strcmp(words[0], "watch") == 0;
 }
 
 /* --- the connection --- */
@@ -353,11 +365,15 @@ static void judge_end(void)
         say("the last line has no end (LF), so it wasn't carried out");
         raise_status(WRONG);
     }
-    if (replies.count <= asked && !replies.is_explained) {
+    bool is_answered = is_follower ? replies.has_followed : replies.count > asked;
+    if (is_answered || replies.is_explained)
+        return;
+    if (is_follower)
+        say("the service ended before it told that it had told all");
+    else
         say("the service ended before it had answered all lines: %llu of %llu",
             replies.count > 0 ? replies.count - 1 : 0, asked);
-        raise_status(REFUSED);
-    }
+    raise_status(REFUSED);
 }
 
 int main(int count, char **words)

@@ -1,6 +1,6 @@
 /* regtxd: hands what the clients of a Unix socket send on to one program, and each its replies.
 
-       regtxd [-m MODE] [-g GROUP] [-n CLIENTS] [-t SECONDS] [-v] SOCKET COMMAND ..
+       regtxd [-m MODE] [-g GROUP] [-n CLIENTS] [-s FOLDER] [-t SECONDS] [-v] SOCKET COMMAND ..
 
    README.md of this folder has the options, the statuses and the protocol between the broker and
    its program. The broker reads no line of a client. It waits neither for a client nor for the
@@ -241,7 +241,8 @@ int main(int count, char **words)
     reserve_standard_files();
     if (!parse_options(&broker.options, count, words)) {
         fputs(
-            "usage: regtxd [-m MODE] [-g GROUP] [-n CLIENTS] [-t SECONDS] [-v] SOCKET COMMAND ..\n",
+            "usage: regtxd [-m MODE] [-g GROUP] [-n CLIENTS] [-s FOLDER] [-t SECONDS] [-v] SOCKET "
+            "COMMAND ..\n",
             stderr);
         return 2;
     }
