@@ -9,9 +9,6 @@
 #include <stdio.h>
 #include <string.h>
 
-/* room for a number of 32 bits as text */
-enum { DIGITS = 11 };
-
 int regtx_open(const char *folder, const char *program, unsigned wait_seconds, regtx_store **store)
 {
     char seconds[DIGITS];

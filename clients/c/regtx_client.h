@@ -74,7 +74,11 @@ enum {
     /* a hive's file can't be read */
     REGTX_CANNOT_READ,
     /* the server at the socket is another user's; nothing was sent */
-    REGTX_NOT_TRUSTED
+    REGTX_NOT_TRUSTED,
+    /* the changes after a number can't be told; regtx_followed tells after which they can */
+    REGTX_CANNOT_FOLLOW,
+    /* one who follows was told all, and no more comes */
+    REGTX_FOLLOWED
 };
 
 /* The text of a code, such as "E2 NotFound"; of static storage. */
@@ -330,6 +334,72 @@ struct regtx_key_info {
 /* REGTX_NOT_FOUND. */
 int regtx_key_info(regtx_store *store, regtx_tx tx, uint8_t hive, const char *path,
                    struct regtx_key_info *info);
+
+/* Backups of a server's store, and its changes as they become durable. Of any other store these
+ * calls are REGTX_UNSUPPORTED, and nothing is sent. */
+
+/* Makes a copy of the store in a new folder of this name among the server's backups: the number at
+ * which that opens, which may be NULL. The name is 1 to 255 letters and digits of ASCII, _, - and
+ * full stops, and doesn't begin with one: REGTX_BAD_NAME. REGTX_CONFLICT, if something has that
+ * name; REGTX_UNSUPPORTED, if the server has no folder of backups; REGTX_DISK_FAULT, if the
+ * folder's device failed, by which the store isn't faulted. */
+int regtx_backup(regtx_store *store, const char *name, uint64_t *number);
+
+/* How full a server's store is, and who waits. */
+struct regtx_server_stats {
+    uint64_t number;  /* of the last change */
+    uint64_t durable; /* of the last durable change */
+    uint64_t room;    /* how many bytes of the journal's 67,108,864 are used */
+    uint64_t clients; /* how many have a place */
+    uint64_t waiting; /* how many of them wait until a change is durable */
+};
+
+int regtx_stats(regtx_store *store, struct regtx_server_stats *stats);
+
+/* One who follows a store, by a connection of its own. It may be used by another thread than the
+ * store, and outlive it. */
+typedef struct regtx_follower regtx_follower;
+
+/* A durable change. What it points to lasts until the follower's next call. */
+struct regtx_change {
+    uint64_t number;
+    uint64_t moment; /* in units of 100 ns since 1601, UTC */
+    bool has_unit;   /* it commits a unit of work, which is the next field */
+    regtx_uuid unit;
+    /* the lines that make it: create, delete, set or unset, as docs/SCRIPTS.md has them */
+    size_t count;
+    const char *const *lines;
+};
+
+/* Begins to follow the durable changes after a number. As regtx_connect; *follower is NULL after
+ * each failure. */
+int regtx_follow(regtx_store *store, uint64_t after, regtx_follower **follower);
+
+/* The next change, in order, each once; waits until there is one. REGTX_FOLLOWED, once the server
+ * has stopped in order, or after regtx_follower_end. REGTX_CANNOT_FOLLOW, if changes after the last
+ * one that was told aren't kept: those since the server opened the store are, which some hive lacks
+ * yet. It may come at any time, if changes come faster than they are taken. Then read the store
+ * anew, and follow from there. After a failure each further call answers the same. */
+int regtx_next_change(regtx_follower *follower, struct regtx_change *change);
+
+/* Begins to watch a key, which needn't be there, and all keys below it. As regtx_follow;
+ * REGTX_WRONG_NAME. */
+int regtx_watch(regtx_store *store, uint8_t hive, const char *path, regtx_follower **follower);
+
+/* The number of the next durable change that meets the key; waits until there is one. After a pause
+ * of the server it is that of the last change, if changes came meanwhile, whether or not they meet
+ * the key. Else as regtx_next_change. */
+int regtx_next_changed(regtx_follower *follower, uint64_t *number);
+
+/* Up to where all was told: at first the number that was given, or that of the last change as the
+ * watch began. After REGTX_CANNOT_FOLLOW the number after which changes can be followed. */
+uint64_t regtx_followed(const regtx_follower *follower);
+
+/* Ends it, from another thread, too: a call that waits answers REGTX_FOLLOWED. */
+void regtx_follower_end(regtx_follower *follower);
+
+/* Frees it; no call may be under way. NULL is free already. */
+void regtx_follower_free(regtx_follower *follower);
 
 /* Types of values. Any other number is a type as well. */
 enum {

@@ -61,7 +61,7 @@ int regtx_link_connect(regtx_store *store, uint32_t session)
     int code = connect_socket(store, peer);
     store->link = link;
     if (code == REGTX_OK) {
-        uint64_t opened_at;
+        uint64_t opened_at = 0;
         code = regtx_read_opened(store, &opened_at);
         if (session == REGTX_FIRST_SESSION)
             store->opened_at = opened_at;

@@ -15,14 +15,14 @@ extern char **environ;
 
 enum { MOST_HINTS = 4096 };
 
-static const char asked[] = "REGTX_HINTS=1";
+static const char switched_on[] = "REGTX_HINTS=1";
 
 /* what was told last in this thread */
-static _Thread_local char last[MOST_HINTS + 1];
+static _Thread_local char last_told[MOST_HINTS + 1];
 
 const char *regtx_hints(void)
 {
-    return last;
+    return last_told;
 }
 
 int regtx_hints_open(void)
@@ -32,12 +32,12 @@ int regtx_hints_open(void)
 
 void regtx_hints_take(int file, off_t *told)
 {
-    ssize_t size = file < 0 ? 0 : pread(file, last, MOST_HINTS, *told);
+    ssize_t size = file < 0 ? 0 : pread(file, last_told, MOST_HINTS, *told);
     size = size < 0 ? 0 : size;
     *told += size;
-    last[size] = 0;
-    if (size > 0 && last[size - 1] == '\n')
-        last[size - 1] = 0;
+    last_told[size] = 0;
+    if (size > 0 && last_told[size - 1] == '\n')
+        last_told[size - 1] = 0;
 }
 
 char **regtx_hints_environment(void)
@@ -49,8 +49,8 @@ char **regtx_hints_environment(void)
     if (!all)
         return NULL;
     for (size_t at = 0; at < count; at++)
-        if (strncmp(environ[at], asked, sizeof asked - 2) != 0)
+        if (strncmp(environ[at], switched_on, sizeof switched_on - 2) != 0)
             all[kept++] = environ[at];
-    all[kept] = (char *)asked;
+    all[kept] = (char *)switched_on;
     return all;
 }

@@ -8,6 +8,9 @@
 #include <stdio.h>
 #include <sys/types.h>
 
+/* Room for a number of 32 bits as text. */
+enum { DIGITS = 11 };
+
 /* What the program has places for. */
 enum { SESSIONS = 32, TRANSACTIONS = 1024, NO_SESSION = SESSIONS };
 

@@ -8,8 +8,8 @@
 #include <stdlib.h>
 #include <string.h>
 
-/* room for a number of 32 bits as text; and the words before the files */
-enum { DIGITS = 11, WORDS = 4 };
+/* the words before the files */
+enum { WORDS = 4 };
 
 /* Carries out a command that makes a store, and prints `ok`. */
 static int make(const char *words[], size_t place, size_t files)

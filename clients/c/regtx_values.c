@@ -46,13 +46,15 @@ static const char *const failures[] = {
     "another process opened the store",
     "cannot read file",
     "the server is another user's",
+    "these changes can't be followed",
+    "all was told",
 };
 
 const char *regtx_client_text(int code)
 {
     if (code >= REGTX_OK && code <= REGTX_FIXED)
         return refusals[code];
-    if (code >= REGTX_ENDED && code <= REGTX_NOT_TRUSTED)
+    if (code >= REGTX_ENDED && code <= REGTX_FOLLOWED)
         return failures[code - REGTX_ENDED];
     return "no code";
 }

@@ -48,7 +48,7 @@ void regtx_writes_free(regtx_writes *writes)
     free(writes);
 }
 
-static int grow(regtx_writes *writes, size_t size)
+static int make_room(regtx_writes *writes, size_t size)
 {
     size_t room = writes->room ? writes->room : 1024;
     while (room - writes->size < size)
@@ -61,7 +61,7 @@ static int grow(regtx_writes *writes, size_t size)
     return REGTX_OK;
 }
 
-static int add(regtx_writes *writes, const struct regtx_request *request)
+static int add_request(regtx_writes *writes, const struct regtx_request *request)
 {
     char *bytes = NULL;
     size_t size = 0;
@@ -74,7 +74,7 @@ static int add(regtx_writes *writes, const struct regtx_request *request)
     regtx_request_print(line, request);
     bool is_whole = !ferror(line);
     is_whole &= fclose(line) == 0;
-    code = is_whole ? grow(writes, size) : REGTX_CLIENT_MEMORY;
+    code = is_whole ? make_room(writes, size) : REGTX_CLIENT_MEMORY;
     if (code == REGTX_OK) {
         memcpy(writes->bytes + writes->size, bytes, size);
         writes->size += size;
@@ -87,27 +87,27 @@ static int add(regtx_writes *writes, const struct regtx_request *request)
 int regtx_writes_create_key(regtx_writes *writes, uint8_t hive, const char *path)
 {
     struct regtx_request request = {.verb = "create", .hive = hive, .path = path};
-    return add(writes, &request);
+    return add_request(writes, &request);
 }
 
 int regtx_writes_delete_key(regtx_writes *writes, uint8_t hive, const char *path)
 {
     struct regtx_request request = {.verb = "delete", .hive = hive, .path = path};
-    return add(writes, &request);
+    return add_request(writes, &request);
 }
 
 int regtx_writes_set_value(regtx_writes *writes, uint8_t hive, const char *path, const char *name,
                            uint32_t type, const void *data, size_t size)
 {
     struct regtx_request request = {"set", hive, path, name, true, type, data, size};
-    return add(writes, &request);
+    return add_request(writes, &request);
 }
 
 int regtx_writes_delete_value(regtx_writes *writes, uint8_t hive, const char *path,
                               const char *name)
 {
     struct regtx_request request = {.verb = "unset", .hive = hive, .path = path, .name = name};
-    return add(writes, &request);
+    return add_request(writes, &request);
 }
 
 /* Adds lines from a place on, as many as go together; answers the place after them. */

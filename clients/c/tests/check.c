@@ -171,6 +171,7 @@ int main(int words, char *word[])
     test_processes();
     test_connections();
     test_lost_connections();
+    test_following();
     printf("%d passed, %d failed\n", passed, failed);
     return failed ? 1 : 0;
 }

@@ -45,6 +45,9 @@ void kill_run(void);
  * NULL; answers the broker's process. */
 int serve(const char *option, const char *value);
 
+/* The same, with a folder for backups. */
+int serve_with_backups(const char *backups);
+
 /* The socket of the newest store. */
 const char *socket_path(void);
 
@@ -78,5 +81,6 @@ void test_codes(void);
 void test_processes(void);
 void test_connections(void);
 void test_lost_connections(void);
+void test_following(void);
 
 #endif

@@ -58,6 +58,8 @@ static const char *header_of(int code)
     case REGTX_OTHER_PROCESS:
     case REGTX_CANNOT_READ:
     case REGTX_NOT_TRUSTED:
+    case REGTX_CANNOT_FOLLOW:
+    case REGTX_FOLLOWED:
         return "client";
     default:
         return "none";

@@ -43,10 +43,10 @@ static int start(const char *words[], FILE **printed)
     return process;
 }
 
-int serve(const char *option, const char *value)
+static int serve_by(const char *option, const char *value, const char *backups)
 {
-    const char *words[WORDS] = {broker}, *rest[] = {socket_path(), program, "wait",  "60",
-                                                    "serve",       folder(), NULL};
+    const char *words[WORDS] = {broker}, *rest[] = {socket_path(), program,  "wait",  "60",
+                                                    "serve",       folder(), backups, NULL};
     char said[NAME] = "";
     size_t count = 1;
     FILE *printed;
@@ -60,6 +60,16 @@ int serve(const char *option, const char *value)
     if (printed)
         fclose(printed);
     return process;
+}
+
+int serve(const char *option, const char *value)
+{
+    return serve_by(option, value, NULL);
+}
+
+int serve_with_backups(const char *backups)
+{
+    return serve_by(NULL, NULL, backups);
 }
 
 regtx_store *connected(void)
