@@ -19,15 +19,13 @@ SOFTWARE, SYSTEM = 0, 1
 PRODUCT, SERVICE = regtx.key_path(SOFTWARE, "Vendor", "Product"), regtx.key_path(SYSTEM, "Services", "Product")
 
 
-def install(store: regtx.Store) -> int:
-    """Writes into both hives in one transaction; answers the number of the change."""
-    with store.transaction(INSTALL) as t:
-        t.create_key(PRODUCT)
-        t.set_value(PRODUCT, "Version", Value.sz("1.0"))
-        t.set_value(PRODUCT, "Paths", Value.multi_sz(["bin", "lib"]))
-        t.create_key(SERVICE)
-        t.set_value(SERVICE, "Port", Value.dword(8080))
-    return t.number
+def install(t: regtx.Transaction) -> None:
+    """Writes into both hives."""
+    t.create_key(PRODUCT)
+    t.set_value(PRODUCT, "Version", Value.sz("1.0"))
+    t.set_value(PRODUCT, "Paths", Value.multi_sz(["bin", "lib"]))
+    t.create_key(SERVICE)
+    t.set_value(SERVICE, "Port", Value.dword(8080))
 
 
 def install_once(folder: str, program: str, tries: int = 5) -> None:
@@ -36,7 +34,7 @@ def install_once(folder: str, program: str, tries: int = 5) -> None:
         try:
             with regtx.Store(folder, program, wait=30) as store:
                 number = store.kept(INSTALL)
-                print(f"installed by change {install(store)}" if number is None else f"was installed by change {number}")
+                print(f"installed by change {store.transact(install, INSTALL)}" if number is None else f"was installed by change {number}")
             return
         except (regtx.RunEnded, regtx.CommitUnknown):
             if not left:
@@ -60,7 +58,7 @@ def main() -> None:
                 t.delete_key(regtx.key_path(SYSTEM, "Services"))
         except regtx.Refused as error:
             print(f"rolled back: {error.name}")
-        print(f"version {store.get_value(PRODUCT, 'Version').value}, port {store.get_value(SERVICE, 'Port').value}")
+        print(f"version {store.get_value(PRODUCT, 'Version').text}, port {store.get_value(SERVICE, 'Port').value!r}")
 
 
 main()

@@ -10,7 +10,7 @@ from ours import ID, expect_error, leave, raised, script, store_of, wrapper
 from regtx import Store, Value
 from scratch import expect
 
-CLIENT = os.path.dirname(regtx.__file__)
+CLIENT = os.path.dirname(os.path.dirname(regtx.__file__))
 
 
 def dropped(program):

@@ -22,7 +22,7 @@ def trees(program):
         yield expect("below a key", (store.walk("0:T\\A 50%"), store.walk("0:U")), (keys[1:4], keys[5:]))
         for title, call in {"items": store.items, "walk": store.walk, "delete_tree": store.delete_tree}.items():
             yield expect_error(f"{title} of none", lambda: call("0:None"), regtx.NotFound)
-        yield expect_error("the root", lambda: store.delete_tree("0:"), regtx.Refused, "E18 Fixed")
+        yield expect_error("the root", lambda: store.delete_tree("0:"), regtx.Fixed, "E18 Fixed")
         with store.transaction() as t:
             t.create_key("0:T\\A 50%\\z")
             yield expect("in a transaction", (t.delete_tree("0:T\\A 50%"), t.walk("0:T")), (4, ["0:T", "0:T\\B"]))

@@ -9,13 +9,31 @@ import uuid
 import weakref
 from typing import Callable, List, Optional, Sequence, Set, Tuple
 
-from regtx_errors import OtherProcess, RegtxError, RunEnded, refusal, shown
-from regtx_names import moment_now
+from .errors import OtherProcess, RegtxError, RunEnded, refusal, shown
+from .names import moment_now
 
 # the greatest number that a line can carry
 MOST_MOMENT = 0xffff_ffff_ffff_ffff
 # how much is sent together: so many lines that their replies fit into the system's buffers, and nobody waits to write them
 MOST_LINES, MOST_BYTES = 256, 65_536
+
+
+def together(lines: Sequence[str]) -> List[List[str]]:
+    """The lines in parts, each of which is sent at once."""
+    parts: List[List[str]] = []
+    size = MOST_BYTES
+    for line in lines:
+        if size + len(line) > MOST_BYTES or len(parts[-1]) == MOST_LINES:
+            parts.append([])
+            size = 0
+        parts[-1].append(line)
+        size += len(line)
+    return parts
+
+
+def held_by(line: str, reply: str) -> int:
+    """How many more transactions have a place after a line that was answered so."""
+    return {"begin": 1, "close": -1}.get(line.partition(" ")[0], 0) if reply == "ok" else 0
 
 
 class Common:
@@ -50,7 +68,7 @@ class Common:
 class Run:
     """What answers lines. One thread at a time sends some, and reads their replies."""
 
-    NUMBER = re.compile(r"(?:created [0-9]+ )?accepted ([0-9]+)|(?:opened|committed|flushed|folded) ([0-9]+)")
+    NUMBER = re.compile(r"(?:created [0-9]+ )?accepted ([0-9]+)|(?:opened|committed|flushed|folded|saved) ([0-9]+)")
     # what it is for its user
     TITLE = "run"
 
@@ -67,6 +85,8 @@ class Run:
         # of sessions and of labels, none of which is used again
         self.numbers = itertools.count(1)
         self.opened_at = self.folds = 0
+        # how many transactions have a place
+        self.held = 0
         _RUNS.add(self)
 
     # what a program and a connection do each in a way of its own
@@ -99,6 +119,10 @@ class Run:
         raise NotImplementedError
 
     def end_session(self, number: int) -> None:
+        raise NotImplementedError
+
+    def ask_server(self, line: str) -> str:
+        """The reply to a line that only a server takes."""
         raise NotImplementedError
 
     def close(self) -> None:
@@ -155,6 +179,10 @@ class Run:
             self.granted(self._exchange([line], 0)[0], line)
             self._session = session
 
+    def is_as_new(self) -> bool:
+        """Whether it can be used, and nothing is left of whoever used it."""
+        return os.getpid() == self._process and self._over is None and not self.held and self.common.moment is None
+
     def at(self, moment: Optional[int]) -> None:
         """Chooses the moment of later writes; None is the time of now."""
         if moment is not None and not 0 <= moment <= MOST_MOMENT:
@@ -188,9 +216,10 @@ class Run:
             # such as KeyboardInterrupt: the reply would be taken for that to the next line
             self._is_interrupted, self._over = True, f"the {self.TITLE} was interrupted within a line: close it, and open the store again"
             raise
-        for each in replies:
+        for line, each in zip(lines, replies):
             self._was_refused |= refusal(each) is not None
             self._note(each)
+            self.held += held_by(line, each)
         if len(replies) < len(lines):
             self._over, status = self._ended(reply)
             if len(replies) <= main:

@@ -4,10 +4,11 @@ from __future__ import annotations
 import os
 import subprocess
 import weakref
-from typing import Dict, List, Tuple, Union
+from io import BufferedReader, BufferedWriter, FileIO
+from typing import Dict, List, Optional, Tuple, Union, cast
 
-from regtx_errors import RegtxError, RunEnded, ending, failure, hinted, last
-from regtx_run import Run
+from .errors import RegtxError, RunEnded, Unsupported, ending, failure, hinted, last
+from .run import Run
 
 Folder = Union[str, "os.PathLike[str]"]
 # the greatest number that the program's words can carry
@@ -21,10 +22,11 @@ class _Hints:
 
     def __init__(self) -> None:
         self._read = 0
+        self.file: Optional[FileIO] = None
         try:
             self.file = os.fdopen(os.memfd_create("regtx"), "rb", buffering=0)
         except (AttributeError, OSError):
-            self.file = None
+            pass
 
     def on(self, error: RegtxError) -> RegtxError:
         """The error with what was told since the last one."""
@@ -62,18 +64,21 @@ class Child(Run):
 
     def leave(self) -> None:
         # a run doesn't end while anyone may still write to it; what is in these buffers is the maker's, and isn't sent from here
-        for pipe in (self._child.stdin, self._child.stdout):
-            pipe.raw.close()
+        script, replies = _pipes(self._child)
+        script.raw.close()
+        replies.raw.close()
 
     def _put(self, lines: bytes) -> None:
+        script, _ = _pipes(self._child)
         try:
-            self._child.stdin.write(lines)
-            self._child.stdin.flush()
+            script.write(lines)
+            script.flush()
         except BrokenPipeError:
             pass
 
     def _get(self) -> str:
-        return self._child.stdout.readline().decode(errors="replace")
+        _, replies = _pipes(self._child)
+        return replies.readline().decode(errors="replace")
 
     def _ended(self, reply: str) -> Tuple[str, int]:
         rest, status = _finish(self._child)
@@ -98,6 +103,11 @@ class Child(Run):
     def end_session(self, number: int) -> None:
         self.ask(f"end {number}")
 
+    def ask_server(self, line: str) -> str:
+        self.check_process()
+        # a run has its store alone
+        raise Unsupported("E17 Unsupported", line)
+
     def close(self) -> None:
         """Ends the run, once. Raises if it ended before, or if its last lines or its status say more than the replies did."""
         if os.getpid() != self._process:
@@ -117,14 +127,20 @@ class Child(Run):
                 raise self._hints.on(failure("\n".join(lines), status))
 
 
+def _pipes(child: "subprocess.Popen[bytes]") -> Tuple[BufferedWriter, BufferedReader]:
+    """What takes the program's lines, and what has its replies."""
+    return cast(BufferedWriter, child.stdin), cast(BufferedReader, child.stdout)
+
+
 def _finish(child: "subprocess.Popen[bytes]") -> Tuple[str, int]:
     """Ends the script; what is printed after that, and the status."""
+    script, replies = _pipes(child)
     try:
-        child.stdin.close()
+        script.close()
     except BrokenPipeError:
         pass
-    rest = child.stdout.read().decode(errors="replace")
-    child.stdout.close()
+    rest = replies.read().decode(errors="replace")
+    replies.close()
     return rest, child.wait()
 
 

@@ -1,10 +1,10 @@
-"""Requests as lines, and writes that are sent together: `regtx.py` has `Writes`."""
+"""Requests as lines, and writes that are sent together: `regtx` has `Writes`."""
 from __future__ import annotations
 
 from typing import List
 
-from regtx_names import key_word, value_name_word
-from regtx_values import Value
+from .names import key_word, value_name_word
+from .values import Value
 
 
 def create_line(key: str) -> str:

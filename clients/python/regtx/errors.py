@@ -1,4 +1,4 @@
-"""What is raised by the client of regtx: `regtx.py` has all of it."""
+"""What is raised by the client of regtx: `regtx` has all of it."""
 from __future__ import annotations
 
 import re
@@ -51,12 +51,24 @@ class NotFound(Refused):
     """E2: there is no such hive, key or value."""
 
 
+class CannotFollow(NotFound):
+    """E2: the changes after a number can't be told: they aren't kept any more, or there is no such change yet. Those after `after` can."""
+
+    def __init__(self, reply: str, line: Optional[str], after: int):
+        super().__init__(reply, line)
+        self.after = after
+
+
 class HasSubkeys(Refused):
     """E3: a key with subkeys is to be deleted."""
 
 
 class BadName(Refused):
-    """E4: a name of the path is empty or too long, or a name isn't printable ASCII."""
+    """E4: a name of the path is empty or too long, or a name isn't printable ASCII; or a backup can't have the name."""
+
+
+class TooDeep(Refused):
+    """E5: a path has more than 512 names, or one call would create more than 32 keys."""
 
 
 class TooLarge(Refused):
@@ -64,7 +76,7 @@ class TooLarge(Refused):
 
 
 class Conflict(Refused):
-    """E7: another active transaction writes the same key, its values, or a key above or below it."""
+    """E7: another active transaction writes the same key, its values, or a key above or below it; or a backup has the name."""
 
 
 class NotActive(Refused):
@@ -77,6 +89,10 @@ class NoSuchHandle(Refused):
 
 class NoSeat(Refused):
     """E10: no place is free for one more client, session or transaction."""
+
+
+class JournalFull(Refused):
+    """E11: the journal has no room for the change."""
 
 
 class HistoryFull(Refused):
@@ -100,7 +116,11 @@ class JournalDamaged(Refused):
 
 
 class Unsupported(Refused):
-    """E17: the store keeps no outcomes (`Store.upgrade` makes one that does), or a hive has what isn't read."""
+    """E17: the store keeps no outcomes (`Store.upgrade` makes one that does), a hive has what isn't read, or it isn't for this store."""
+
+
+class Fixed(Refused):
+    """E18: the root of a hive is to be deleted, or a key that is marked as not deletable."""
 
 
 _REFUSALS: Dict[str, Type[Refused]] = {kind.__name__: kind for kind in Refused.__subclasses__()}
@@ -156,10 +176,10 @@ class RunEnded(RegtxError):
 
     def __init__(self, why: str, line: Optional[str] = None, status: Optional[int] = None):
         super().__init__(why, line, status)
-        self.line, self.status = line, status
+        self.why, self.line, self.status = why, line, status
 
     def _text(self) -> str:
-        return self.args[0]
+        return self.why
 
 
 class CommitUnknown(RegtxError):

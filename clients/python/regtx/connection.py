@@ -2,13 +2,14 @@
 from __future__ import annotations
 
 import os
+import select
 import socket
 import struct
 import weakref
 from typing import List, Optional, Sequence, Tuple, Union
 
-from regtx_errors import NotTrusted, RunEnded, TooLarge, Unsupported, last, refusal
-from regtx_run import Common, Run
+from .errors import NotTrusted, RunEnded, TooLarge, Unsupported, last, refusal
+from .run import Common, Run
 
 Path = Union[str, bytes, "os.PathLike[str]"]
 # how many bytes a line has at most, without its LF: at a longer one the server would end the connection
@@ -112,6 +113,53 @@ class Connection(Run):
     def end_session(self, number: int) -> None:
         self.check_process()
         self.close()
+
+    def beside(self) -> Connection:
+        """A connection of its own, to the same server. It takes as long as it takes to reply."""
+        other, _ = self.session()
+        assert isinstance(other, Connection)
+        other._socket.settimeout(None)
+        return other
+
+    def is_as_new(self) -> bool:
+        if not super().is_as_new() or self._come:
+            return False
+        # an end would have come, or what nobody asked for
+        looked = select.poll()
+        looked.register(self._socket, select.POLLIN)
+        return not looked.poll(0)
+
+    @property
+    def is_closed(self) -> bool:
+        """Whether this side has closed it."""
+        return self._is_closed
+
+    def send_line(self, line: str) -> None:
+        """Sends a line, whose replies are read by `read_reply`."""
+        self._put(f"{line}\n".encode("ascii"))
+
+    def read_reply(self) -> Optional[str]:
+        """The next line that comes; None if there is none."""
+        try:
+            reply = self._get()
+        except OSError:
+            # it was cut while this waited
+            return None
+        return reply[:-1] if reply.endswith("\n") else None
+
+    def cut(self) -> None:
+        """Ends the connection at once, also under a thread that waits for a reply."""
+        if self._over is None:
+            self._over, self._is_closed = "the connection was closed", True
+        try:
+            self._socket.shutdown(socket.SHUT_RDWR)
+        except OSError:
+            # it has ended already
+            pass
+        self._socket.close()
+
+    def ask_server(self, line: str) -> str:
+        return self.ask(line)
 
     def close(self) -> None:
         """Ends the session and its others, and waits until their transactions are rolled back. Raises if it was lost before."""

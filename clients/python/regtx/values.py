@@ -1,11 +1,11 @@
-"""Types and values of the registry: `regtx.py` has both."""
+"""Types and values of the registry: `regtx` has both."""
 from __future__ import annotations
 
 from dataclasses import dataclass
 from enum import IntEnum
-from typing import List, Sequence, Union
+from typing import Dict, List, Literal, Sequence, Tuple, Union
 
-from regtx_errors import DecodeError, shown
+from .errors import DecodeError, shown
 
 # the greatest number of a type
 MOST_KIND = 0xffff_ffff
@@ -28,7 +28,9 @@ class Kind(IntEnum):
 _KINDS = {int(kind): kind for kind in Kind}
 _TEXTS = (Kind.REG_SZ, Kind.REG_EXPAND_SZ, Kind.REG_LINK)
 # the numbers: how many bytes, in which order
-_NUMBERS = {Kind.REG_DWORD: (4, "little"), Kind.REG_DWORD_BIG_ENDIAN: (4, "big"), Kind.REG_QWORD: (8, "little")}
+_NUMBERS: Dict[int, Tuple[int, Literal["little", "big"]]] = {
+    Kind.REG_DWORD: (4, "little"), Kind.REG_DWORD_BIG_ENDIAN: (4, "big"), Kind.REG_QWORD: (8, "little"),
+}
 
 
 @dataclass(frozen=True)

@@ -6,8 +6,9 @@ import time
 import uuid
 from dataclasses import dataclass
 from datetime import datetime, timedelta, timezone
+from typing import List, Sequence
 
-from regtx_errors import shown
+from .errors import shown
 
 MOST_HIVE = 255
 YEAR_1601 = datetime(1601, 1, 1, tzinfo=timezone.utc)
@@ -65,6 +66,12 @@ def key_path(hive: int, *names: str) -> str:
     return f"{int(hive)}:" + "\\".join(names)
 
 
+def below(key: str, names: Sequence[str]) -> List[str]:
+    """The keys of these names below a key, the last one first."""
+    above = f"{key}\\" if key.partition(":")[2] else key
+    return [above + name for name in reversed(names)]
+
+
 def moment_of(when: datetime) -> int:
     """A time as the registry counts it: 100 nanoseconds since 1601. A time without a zone is one of this machine's."""
     return (when.astimezone(timezone.utc) - YEAR_1601) // timedelta(microseconds=1) * 10
@@ -73,6 +80,18 @@ def moment_of(when: datetime) -> int:
 def moment_now() -> int:
     """The millisecond of now, as the registry counts it."""
     return time.time_ns() // 1_000_000 * 10_000 + MOMENT_1970
+
+
+@dataclass(frozen=True)
+class ServerStats:
+    """How full a server's store is: the numbers of the last change and of the last durable one, and how many bytes of the journal's
+    67,108,864 are used. And how many clients have a place, and wait until a change is durable."""
+
+    number: int
+    durable: int
+    room: int
+    clients: int
+    waiting: int
 
 
 @dataclass(frozen=True)

@@ -1,16 +1,4 @@
-r"""Stores of registry keys and values, changed in transactions by the program `regtx`.
-
-    with regtx.Store("store", program="./regtx") as store:
-        with store.transaction() as t:
-            t.create_key(r"0:Software\Vendor")
-            t.set_value(r"0:Software\Vendor", "Version", regtx.Value.sz("1.0"))
-
-A `Store` starts `regtx run FOLDER /dev/stdin`, or connects to a server that has the store; it sends lines, and reads the reply to
-each. README.md beside this file is its page; docs/SCRIPTS.md has the lines and what each does.
-
-A key is given as `HIVE:PATH`, such as `0:Software\Vendor`; `key_path` makes one of a hive's number and names. The name "" is
-that of the default value.
-"""
+"""A store: its transactions and sessions, and the run or the connection that they are asked of."""
 from __future__ import annotations
 
 import os
@@ -19,21 +7,16 @@ import time
 import uuid
 from typing import Callable, List, Optional, Sequence, Tuple, TypeVar, Union
 
-from regtx_connection import Connection, Path
-from regtx_errors import (  # noqa: F401
-    BadName, CannotMake, CannotOpen, CannotRead, CommandFailed, CommitUnknown, Conflict, DecodeError, DiskFault, Faulted,
-    HasSubkeys, HistoryFull, HiveDamaged, JournalDamaged, NoMemory, NoSeat, NoSuchHandle, NotActive, NotFound, NotTrusted, OtherProcess,
-    Refused, RegtxError, RunEnded, ScopeEnded, TooLarge, Unsupported)
-from regtx_names import KeyInfo, key_path, key_word, moment_of, read_name, unit_word, value_name_word
-from regtx_program import Child, Folder, carry_out
-from regtx_requests import Writes, create_line, delete_line, set_line, unset_line
-from regtx_run import MOST_BYTES, MOST_LINES, Run
-from regtx_values import Kind, Value
+from .connection import Connection, Path
+from .errors import Conflict, CommitUnknown, DiskFault, Faulted, NoMemory, NoSuchHandle, NotActive, NotFound, RegtxError, RunEnded, ScopeEnded, Unsupported
+from .follow import Follower, Watcher
+from .names import KeyInfo, ServerStats, below, key_word, unit_word, value_name_word
+from .program import Child, Folder, carry_out
+from .requests import Writes, create_line, delete_line, set_line, unset_line
+from .replies import created_of, info_of, names_of, number_of, stats_of, value_of
+from .run import Run, together
+from .values import Value
 
-__version__ = "0.9.0"
-# whichever file has it, a user knows it by this module
-for _kind in [each for each in vars().values() if isinstance(each, type) and each.__module__.startswith("regtx_")]:
-    _kind.__module__ = __name__
 # how long it is waited for another writer, in seconds: at first, and at most
 FIRST_PAUSE, LONGEST_PAUSE = 0.005, 1.0
 _Answer = TypeVar("_Answer")
@@ -52,19 +35,6 @@ def _again(work: Callable[[], _Answer], tries: int) -> _Answer:
     return work()
 
 
-def _together(lines: Sequence[str]) -> List[List[str]]:
-    """The lines in parts, each of which is sent at once."""
-    parts: List[List[str]] = []
-    size = MOST_BYTES
-    for line in lines:
-        if size + len(line) > MOST_BYTES or len(parts[-1]) == MOST_LINES:
-            parts.append([])
-            size = 0
-        parts[-1].append(line)
-        size += len(line)
-    return parts
-
-
 class _Requests:
     """Reads and writes, alone or in a transaction."""
 
@@ -73,8 +43,7 @@ class _Requests:
 
     def create_key(self, key: str) -> int:
         """Creates the key, and the keys that are missing above it; answers how many were created, 0 if it is there."""
-        words = self._ask(create_line(key), True).split(" ")
-        return int(words[1]) if words[0] == "created" else 0
+        return created_of(self._ask(create_line(key), True))
 
     def delete_key(self, key: str) -> None:
         """Deletes a key without subkeys."""
@@ -90,16 +59,15 @@ class _Requests:
 
     def get_value(self, key: str, name: str = "") -> Value:
         """A value."""
-        _, kind, data = self._ask(f"get {key_word(key)} {value_name_word(name)}").split(" ")
-        return Value(int(kind), b"" if data == "-" else bytes.fromhex(data))
+        return value_of(self._ask(f"get {key_word(key)} {value_name_word(name)}"))
 
     def subkeys(self, key: str) -> List[str]:
         """The names of the key's subkeys, in the order of their upper-case units."""
-        return [read_name(word) for word in self._ask(f"keys {key_word(key)}").split(" ")[2:]]
+        return names_of(self._ask(f"keys {key_word(key)}"))
 
     def value_names(self, key: str) -> List[str]:
         """The names of the key's values, in the same order."""
-        return [read_name(word) for word in self._ask(f"values {key_word(key)}").split(" ")[2:]]
+        return names_of(self._ask(f"values {key_word(key)}"))
 
     def items(self, key: str) -> List[Tuple[str, Value]]:
         """The key's values, each with its name before it, in the order of `value_names`."""
@@ -111,8 +79,7 @@ class _Requests:
         while left:
             each = left.pop()
             found.append(each)
-            above = f"{each}\\" if each.partition(":")[2] else each
-            left += [above + name for name in reversed(self.subkeys(each))]
+            left += below(each, self.subkeys(each))
         return found
 
     def delete_tree(self, key: str) -> int:
@@ -127,7 +94,7 @@ class _Requests:
 
     def key_info(self, key: str) -> KeyInfo:
         """How many subkeys and values the key has, and when it was written last."""
-        return KeyInfo(*map(int, self._ask(f"info {key_word(key)}").split(" ")[1:]))
+        return info_of(self._ask(f"info {key_word(key)}"))
 
 
 class _InSession(_Requests):
@@ -169,7 +136,7 @@ class _InSession(_Requests):
             return Transaction(self, uuid.uuid4() if unit is None else unit)._do_all(work)
         with self.transaction(unit) as t:
             work(t)
-        return t.number
+        return t.number or 0
 
     def once(self, unit: uuid.UUID, work: Work, tries: int = 10) -> int:
         """Does a unit of work once: answers the number of the change that it made, now or before; 0 if it writes nothing.
@@ -246,7 +213,7 @@ class Transaction(_Requests):
         return [f"tx {self._label} {line}" for line in writes.lines]
 
     def _send(self, lines: Sequence[str]) -> None:
-        for part in _together(lines):
+        for part in together(lines):
             for line, reply in zip(part, self._session._ask_all(part, len(part) - 1, True)):
                 self._run.granted(reply, line)
 
@@ -267,7 +234,7 @@ class Transaction(_Requests):
             return self._commit(lines)
         with self:
             self._send(lines)
-        return self.number
+        return self.number or 0
 
     def commit(self) -> int:
         """Commits; answers the number of the change, 0 if there were no writes. It is durable then.
@@ -405,7 +372,7 @@ class Store(_InSession):
     @staticmethod
     def import_files(folder: Folder, store_id: uuid.UUID, files: Sequence[Folder], program: Folder = "regtx") -> None:
         """Makes a store of the clean hives in files: hive 0 is a copy of the first."""
-        carry_out(program, "import", os.path.abspath(folder), unit_word(store_id), *map(os.path.abspath, files))
+        carry_out(program, "import", os.path.abspath(folder), unit_word(store_id), *(os.path.abspath(os.fspath(file)) for file in files))
 
     @staticmethod
     def upgrade(old: Folder, new: Folder, program: Folder = "regtx") -> None:
@@ -451,6 +418,45 @@ class Store(_InSession):
     def session(self) -> Session:
         """Opens a session; a scope that ends it. At most 31 are open at once. Of a server's store it is a further connection."""
         return Session(self._run)
+
+    def backup(self, name: str) -> int:
+        """Makes a copy of a server's store in a new folder of this name among its backups; answers the number at which that opens.
+
+        The name is 1 to 255 letters and digits of ASCII, `_`, `-` and full stops, and doesn't begin with one: `BadName`. `Conflict`, if
+        something has that name; `Unsupported`, if the server has no folder of backups, or the store is no server's; `DiskFault`, if the
+        folder's device failed, by which the store isn't faulted.
+        """
+        return number_of(self._run.ask_server(f"backup {value_name_word(name)}"))
+
+    def stats(self) -> ServerStats:
+        """How full a server's store is, and who waits. `Unsupported`, if the store is no server's."""
+        return stats_of(self._run.ask_server("stats"))
+
+    def follow(self, after: int) -> Follower:
+        """The durable changes of a server's store after this number, in order, each once, and later ones as they become durable.
+
+        It is iterated over, by a connection of its own. Only changes since the server opened the store are kept, and of these only
+        those that some hive lacks yet: else `CannotFollow`, whose `after` tells after which number changes can be followed. It may come
+        at any time, if the changes come faster than they are taken. Then read the store anew, and follow from there.
+        """
+        return Follower(self._beside(f"follow {int(after)}"), int(after))
+
+    def watch(self, key: str) -> Watcher:
+        """The numbers of the durable changes of a server's store that meet the key or one below it, from now on.
+
+        It is iterated over, by a connection of its own. The key needn't be there. `CannotFollow` as `follow`.
+        """
+        return Watcher(self._beside(f"watch {key_word(key)}"), key_word(key))
+
+    def _beside(self, line: str) -> Connection:
+        if not isinstance(self._run, Connection):
+            self._run.check_process()
+            raise Unsupported("E17 Unsupported", line)
+        return self._run.beside()
+
+    def is_as_new(self) -> bool:
+        """Whether it can be used, and nothing is left of whoever used it: no transaction that is open, and no moment that was chosen."""
+        return self._run.is_as_new()
 
     def close(self) -> None:
         """Ends the run: all accepted changes become durable and go into the hives. Raises what fails of that.
