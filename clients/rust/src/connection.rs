@@ -2,7 +2,7 @@
 
 use crate::peer::{own_user, user_of};
 use crate::{Error, Options};
-use std::io::{self, BufReader, ErrorKind, Write};
+use std::io::{self, BufRead, BufReader, ErrorKind, Write};
 use std::net::Shutdown;
 use std::os::unix::net::UnixStream;
 use std::path::{Path, PathBuf};
@@ -71,6 +71,17 @@ impl Connection {
     /// Whether anything may be read yet.
     pub(crate) fn is_open(&self) -> bool {
         self.over.is_none()
+    }
+
+    /// Whether the server has it yet, as far as is known without a line: nothing has come, no end
+    /// either.
+    pub(crate) fn is_quiet(&mut self) -> bool {
+        if !self.is_open() || self.stream.get_ref().set_nonblocking(true).is_err() {
+            return false;
+        }
+        let come = self.stream.fill_buf().map(|_| ());
+        let is_quiet = matches!(come, Err(why) if why.kind() == ErrorKind::WouldBlock);
+        self.stream.get_ref().set_nonblocking(false).is_ok() && is_quiet
     }
 
     /// Why it can't be used any more.

@@ -19,6 +19,9 @@ pub enum Error {
     /// The run ended before its time, or the connection was lost. What was durable is kept; open
     /// the store again. Its text is [`Error::hints`].
     Ended(String),
+    /// The changes after a number can't be told: they aren't kept any more, or there is no such
+    /// change yet. Those after this number can.
+    CannotFollow(u64),
     /// It isn't known whether a commit was done: call [`Store::once`](crate::Store::once) for this
     /// unit in a new run. The cause says why no answer came.
     CommitUnknown(Uuid, Box<Error>),
@@ -90,6 +93,7 @@ impl fmt::Display for Error {
             Error::CannotMake(_) => write!(f, "cannot make store"),
             Error::CannotRead(_) => write!(f, "cannot read file"),
             Error::Ended(_) => write!(f, "the run ended early"),
+            Error::CannotFollow(after) => write!(f, "changes can be followed after {after}"),
             Error::CommitUnknown(unit, cause) => {
                 // the cause has the hints
                 return write!(f, "it isn't known whether {unit} committed: {cause}");

@@ -7,6 +7,13 @@ const MOST_KEY_NAME: usize = 255;
 const MOST_VALUE_NAME: usize = 16_383;
 
 /// A key: its hive's number, and its path.
+///
+/// ```
+/// use regtx_client::Key;
+///
+/// const VENDOR: Key = Key::new(0, r"Software\Vendor");
+/// assert_eq!(VENDOR.to_string(), r"0:Software\Vendor");
+/// ```
 #[derive(Clone, Copy, Debug, PartialEq, Eq, Hash)]
 pub struct Key<'a> {
     /// The hive's number, from 0 on.

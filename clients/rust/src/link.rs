@@ -61,6 +61,14 @@ impl Link {
         }
     }
 
+    /// Whether it waits for lines, as far as is known.
+    pub(crate) fn is_quiet(&mut self) -> bool {
+        match self {
+            Link::Program(program) => program.is_open(),
+            Link::Server(connection) => connection.is_quiet(),
+        }
+    }
+
     /// No more comes.
     pub(crate) fn lose(&mut self) {
         if let Link::Server(connection) = self {

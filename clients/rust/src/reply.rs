@@ -1,7 +1,7 @@
 //! How replies are read.
 
 use crate::key::name_of_word;
-use crate::{Error, KeyInfo, Kind, Refusal, Value};
+use crate::{Error, KeyInfo, Kind, Refusal, ServerStats, Value};
 
 /// The reply, or the refusal that it tells, yet without hints.
 pub(crate) fn answered(reply: String) -> Result<String, Error> {
@@ -25,6 +25,25 @@ pub(crate) fn understood<T>(read: Option<T>, reply: String) -> Result<T, Error> 
 /// The number behind a word, such as that of `committed 7`.
 pub(crate) fn number(reply: &str, word: &str) -> Option<u64> {
     reply.strip_prefix(word)?.strip_prefix(' ')?.parse().ok()
+}
+
+/// `stats number N durable D room R clients C waiting W`
+pub(crate) fn stats(reply: &str) -> Option<ServerStats> {
+    let mut words = reply.strip_prefix("stats ")?.split(' ');
+    let mut after = |name: &str| -> Option<u64> {
+        if words.next()? != name {
+            return None;
+        }
+        words.next()?.parse().ok()
+    };
+    let stats = ServerStats {
+        number: after("number")?,
+        durable: after("durable")?,
+        room: after("room")?,
+        clients: after("clients")?,
+        waiting: after("waiting")?,
+    };
+    words.next().is_none().then_some(stats)
 }
 
 /// `keys COUNT NAME..`, `values COUNT NAME..`

@@ -6,9 +6,8 @@ use crate::{Error, Key, Value};
 use scope::Scope;
 
 pub(crate) mod scope {
-    use crate::run::Run;
+    use crate::shared::SharedRun;
     use crate::{Error, Transaction};
-    use std::cell::RefCell;
 
     /// In what a request is asked: a session, or a transaction.
     pub trait Scope {
@@ -16,7 +15,7 @@ pub(crate) mod scope {
         type Accepted;
 
         /// The run, and the session of it.
-        fn place(&self) -> (&RefCell<Run>, u32);
+        fn place(&self) -> (&SharedRun, u32);
 
         /// Begins a transaction for what takes several writes; none in a transaction.
         fn begin(&self) -> Result<Option<Transaction<'_>>, Error>;
@@ -27,13 +26,13 @@ pub(crate) mod scope {
         /// The reply to a request, which isn't a refusal.
         fn ask(&self, request: &str) -> Result<String, Error> {
             let (run, session) = self.place();
-            run.borrow_mut().ask(session, &self.line(request))
+            run.lock().ask(session, &self.line(request))
         }
 
         /// The same of a request that writes, at the moment of now or the one that was chosen.
         fn write(&self, request: &str) -> Result<String, Error> {
             let (run, session) = self.place();
-            run.borrow_mut().write(session, self.line(request))
+            run.lock().write(session, self.line(request))
         }
 
         /// What the reply to a write says, or what stands behind the levels that were created.
@@ -55,6 +54,21 @@ pub enum Creation<A> {
     Opened,
 }
 
+/// How full a server's store is, and who waits.
+#[derive(Clone, Copy, Debug, PartialEq, Eq)]
+pub struct ServerStats {
+    /// The number of the last change.
+    pub number: u64,
+    /// The number of the last durable change.
+    pub durable: u64,
+    /// How many bytes of the journal's 67,108,864 are used.
+    pub room: u64,
+    /// How many clients have a place.
+    pub clients: u64,
+    /// How many of them wait until a change is durable.
+    pub waiting: u64,
+}
+
 /// What a key has.
 #[derive(Clone, Copy, Debug, PartialEq, Eq)]
 pub struct KeyInfo {
@@ -71,6 +85,22 @@ pub struct KeyInfo {
 ///
 /// A write alone is a change by itself. It answers the change's number, and is durable once a later
 /// commit or flush has returned. A write in a transaction answers `()`.
+///
+/// ```no_run
+/// use regtx_client::{Error, Key, Options, Refusal, Requests, Store};
+///
+/// let store = Store::open("store", &Options::new())?;
+/// for path in store.walk(Key::new(0, "Software"))? {
+///     for (name, value) in store.items(Key::new(0, &path))? {
+///         println!("{path} {name} {:?}", value.kind.name());
+///     }
+/// }
+/// match store.get_value(Key::new(0, "Software"), "none") {
+///     Err(Error::Refused(Refusal::NotFound, _)) => println!("there is none"),
+///     other => println!("{:?}", other?.to_text()),
+/// }
+/// # Ok::<(), regtx_client::Error>(())
+/// ```
 pub trait Requests: Scope {
     /// Creates a key, and the keys above it that are missing, 32 at most. Refused: TooDeep,
     /// TooLarge, Conflict, NotActive, NotFound (no such hive).

@@ -7,6 +7,7 @@ use crate::program::Program;
 use crate::reply::{answered, number, understood};
 use crate::{moment_of, Error, Options, Refusal};
 use std::collections::BTreeSet;
+use std::os::unix::net::UnixStream;
 use std::path::Path;
 use std::process;
 use std::sync::{Arc, Mutex, PoisonError};
@@ -63,6 +64,32 @@ impl Run {
         }
     }
 
+    /// A connection of its own beside this one, whose replies may take as long as they take. Of a
+    /// run there is none.
+    pub(crate) fn beside_to_follow(&mut self) -> Result<Run, Error> {
+        self.tell()?;
+        let Some(run) = self.beside()? else {
+            return Err(Error::Refused(Refusal::Unsupported, String::new()));
+        };
+        run.stream()?.set_read_timeout(None)?;
+        Ok(run)
+    }
+
+    /// The socket of a connection.
+    pub(crate) fn stream(&self) -> Result<UnixStream, Error> {
+        match &self.link {
+            Link::Program(_) => Err(Error::Refused(Refusal::Unsupported, String::new())),
+            Link::Server(connection) => Ok(connection.stream.get_ref().try_clone()?),
+        }
+    }
+
+    /// Sends a line whose replies are read one by one.
+    pub(crate) fn send_line(&mut self, line: &str) -> Result<(), Error> {
+        self.check_process()?;
+        self.link.send(format!("{line}\n").as_bytes())?;
+        Ok(())
+    }
+
     fn open(link: Link, chosen: Arc<Mutex<Option<u64>>>) -> Result<(Run, u64), Error> {
         let mut run = Run {
             link,
@@ -95,7 +122,7 @@ impl Run {
     }
 
     /// A line that came whole, without its LF; none if no more comes.
-    fn read_reply(&mut self) -> Result<Option<Answer>, Error> {
+    pub(crate) fn read_reply(&mut self) -> Result<Option<Answer>, Error> {
         let mut line = self.link.read_line()?;
         // half a line is none: the run was killed while it wrote
         if line.pop() != Some(b'\n') {
@@ -235,7 +262,7 @@ impl Run {
     }
 
     /// No line is sent any more.
-    fn lost(&mut self) -> Error {
+    pub(crate) fn lost(&mut self) -> Error {
         self.is_lost = true;
         self.link.lose();
         self.link.hinted(Error::ended())
@@ -244,6 +271,15 @@ impl Run {
     /// Whether lines can be sent yet, so that a call that fails may have been carried out.
     pub(crate) fn may_send(&self) -> bool {
         !self.is_lost
+    }
+
+    /// Whether it can be used, and nothing is left of whoever used it: no transaction, no chosen
+    /// moment, no error.
+    pub(crate) fn is_as_new(&mut self) -> bool {
+        let chosen = self.chosen.lock().unwrap_or_else(PoisonError::into_inner);
+        let is_clear = self.labels.is_empty() && self.untold.is_none() && chosen.is_none();
+        drop(chosen);
+        is_clear && !self.is_lost && self.check_process().is_ok() && self.link.is_quiet()
     }
 
     /// Whether a server has the store.

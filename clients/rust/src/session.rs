@@ -1,10 +1,10 @@
 //! Sessions of a store.
 
 use crate::requests::scope::Scope;
-use crate::run::{Run, FIRST_SESSION};
+use crate::run::FIRST_SESSION;
+use crate::shared::SharedRun;
 use crate::work::Worker;
 use crate::{reply, Error, Transaction, Uuid, Writes};
-use std::cell::RefCell;
 
 /// A session of a store beside its first one, with transactions of its own. It ends when it is
 /// dropped; an error of that is told by the store's next call.
@@ -18,16 +18,16 @@ pub struct Session<'a> {
 #[derive(Debug)]
 enum Place<'a> {
     /// A session of this number in the store's run.
-    In(&'a RefCell<Run>, u32),
-    Own(Box<RefCell<Run>>),
+    In(&'a SharedRun, u32),
+    Own(Box<SharedRun>),
 }
 
 impl<'a> Session<'a> {
-    pub(crate) fn open(run: &'a RefCell<Run>) -> Result<Self, Error> {
-        let mut opened = run.borrow_mut();
+    pub(crate) fn open(run: &'a SharedRun) -> Result<Self, Error> {
+        let mut opened = run.lock();
         opened.tell()?;
         if let Some(own) = opened.beside()? {
-            let place = Place::Own(Box::new(RefCell::new(own)));
+            let place = Place::Own(Box::new(SharedRun::new(own)));
             return Ok(Session { place });
         }
         let number = opened.take_session();
@@ -88,11 +88,11 @@ impl<'a> Session<'a> {
     /// Ends the session.
     pub fn end(self) -> Result<(), Error> {
         match &self.place {
-            Place::Own(own) => own.borrow_mut().end(),
+            Place::Own(own) => own.lock().end(),
             Place::In(run, _) => {
                 let run = *run;
                 drop(self);
-                let told = run.borrow_mut().tell();
+                let told = run.lock().tell();
                 told
             }
         }
@@ -103,7 +103,7 @@ impl Drop for Session<'_> {
     fn drop(&mut self) {
         // an own run ends with its own drop
         if let Place::In(run, number) = &self.place {
-            let mut run = run.borrow_mut();
+            let mut run = run.lock();
             let ended = run.exchange_ok(&format!("end {number}"));
             run.free_session(*number);
             run.keep(ended);
@@ -114,7 +114,7 @@ impl Drop for Session<'_> {
 impl Scope for Session<'_> {
     type Accepted = u64;
 
-    fn place(&self) -> (&RefCell<Run>, u32) {
+    fn place(&self) -> (&SharedRun, u32) {
         match &self.place {
             Place::In(run, number) => (run, *number),
             Place::Own(own) => (own, FIRST_SESSION),

@@ -1,12 +1,15 @@
 //! Stores.
 
 use crate::hints::{self, ASKED};
-use crate::reply::{answered, number, understood};
+use crate::key::value_name_word;
+use crate::reply::{answered, number, stats, understood};
 use crate::requests::scope::Scope;
 use crate::run::{Run, FIRST_SESSION};
+use crate::shared::SharedRun;
 use crate::work::Worker;
-use crate::{Error, Refusal, Session, Transaction, Uuid, Writes};
-use std::cell::RefCell;
+use crate::{
+    Error, Follower, Key, Refusal, ServerStats, Session, Transaction, Uuid, Watcher, Writes,
+};
 use std::path::{Path, PathBuf};
 use std::process::{Command, Stdio};
 use std::time::{Duration, SystemTime, UNIX_EPOCH};
@@ -88,11 +91,11 @@ fn make(command: &mut Command) -> Result<(), Error> {
 /// A store that is open: by a run of the program, and no other program uses it meanwhile; or by a
 /// connection to a server, which other programs use at the same time.
 ///
-/// It may be sent to another thread; it isn't shared by two, since a run takes one line at a time.
-/// Threads that use one server have a connection each.
+/// Threads may share it: each call waits for those of others. Give each thread transactions of its
+/// own, and of a server's store a connection of its own, such as one of a [`Pool`](crate::Pool).
 #[derive(Debug)]
 pub struct Store {
-    run: RefCell<Run>,
+    run: SharedRun,
     opened_at: u64,
 }
 
@@ -145,7 +148,7 @@ impl Store {
     pub fn open(folder: impl AsRef<Path>, options: &Options) -> Result<Store, Error> {
         let (run, opened_at) = Run::start(folder.as_ref(), options)?;
         Ok(Store {
-            run: RefCell::new(run),
+            run: SharedRun::new(run),
             opened_at,
         })
     }
@@ -160,7 +163,7 @@ impl Store {
     pub fn connect(socket: impl AsRef<Path>, options: &Options) -> Result<Store, Error> {
         let (run, opened_at) = Run::connect(socket.as_ref(), options)?;
         Ok(Store {
-            run: RefCell::new(run),
+            run: SharedRun::new(run),
             opened_at,
         })
     }
@@ -208,6 +211,23 @@ impl Store {
     /// unit at hand, or another writer is in the way, it waits and tries again, as
     /// [`transact`](Self::transact) does. After [`Error::CommitUnknown`] or [`Error::Ended`] call it
     /// again in a new run.
+    ///
+    /// ```no_run
+    /// use regtx_client::{Key, Options, Requests, Store, Uuid, Value};
+    ///
+    /// let store = Store::connect("/run/regtx/app.sock", &Options::new())?;
+    /// let unit: Uuid = "6ba7b810-9dad-11d1-80b4-00c04fd430c8".parse().unwrap();
+    /// let vendor = Key::new(0, r"Software\Vendor");
+    /// // twice the same number: the second call finds that it is done
+    /// for _ in 0..2 {
+    ///     let number = store.once(&unit, 10, |tx| {
+    ///         tx.create_key(vendor)?;
+    ///         tx.set_value(vendor, "Version", &Value::sz("1.0"))
+    ///     })?;
+    ///     println!("change {number:?}");
+    /// }
+    /// # Ok::<(), regtx_client::Error>(())
+    /// ```
     pub fn once(
         &self,
         unit: &Uuid,
@@ -252,8 +272,8 @@ impl Store {
     /// of its store this is Unsupported, and nothing is sent.
     // by `&mut`, since no session or transaction outlives a fold
     pub fn fold(&mut self) -> Result<u64, Error> {
-        if self.run.borrow().is_served() {
-            self.run.borrow().check_process()?;
+        if self.run.lock().is_served() {
+            self.run.lock().check_process()?;
             return Err(Error::Refused(Refusal::Unsupported, String::new()));
         }
         let reply = self.ask("fold")?;
@@ -264,7 +284,54 @@ impl Store {
     /// UTC, such as [`moment_of`] answers. None, as at first, is the millisecond of now. A
     /// transaction's keys have its commit's.
     pub fn at(&self, moment: Option<u64>) -> Result<(), Error> {
-        self.run.borrow_mut().choose(moment)
+        self.run.lock().choose(moment)
+    }
+
+    /// Makes a copy of a server's store in a new folder of this name among its backups: the number at
+    /// which that opens. The name is 1 to 255 letters and digits of ASCII, `_`, `-` and full stops,
+    /// and doesn't begin with one. Refused: BadName; Conflict, if something has that name;
+    /// Unsupported, if the server has no folder of backups, or the store is no server's; DiskFault,
+    /// if the folder's device failed, by which the store isn't faulted.
+    pub fn backup(&self, name: &str) -> Result<u64, Error> {
+        let line = format!("backup {}", value_name_word(name)?);
+        let reply = self.ask_server(&line)?;
+        understood(number(&reply, "saved"), reply)
+    }
+
+    /// How full a server's store is, and who waits. Refused: Unsupported, if the store is no server's.
+    pub fn stats(&self) -> Result<ServerStats, Error> {
+        let reply = self.ask_server("stats")?;
+        understood(stats(&reply), reply)
+    }
+
+    /// The reply to a line that only a server takes.
+    fn ask_server(&self, line: &str) -> Result<String, Error> {
+        if !self.run.lock().is_served() {
+            self.run.lock().check_process()?;
+            return Err(Error::Refused(Refusal::Unsupported, String::new()));
+        }
+        self.ask(line)
+    }
+
+    /// The durable changes of a server's store after this number, in order, each once, and later
+    /// ones as they become durable, by a connection of its own.
+    ///
+    /// Only changes since the server opened the store are kept, and of these only those that some
+    /// hive lacks yet: else [`Error::CannotFollow`]. It may come at any time, if the changes come
+    /// faster than they are taken. Then read the store anew, and follow from there.
+    pub fn follow(&self, after: u64) -> Result<Follower, Error> {
+        let run = self.run.lock().beside_to_follow()?;
+        Ok(Follower::new(run, after))
+    }
+
+    /// The numbers of the durable changes of a server's store that meet the key or one below it,
+    /// from now on, by a connection of its own. The key needn't be there. After a pause of the
+    /// server the number of the last change is told too, if changes came meanwhile, whether or not
+    /// they meet the key. [`Error::CannotFollow`] as of [`follow`](Self::follow).
+    pub fn watch(&self, key: Key<'_>) -> Result<Watcher, Error> {
+        let line = format!("watch {}", key.word()?);
+        let run = self.run.lock().beside_to_follow()?;
+        Watcher::begin(run, line)
     }
 
     /// Makes all changes durable, moves them into the hives' files, and ends the run. An error that
@@ -277,10 +344,17 @@ impl Store {
     }
 }
 
+impl Store {
+    /// Whether a pool may hand it to somebody else, who finds it as a new one.
+    pub(crate) fn is_as_new(&self) -> bool {
+        self.run.lock().is_as_new()
+    }
+}
+
 impl Scope for Store {
     type Accepted = u64;
 
-    fn place(&self) -> (&RefCell<Run>, u32) {
+    fn place(&self) -> (&SharedRun, u32) {
         (&self.run, FIRST_SESSION)
     }
 
@@ -307,6 +381,15 @@ pub(crate) fn kept_number(answer: Result<String, Error>) -> Result<Option<u64>, 
 }
 
 /// The moment of a time of the system's clock, for [`Store::at`]. Earlier times give that of 1970.
+///
+/// ```
+/// use regtx_client::moment_of;
+/// use std::time::{Duration, UNIX_EPOCH};
+///
+/// // from 1601 to 1970 there are 134,774 days
+/// let of_1970 = 134_774 * 86_400 * 10_000_000;
+/// assert_eq!(moment_of(UNIX_EPOCH + Duration::from_micros(3)), of_1970 + 30);
+/// ```
 pub fn moment_of(time: SystemTime) -> u64 {
     // from 1601 to 1970 there are 134,774 days
     const EPOCH: u64 = 134_774 * 86_400 * 10_000_000;

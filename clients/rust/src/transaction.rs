@@ -3,18 +3,30 @@
 use crate::reply::{number, understood};
 use crate::requests::scope::Scope;
 use crate::run::{Answer, Run};
+use crate::shared::SharedRun;
 use crate::writes::together;
 use crate::{Error, Refusal, Uuid, Writes};
-use std::cell::{Cell, RefCell};
+use std::cell::Cell;
 
 /// A transaction: its writes become one change by [`commit`](Self::commit), over all hives.
+///
+/// ```no_run
+/// use regtx_client::{Key, Options, Requests, Store, Uuid, Value};
+///
+/// let store = Store::open("store", &Options::new())?;
+/// let tx = store.transaction(&Uuid::random().map_err(regtx_client::Error::Io)?)?;
+/// tx.create_key(Key::new(0, "Users"))?;
+/// tx.set_value(Key::new(1, "Services"), "Start", &Value::dword(2))?;
+/// println!("change {:?}", tx.commit()?);
+/// # Ok::<(), regtx_client::Error>(())
+/// ```
 ///
 /// If it is dropped without a commit, it is rolled back; an error of that is told by the store's
 /// next call.
 #[derive(Debug)]
 #[must_use = "a transaction that is dropped is rolled back"]
 pub struct Transaction<'a> {
-    run: &'a RefCell<Run>,
+    run: &'a SharedRun,
     session: u32,
     label: u32,
     unit: Uuid,
@@ -24,8 +36,8 @@ pub struct Transaction<'a> {
 
 impl<'a> Transaction<'a> {
     /// One that isn't begun yet.
-    pub(crate) fn of(run: &'a RefCell<Run>, session: u32, unit: &Uuid) -> Result<Self, Error> {
-        let mut opened = run.borrow_mut();
+    pub(crate) fn of(run: &'a SharedRun, session: u32, unit: &Uuid) -> Result<Self, Error> {
+        let mut opened = run.lock();
         opened.tell()?;
         Ok(Transaction {
             run,
@@ -36,14 +48,14 @@ impl<'a> Transaction<'a> {
         })
     }
 
-    pub(crate) fn begin(run: &'a RefCell<Run>, session: u32, unit: &Uuid) -> Result<Self, Error> {
+    pub(crate) fn begin(run: &'a SharedRun, session: u32, unit: &Uuid) -> Result<Self, Error> {
         let tx = Transaction::of(run, session, unit)?;
         tx.start()?;
         Ok(tx)
     }
 
     pub(crate) fn start(&self) -> Result<(), Error> {
-        let mut run = self.run.borrow_mut();
+        let mut run = self.run.lock();
         run.enter(self.session)?;
         run.exchange_ok(&self.line_of_begin())?;
         self.is_held.set(true);
@@ -52,7 +64,7 @@ impl<'a> Transaction<'a> {
 
     /// Begins it, and asks for the outcome of its unit by the same write.
     pub(crate) fn start_and_ask_kept(&self) -> Result<Answer, Error> {
-        let mut run = self.run.borrow_mut();
+        let mut run = self.run.lock();
         run.enter(self.session)?;
         let lines = [self.line_of_begin(), format!("kept {}", self.unit)];
         let mut answers = run.exchange_all(&lines, 1)?.into_iter();
@@ -80,7 +92,7 @@ impl<'a> Transaction<'a> {
     pub fn is_active(&self) -> Result<bool, Error> {
         let reply = self
             .run
-            .borrow_mut()
+            .lock()
             .ask(self.session, &format!("outcome {}", self.label))?;
         let active = match reply.as_str() {
             "active" => Some(true),
@@ -95,7 +107,7 @@ impl<'a> Transaction<'a> {
     pub fn write_all(&self, writes: &Writes) -> Result<(), Error> {
         for part in together(self.lines_of(writes)) {
             let main = part.len() - 1;
-            let answers = self.run.borrow_mut().write_all(self.session, part, main)?;
+            let answers = self.run.lock().write_all(self.session, part, main)?;
             answers.into_iter().try_for_each(judge_write)?;
         }
         Ok(())
@@ -133,7 +145,7 @@ impl<'a> Transaction<'a> {
         }
         for part in together(lines) {
             let main = part.len() - 1;
-            let mut answers = self.run.borrow_mut().write_all(self.session, part, main)?;
+            let mut answers = self.run.lock().write_all(self.session, part, main)?;
             if !self.is_held.get() {
                 self.judge_begun(answers.remove(0))?;
             }
@@ -150,7 +162,7 @@ impl<'a> Transaction<'a> {
         let before = lines.len();
         lines.push(format!("commit {}", self.label));
         lines.push(format!("close {}", self.label));
-        let mut run = self.run.borrow_mut();
+        let mut run = self.run.lock();
         run.tell()?;
         run.enter(self.session)?;
         // a commit that isn't sent isn't done
@@ -189,7 +201,7 @@ impl<'a> Transaction<'a> {
     pub fn rollback(self) -> Result<(), Error> {
         let run = self.run;
         drop(self);
-        let told = run.borrow_mut().tell();
+        let told = run.lock().tell();
         told
     }
 
@@ -209,7 +221,7 @@ fn judge_write(answer: Answer) -> Result<(), Error> {
 
 impl Drop for Transaction<'_> {
     fn drop(&mut self) {
-        let mut run = self.run.borrow_mut();
+        let mut run = self.run.lock();
         let closed = if self.is_held.get() {
             self.close(&mut run)
         } else {
@@ -233,7 +245,7 @@ impl Drop for Transaction<'_> {
 impl Scope for Transaction<'_> {
     type Accepted = ();
 
-    fn place(&self) -> (&RefCell<Run>, u32) {
+    fn place(&self) -> (&SharedRun, u32) {
         (self.run, self.session)
     }
 

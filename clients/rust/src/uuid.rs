@@ -6,6 +6,15 @@ use std::str::FromStr;
 use std::{error, fmt};
 
 /// A UUID: of a store, or of a unit of work whose outcome is kept.
+///
+/// ```
+/// use regtx_client::Uuid;
+///
+/// let unit: Uuid = "6BA7B8109DAD11D180B400C04FD430C8".parse()?;
+/// assert_eq!(unit.to_string(), "6ba7b810-9dad-11d1-80b4-00c04fd430c8");
+/// assert!("6ba7b810".parse::<Uuid>().is_err());
+/// # Ok::<(), regtx_client::ParseUuidError>(())
+/// ```
 #[derive(Clone, Copy, Debug, PartialEq, Eq, PartialOrd, Ord, Hash)]
 pub struct Uuid(pub [u8; 16]);
 

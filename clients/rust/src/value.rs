@@ -54,6 +54,17 @@ impl fmt::Display for Kind {
 
 /// A value: its type, and its data as the hive has it. A store takes any data under any type, up to
 /// 1,048,576 bytes.
+///
+/// ```
+/// use regtx_client::{Kind, Value};
+///
+/// let version = Value::sz("1.0");
+/// assert_eq!((version.kind, version.data.as_slice()), (Kind::REG_SZ, b"1\0.\00\0\0\0".as_slice()));
+/// assert_eq!(version.to_text().as_deref(), Some("1.0"));
+/// // a reader answers none of another type, and of data that doesn't fit
+/// assert_eq!((version.to_u32(), Value::dword(8080).to_u32()), (None, Some(8080)));
+/// assert_eq!(Value::new(Kind::REG_DWORD, [1, 2]).to_u32(), None);
+/// ```
 #[derive(Clone, Debug, PartialEq, Eq, Hash)]
 pub struct Value {
     /// The type.

@@ -13,6 +13,20 @@ const MOST_BYTES: usize = 65_536;
 /// [`once_writes`](crate::Store::once_writes) or by a transaction's
 /// [`write_all`](crate::Transaction::write_all). A key or name that no call carries is
 /// [`Error::WrongName`] at once; what else is refused comes once they are sent.
+///
+/// ```no_run
+/// use regtx_client::{Key, Options, Store, Uuid, Value, Writes};
+///
+/// let vendor = Key::new(0, r"Software\Vendor");
+/// let mut writes = Writes::new();
+/// writes
+///     .create_key(vendor)?
+///     .set_value(vendor, "Version", &Value::sz("1.0"))?;
+/// let store = Store::connect("/run/regtx/app.sock", &Options::new())?;
+/// let unit = Uuid::random().map_err(regtx_client::Error::Io)?;
+/// store.transact_writes(&unit, 10, &writes)?;
+/// # Ok::<(), regtx_client::Error>(())
+/// ```
 #[derive(Clone, Debug, Default)]
 pub struct Writes {
     requests: Vec<String>,

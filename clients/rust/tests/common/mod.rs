@@ -150,8 +150,18 @@ impl<'a> Served<'a> {
         Served::again(scratch, options)
     }
 
+    /// The same, with a folder for backups.
+    pub fn with_backups(scratch: &'a Scratch, folder: &Path) -> Served<'a> {
+        Store::create(scratch.at("store"), &ID, 2, &scratch.options()).unwrap();
+        Served::start(scratch, &[], Some(folder))
+    }
+
     /// A broker for a store that is there.
     pub fn again(scratch: &'a Scratch, options: &[&str]) -> Served<'a> {
+        Served::start(scratch, options, None)
+    }
+
+    fn start(scratch: &'a Scratch, options: &[&str], backups: Option<&Path>) -> Served<'a> {
         let program = std::env::var("REGTXD").expect("REGTXD is the broker");
         let mut broker = Command::new(program)
             .args(options)
@@ -159,6 +169,7 @@ impl<'a> Served<'a> {
             .arg(&scratch.program)
             .args(["wait", "60", "serve"])
             .arg(scratch.at("store"))
+            .args(backups)
             .stdout(Stdio::piped())
             // it tells there of a program that is killed
             .stderr(Stdio::null())
