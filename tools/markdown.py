@@ -1,4 +1,4 @@
-"""Reads the pages of the repository: headings, paragraphs, lists, tables and code, each with the lines that it has."""
+"""Reads the pages of the repository: headings, paragraphs, lists, tables, code and pictures, each with the lines that it has."""
 import re
 from dataclasses import dataclass
 from typing import List, Tuple
@@ -6,7 +6,8 @@ from typing import List, Tuple
 HEADING = re.compile(r"(#{1,3}) (.+)")
 ITEM = re.compile(r"(-|\d+\.) (.+)")
 RULE = re.compile(r"\|(?:---\|)+")
-# what would be another kind of block: a quote, a picture, a tag, code that is indented, a list below a list
+PICTURE = re.compile(r"!\[([^\]]+)\]\([^)\s]+\)")
+# what would be another kind of block: a quote, a picture amid words, a tag, code that is indented, a list below a list
 OTHER = re.compile(r"[><*+]|!\[|\s|-{3}|={3}|#{4}|~{3}")
 SPAN = re.compile(r"`(?P<code>[^`]+)`|\*\*(?P<bold>.+?)\*\*|\[(?P<link>[^\]]+)\]\([^)\s]+\)")
 MARK = re.compile(r"`|\*\*|\]\(")
@@ -39,6 +40,12 @@ class Table:
     """A table; each row has the cells of the head."""
     head: List[str]
     rows: List[List[str]]
+
+
+@dataclass
+class Picture:
+    """A picture by itself, with the words for whoever doesn't see it."""
+    text: str
 
 
 def taken(lines, at, goes_on):
@@ -77,9 +84,18 @@ def items(lines, at):
     """A list, whose items may run over lines."""
     found = []
     while at < len(lines) and (begun := ITEM.fullmatch(lines[at])):
-        more, at = taken(lines, at + 1, lambda line: re.match(r" {2,3}[^\s>|`-]", line))
+        more, at = taken(lines, at + 1, lambda line: re.match(r" {2,3}(?!```|- |[\s>|])", line))
         found.append((begun[1], " ".join([begun[2], *(line.strip() for line in more)])))
     return Items(found), at
+
+
+def picture(lines, at):
+    """A picture, which may run over lines, up to an empty one."""
+    inner, end = taken(lines, at, bool)
+    found = PICTURE.fullmatch(" ".join(inner))
+    if not found:
+        raise ValueError(f"line {at + 1} is of no known kind: {lines[at]}")
+    return Picture(found[1]), end
 
 
 def paragraph(lines, at):
@@ -89,6 +105,12 @@ def paragraph(lines, at):
         if OTHER.match(line.replace("**", "", 1)) or ITEM.match(line) or line.startswith(("```", "|")):
             raise ValueError(f"line {number} is of no known kind: {line}")
     return Paragraph(" ".join(inner)), end
+
+
+def kind_of(line):
+    """What reads the block that begins with a line."""
+    begins = [("```", code), ("|", table), ("![", picture)]
+    return next((kind for mark, kind in begins if line.startswith(mark)), items if ITEM.match(line) else paragraph)
 
 
 def blocks(text):
@@ -102,8 +124,7 @@ def blocks(text):
         if heading := HEADING.fullmatch(line):
             block, at = Heading(len(heading[1]), heading[2]), at + 1
         else:
-            kind = code if line.startswith("```") else table if line.startswith("|") else items if ITEM.match(line) else paragraph
-            block, at = kind(lines, at)
+            block, at = kind_of(line)(lines, at)
         found.append(block)
     return found
 

@@ -1,122 +1,146 @@
 #!/usr/bin/env python3
-"""Makes a Debian package of all that `make install` installs:
+"""Makes Debian packages of all that `make install` installs:
 
-    tools/package.py FOLDER [NAME=VALUE ..]     writes regtx_VERSION_ARCHITECTURE.deb to a folder, and prints its path
+    tools/package.py FOLDER [NAME=VALUE ..]     writes them to a folder, and prints their paths
 
-NAME=VALUE are variables of the Makefile, such as PROGRAM=FILE and LIBRARY=FOLDER, whose paths begin at the top of the repository.
+They are regtx, libregtx0, libregtx-dev and python3-regtx, and each file is in one of them. NAME=VALUE are variables of the Makefile,
+such as PROGRAM=FILE and LIBRARY=FOLDER, whose paths begin at the top of the repository.
 """
-import gzip
-import hashlib
 import os
 import re
+import shutil
 import subprocess
 import sys
 import tempfile
-import textwrap
+from dataclasses import dataclass, field
 
 sys.dont_write_bytecode = True
+from debian import compress, control, doc_folder, least_libc, output, put, put_all_sums, strip, symbols  # noqa: E402
 from graph import TOP  # noqa: E402
 from product import changed, description, summary, version  # noqa: E402
 
-MAINTAINER = "Nojaldreg <nojaldreg@example.invalid>"
-# files with symbols that the C library has to have, and the page that is kept compressed
-LINKED, MANUAL = ["usr/libexec/regtx", "usr/lib/libregtx.so.0", "usr/bin/regtxd", "usr/bin/regtxc"], "usr/share/man/man1/regtx.1"
-SYMBOL = re.compile(r"\bGLIBC_(\d+(?:\.\d+)+)\b")
-ALSO = ("The package has the program, its manual page, the broker that serves a store to several programs, its clients for Python, Rust and C, "
-        "bindings for Python and Rust, and a library for C: hives in memory.")
-# where the zsh of Debian looks for completions of packages
-ZSH_FUNCTIONS = "ZSH_FUNCTIONS=share/zsh/vendor-completions"
-# a library came or went
-TRIGGERS = "activate-noawait ldconfig\n"
-VARIABLE = re.compile(r"[A-Z]+=.*")
+CHANGELOG, MODULES, SHARED = f"{TOP}/docs/changelog", "lib/python3/dist-packages", "libregtx.so.0"
+VARIABLE = re.compile(r"[A-Z_]+=.*")
+# byte code is made for Python as the package comes, and goes before it
+COMPILE = """#!/bin/sh
+set -e
+if [ "$1" = configure ] && command -v py3compile >/dev/null 2>&1; then
+    py3compile -p python3-regtx
+fi
+"""
+CLEAN = f"""#!/bin/sh
+set -e
+if command -v py3clean >/dev/null 2>&1; then
+    py3clean -p python3-regtx
+else
+    find /usr/{MODULES}/regtx -depth -name __pycache__ -exec rm -r {{}} +
+    rm -f /usr/{MODULES}/__pycache__/regtx_hive.*.pyc
+fi
+"""
 
 
-def output(*words):
-    return subprocess.run(words, stdout=subprocess.PIPE, text=True, check=True).stdout
+@dataclass
+class Package:
+    """A package: its fields, which files below /usr it has, and the texts that dpkg reads of it. `{version}` is its own version, and
+    `{libc}` the version of the C library that its files need."""
+    name: str
+    files: str
+    section: str
+    summary: str
+    text: str
+    fields: list = field(default_factory=list)
+    architecture: str = ""
+    texts: dict = field(default_factory=dict)
+    scripts: dict = field(default_factory=dict)
 
 
-def least_libc(root):
-    """The least version of the C library that has all symbols which the files need."""
-    found = {version for name in LINKED for version in SYMBOL.findall(output("objdump", "-T", os.path.join(root, name)))}
-    return max(found, key=lambda version: [int(part) for part in version.split(".")])
-
-
-def packed(root):
-    """The files below the root, without links, and without those of the package's own folder."""
-    for folder, folders, names in os.walk(root):
-        folders[:] = sorted(name for name in folders if name != "DEBIAN")
-        for path in (os.path.join(folder, name) for name in sorted(names)):
-            if not os.path.islink(path):
-                yield path
-
-
-def installed_size(root):
-    """How many KiB the package takes: each file and each folder in whole ones."""
-    folders = sum(len(folders) for _, folders, _ in os.walk(root))
-    return folders + sum(-(-os.stat(path).st_size // 1024) for path in packed(root))
-
-
-def control(root, architecture):
-    """The text of the package's fields."""
-    fields = [
-        ("Package", "regtx"), ("Version", version()), ("Architecture", architecture), ("Maintainer", MAINTAINER),
-        ("Installed-Size", installed_size(root)), ("Depends", f"libc6 (>= {least_libc(root)})"), ("Section", "database"),
-        ("Priority", "optional"), ("Description", summary()),
+def packages(architecture, multiarch):
+    """All packages. A file is in the first one whose pattern it has."""
+    library = re.escape(f"lib/{multiarch}/")
+    return [
+        Package("libregtx0", rf"{library}libregtx\.so\.0", "libs", "Windows registry hives in memory (library)",
+                "This is the library for programs that read, edit or make hives in memory. It needs the C library alone.",
+                [("Multi-Arch", "same"), ("Depends", "{libc}")],
+                texts={"triggers": "activate-noawait ldconfig\n", "shlibs": f"libregtx 0 libregtx0 (>= {version()})\n"}),
+        Package("libregtx-dev", rf"{library}.*|include/.*|share/man/man3/.*|share/regtx/(?:clients/(?:c|rust)|bindings/rust)/.*", "libdevel",
+                "Windows registry hives and stores, from C and Rust",
+                "The package has the headers and libraries by which C programs use hives in memory (pkg-config calls them regtx), and "
+                "stores of regtx (regtx-client); and crates of Rust over both, as sources.",
+                [("Multi-Arch", "same"), ("Depends", "libregtx0 (= {version})"), ("Suggests", "regtx")]),
+        Package("python3-regtx", rf"{re.escape(MODULES)}/.*|share/regtx/.*\.py|bin/regtx-replicate|share/man/man1/regtx-replicate\.1", "python", "Windows registry hives and stores, from Python",
+                "The package has regtx, by which programs use stores of the program or the server of that name; and regtx_hive, hives in "
+                "memory; and regtx-replicate, which carries a store's changes to many machines.",
+                [("Depends", "python3 (>= 3.9), libregtx0 (>= {version})"), ("Recommends", "regtx (>= {version})")], "all",
+                scripts={"postinst": COMPILE, "prerm": CLEAN}),
+        Package("regtx", ".*", "database", summary(),
+                f"{description()}\n\nThe package has the program, the broker that serves a store to several programs, its units for systemd, "
+                "pages and examples.",
+                [("Depends", "{libc}"), ("Suggests", "python3-regtx, libregtx-dev")]),
     ]
-    paragraphs = (textwrap.wrap(text, 76, break_long_words=False, break_on_hyphens=False) for text in (description(), ALSO))
-    text = "\n .\n".join("\n".join(f" {line}" for line in lines) for lines in paragraphs)
-    return "".join(f"{name}: {value}\n" for name, value in fields) + text.replace("`", "") + "\n"
 
 
-def sums(root):
-    """The sum of each file, as md5sum prints it."""
-    for path in packed(root):
-        with open(path, "rb") as file:
-            yield f"{hashlib.md5(file.read()).hexdigest()}  {os.path.relpath(path, root)}\n"
+def share_out(whole, found):
+    """Moves each file and link of a root into that of the package that has it."""
+    for folder, _, names in os.walk(whole):
+        for path in (os.path.join(folder, name) for name in sorted(names)):
+            name = os.path.relpath(path, whole)
+            package = next(each for each in found if re.fullmatch(each.files, name.removeprefix("usr/")))
+            target = os.path.join(os.path.dirname(whole), package.name, name)
+            os.makedirs(os.path.dirname(target), mode=0o755, exist_ok=True)
+            os.rename(path, target)
 
 
-def compress(path):
-    """Puts a compressed file in the place of one; it has no time, so that equal files stay equal."""
-    with open(path, "rb") as file, open(f"{path}.gz", "wb") as made:
-        made.write(gzip.compress(file.read(), 9, mtime=0))
-    os.chmod(f"{path}.gz", 0o644)
-    os.remove(path)
+def write_package(package, root, architecture, folder, environment):
+    """Makes a package of its root; answers its path."""
+    put(root, f"usr/{doc_folder(package.name)}/changelog", content(CHANGELOG))
+    compress(root, [r"usr/share/man/.*", r"usr/share/doc/[^/]*/changelog"])
+    for name, text in package.texts.items():
+        put(root, f"DEBIAN/{name}", text)
+    for name, text in package.scripts.items():
+        put(root, f"DEBIAN/{name}", text, 0o755)
+    if package.name == "libregtx0":
+        put(root, "DEBIAN/symbols", symbols(root, SHARED, package.name, version()))
+    libc = f"libc6 (>= {least_libc(root)})" if "{libc}" in str(package.fields) else ""
+    fields = [(name, text.format(version=version(), libc=libc)) for name, text in package.fields]
+    put_all_sums(root)
+    architecture = package.architecture or architecture
+    put(root, "DEBIAN/control", control(root, package, architecture, version(), fields))
+    made = os.path.join(folder, f"{package.name}_{version()}_{architecture}.deb")
+    subprocess.run(["dpkg-deb", "--root-owner-group", "--build", root, made], stdout=sys.stderr, check=True, env=environment)
+    return made
 
 
-def put(root, name, text):
-    """Writes a file that tells of the package."""
-    path = os.path.join(root, "DEBIAN", name)
-    with open(path, "w", encoding="utf-8") as file:
-        file.write(text)
-    os.chmod(path, 0o644)
+def content(path):
+    with open(path, encoding="utf-8") as file:
+        return file.read()
 
 
 def build(folder, variables):
-    """Makes the package; answers its path."""
+    """Makes the packages; answers their paths."""
     architecture = output("dpkg", "--print-architecture").strip()
-    made = os.path.join(folder, f"regtx_{version()}_{architecture}.deb")
+    # dpkg-dev knows the name of the system's own folder of libraries, and so does the compiler, which has to be there anyway
+    multiarch = output("cc", "-print-multiarch").strip() or f"{os.uname().machine}-linux-gnu"
+    found = packages(architecture, multiarch)
+    environment = {**os.environ, "SOURCE_DATE_EPOCH": str(changed("."))}
     with tempfile.TemporaryDirectory(prefix="regtx-package-") as home:
-        root = os.path.join(home, "root")
-        for path in (root, os.path.join(root, "DEBIAN")):
-            os.mkdir(path)
-            os.chmod(path, 0o755)
-        words = ["make", "--silent", "-C", TOP, "install", *variables, f"DESTDIR={root}", "PREFIX=/usr", ZSH_FUNCTIONS]
-        subprocess.run(words, stdout=sys.stderr, check=True)
-        compress(os.path.join(root, MANUAL))
-        put(root, "md5sums", "".join(sums(root)))
-        put(root, "triggers", TRIGGERS)
-        put(root, "control", control(root, architecture))
+        whole = os.path.join(home, "whole")
+        words = [f"DESTDIR={whole}", "PREFIX=/usr", f"LIBRARIES=lib/{multiarch}", f"PYTHON_MODULES={MODULES}",
+                 # where the zsh of Debian looks for completions of packages
+                 "ZSH_FUNCTIONS=share/zsh/vendor-completions"]
+        subprocess.run(["make", "--silent", "-C", TOP, "install", *variables, *words], stdout=sys.stderr, check=True)
+        strip(whole)
+        share_out(whole, found)
+        shutil.rmtree(whole)
         os.makedirs(folder, exist_ok=True)
-        environment = {**os.environ, "SOURCE_DATE_EPOCH": str(changed("."))}
-        subprocess.run(["dpkg-deb", "--root-owner-group", "--build", root, made], stdout=sys.stderr, check=True, env=environment)
-    return made
+        return [write_package(package, os.path.join(home, package.name), architecture, folder, environment) for package in found]
 
 
 def main():
     if len(sys.argv) < 2 or not all(map(VARIABLE.fullmatch, sys.argv[2:])):
         sys.exit(__doc__)
+    os.umask(0o022)
     try:
-        print(build(sys.argv[1], sys.argv[2:]))
+        print("\n".join(build(sys.argv[1], sys.argv[2:])))
     except subprocess.CalledProcessError as failed:
         sys.exit(f"regtx: {failed.cmd[0]} ended with status {failed.returncode}")
 

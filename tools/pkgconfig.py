@@ -1,7 +1,8 @@
 #!/usr/bin/env python3
-"""Prints the pkg-config file of the library for C:
+"""Prints the pkg-config file of a library:
 
-    tools/pkgconfig.py PREFIX >regtx.pc     PREFIX is the folder whose include and lib have the header and the library
+    tools/pkgconfig.py NAME PREFIX FOLDER >NAME.pc     NAME is `regtx`, hives in memory, or `regtx-client`, the client for C.
+                                                       FOLDER is the one below PREFIX that has the library
 """
 import re
 import sys
@@ -9,26 +10,34 @@ import sys
 sys.dont_write_bytecode = True
 from product import version  # noqa: E402
 
+LIBRARIES = {
+    "regtx": ("Windows registry hives in memory", "-lregtx"),
+    "regtx-client": ("A store of Windows registry hives, by the program regtx or its server", "-lregtx_client"),
+}
 TEXT = """prefix={prefix}
 includedir=${{prefix}}/include
-libdir=${{prefix}}/lib
+libdir=${{prefix}}/{folder}
 
-Name: regtx
-Description: Windows registry hives in memory
+Name: {name}
+Description: {description}
 Version: {version}
 Cflags: -I${{includedir}}
-Libs: -L${{libdir}} -lregtx
+Libs: -L${{libdir}} {library}
 """
 # a shell parts what pkg-config prints at blanks, and takes none of its quotes away
-PLAIN = re.compile(r"/[\w/.,:@%+=~-]*")
+PLAIN = re.compile(r"[\w/.,:@%+=~-]*")
 
 
 def main():
-    if len(sys.argv) != 2:
+    if len(sys.argv) != 4 or sys.argv[1] not in LIBRARIES:
         sys.exit(__doc__)
-    if not PLAIN.fullmatch(sys.argv[1]):
-        sys.exit(f"regtx: PREFIX must begin with / and have no blanks or quotes, which pkg-config can't print: {sys.argv[1]!r}")
-    print(TEXT.format(prefix=sys.argv[1], version=version()), end="")
+    name, prefix, folder = sys.argv[1:]
+    if not PLAIN.fullmatch(prefix) or not prefix.startswith("/"):
+        sys.exit(f"regtx: PREFIX must begin with / and have no blanks or quotes, which pkg-config can't print: {prefix!r}")
+    if not PLAIN.fullmatch(folder):
+        sys.exit(f"regtx: LIBRARIES must have no blanks or quotes, which pkg-config can't print: {folder!r}")
+    description, library = LIBRARIES[name]
+    print(TEXT.format(prefix=prefix, folder=folder, name=name, description=description, version=version(), library=library), end="")
 
 
 main()

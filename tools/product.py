@@ -14,8 +14,8 @@ TITLE = re.compile(r"\A# regtx: (?:an? )?(.+)\n\n(.+(?:\n.+)*)")
 # what completes a word of a usage
 KINDS = {
     "DIR": "folders", "OLD": "folders", "NEW": "folders", "FILE": "files", "SCRIPT": "files", "SOURCE": "files", "HIVE": "files",
-    "LOG": "files", "OUT": "files", "TYPE": "types",
-    "COMMAND": "commands", "ID": "nothing", "COUNT": "nothing", "HIVE:PATH": "nothing", "NAME": "nothing", "VALUE": "nothing",
+    "LOG": "files", "OUT": "files", "BACKUPS": "folders", "TYPE": "types",
+    "COMMAND": "commands", "ID": "nothing", "COUNT": "nothing", "N": "nothing", "HIVE:PATH": "nothing", "NAME": "nothing", "VALUE": "nothing",
     "PREFIX=HIVE": "nothing", "SECONDS": "nothing", "once": "nothing",
 }
 TYPES = ["sz", "expand", "dword", "qword", "multi", "hex"]

@@ -6,10 +6,10 @@
     tools/wrong.py --check    tries nothing: says which crates changed since their edits were tried, and which edits don't apply
 
 The edits have the form of must-fail edits. A crate is checked over the libraries of the crates below it that `rt ci` or
-tools/build.py left, first as it stands, and then with each edit over what the checks before it proved. An edit is refused if
-the prover has read it and doesn't prove a goal. If each edit of crates/NAME/wrong is, crates/NAME/wrong/tried gets the sum of
-the text that they were tried on: the crate's src/, specs/, proofs/ and edits. Status 0: each edit was refused, or nothing
-changed and each applies; 1: not so, or a library is missing; 2: the words can't be read.
+tools/build.py left, first as it stands, over what its last check kept, and then with each edit over what the checks before it
+proved. An edit is refused if the prover has read it and doesn't prove a goal. If each edit of crates/NAME/wrong is,
+crates/NAME/wrong/tried gets the sum of the text that they were tried on: the crate's src/, specs/, proofs/ and edits. Status 0:
+each edit was refused, or nothing changed and each applies; 1: not so, or a library is missing; 2: the words can't be read.
 """
 import glob
 import hashlib
@@ -148,6 +148,8 @@ def attempt(crate, edits, graph, kit):
         for part in [*PROVED, *FOLDERS]:
             if os.path.isdir(f"{home_of(crate)}/{part}"):
                 shutil.copytree(f"{home_of(crate)}/{part}", f"{home}/{part}")
+        if os.path.isdir(f"{home_of(crate)}/out/incremental"):
+            shutil.copytree(f"{home_of(crate)}/out/incremental", f"{scratch}/kept")
         words = [f"{kit}/bin/rattle", "check", *words_for(crate, graph, kit), "--jobs", "1", "--incremental", f"{scratch}/kept"]
         how = {"cwd": home, "stdin": subprocess.DEVNULL, "stdout": subprocess.PIPE, "stderr": subprocess.STDOUT, "text": True,
                "errors": "replace"}
