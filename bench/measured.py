@@ -7,6 +7,8 @@ import subprocess
 import sys
 
 TOP = os.path.dirname(os.path.dirname(os.path.abspath(__file__)))
+sys.path.append(f"{TOP}/tools")
+from picture_files import write_plots  # noqa: E402
 
 
 def program(path):
@@ -68,7 +70,7 @@ def tell(lines, place, write):
 
 
 def put(place, lines):
-    """Replaces what stands between `<!-- place -->` and `<!-- /place -->` in docs/MEASURED.md."""
+    """Replaces what stands between `<!-- place -->` and `<!-- /place -->` in docs/MEASURED.md, and makes its pictures anew."""
     path, begin, end = f"{TOP}/docs/MEASURED.md", f"<!-- {place} -->\n", f"<!-- /{place} -->\n"
     with open(path, encoding="utf-8") as file:
         page = file.read()
@@ -78,3 +80,4 @@ def put(place, lines):
         sys.exit(f"{path} has {places} places for the table: {begin}")
     with open(path, "w", encoding="utf-8") as file:
         file.write(page)
+    write_plots(place)
