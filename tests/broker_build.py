@@ -6,7 +6,7 @@ import subprocess
 TOP = os.path.dirname(os.path.dirname(os.path.abspath(__file__)))
 SERVER = os.environ.get("REGTXD_SOURCES") or os.path.join(TOP, "server")
 FLAGS = ["-std=c11", "-Wall", "-Wextra", "-Wpedantic", "-Wshadow", "-Werror"]
-SOURCES = {"regtxd": ["regtxd", "broker", "clients", "frames", "listener", "messages", "options", "program", "systemd"],
+SOURCES = {"regtxd": ["regtxd", "broker", "clients", "frames", "listener", "messages", "options", "program", "served_file", "systemd"],
            "regtxc": ["regtxc"]}
 BUILD_SECONDS = 300
 

@@ -246,4 +246,49 @@ def peers(bench):
         yield expect(f"a service of root, {given}", (found, server.end()), (0, b"a\n") if is_trusted else (1, b""))
 
 
-PARTS = [statuses, by_words, wrong_words, duplex, asks, peers]
+# what the server tells one who follows, how the status of that is, and what is told of it
+FOLLOWED = [
+    ("all was told", [b"change 3 0 1 -\n", b"create 0:A\n", b"followed 3\n"], 0, ""),
+    ("nothing came", [b"followed 2\n"], 0, ""),
+    ("changes that aren't kept", [b"E2 NotFound after 9\n"], 1, ""),
+    ("changes that aren't kept any more", [b"change 3 0 0 -\n", b"E2 NotFound after 9\n"], 1, ""),
+    ("a service that is killed", [b"change 3 0 0 -\n", b"change 4 0 0 -\n"], 1, "told all"),
+]
+
+
+def following(pieces, seen):
+    """Tells one piece after another, each once the last was seen to be printed; what was sent before the last one, and after it."""
+    def serve(client):
+        client.sendall(b"opened 2\n")
+        sent = client.recv(1 << 16)
+        for number, piece in enumerate(pieces):
+            client.sendall(piece)
+            if not seen(number):
+                return "it wasn't printed at once"
+        if not pieces[-1].startswith((b"followed", b"E2")):
+            client.shutdown(socket.SHUT_RDWR)
+        return sent, read_all(client)
+    return serve
+
+
+def follows(bench):
+    """A line by its words whose replies come for as long as its sender stays: each is printed at once, and the last one is the end."""
+    for verb in ("follow", "watch"):
+        for title, pieces, status, told in FOLLOWED:
+            printed = [threading.Event() for _ in pieces]
+            server = Server(f"{bench.home}/fake", following(pieces, lambda number, printed=printed: printed[number].wait(SECONDS)))
+            with child([bench.client, server.path, verb, "2"], stdin=subprocess.DEVNULL, stdout=subprocess.PIPE,
+                       stderr=subprocess.PIPE) as client:
+                for event, piece in zip(printed, pieces):
+                    yield expect(f"{verb}: {title}", client.stdout.readline(), piece)
+                    event.set()
+                ended = client.wait(SECONDS), client.stdout.read()
+                why = client.stderr.read().decode()
+            yield expect(f"{verb}: {title}, its end", (ended, told in why, bool(why) == bool(told)), ((status, b""), True, True))
+            yield expect(f"{verb}: {title}, what was sent", server.end(), (f"{verb} 2\n".encode(), b""))
+    # lines of standard input end as ever, at the end of that
+    server = Server(f"{bench.home}/fake", saying(b"opened 2\nfollowed 2\n"))
+    yield expect("standard input", (bench.run(server.path, input=b"follow 2\n"), server.end()), ((0, b"opened 2\nfollowed 2\n", ""), b"follow 2\n"))
+
+
+PARTS = [statuses, by_words, wrong_words, duplex, asks, peers, follows]

@@ -37,7 +37,7 @@ int chmod(const char *path, mode_t mode)
 WORDS = [[], ["s"], ["-n", "0", "s", "true"], ["-n", "32", "s", "true"], ["-n", "x", "s", "true"], ["-n", "", "s", "true"],
          ["-n", "3x", "s", "true"], ["-t", "0", "s", "true"], ["-t", "-1", "s", "true"], ["-m", "888", "s", "true"],
          ["-m", "1777", "s", "true"], ["-m", "", "s", "true"], ["-g", "no-such-group", "s", "true"], ["-x", "s", "true"],
-         ["s" * 108, "true"], ["", "true"], ["-m"]]
+         ["s" * 108, "true"], ["", "true"], ["-m"], ["-s", "", "s", "true"], ["-s"]]
 
 
 def words(bench):
@@ -74,6 +74,9 @@ def begins(bench):
     with bench.begun(command=["/no/such/program"]) as broker:
         status, printed, told = broker.end()
         yield expect("no program", (status, printed, "/no/such/program" in told), (1, b"", True))
+    for hints, wanted in [({}, b"1\n"), ({"REGTX_HINTS": "0"}, b"0\n"), ({"REGTX_HINTS": ""}, b"\n")]:
+        with bench.begun(command=["sh", "-c", "echo $REGTX_HINTS"], environment=hints) as broker:
+            yield expect(f"what a program has with {hints}", broker.end()[:2], (1, wanted))
 
 
 def stale(home):
@@ -174,6 +177,61 @@ def may_connect(path):
         return True
     except PermissionError:
         return False
+
+
+def served(bench):
+    """-s tells the socket's path in the file of a folder while the service lasts, and touches nothing else there."""
+    folder, where = f"{bench.home}/store", f"{bench.home}/store/served"
+    os.mkdir(folder, 0o755)
+    for title, prepare in [("nothing is there", lambda: None), ("an old file", lambda: write(where, "old\n" * 100)),
+                           ("a link", lambda: os.symlink(f"{folder}/journal", where))]:
+        write(f"{folder}/journal", "mine")
+        prepare()
+        before = {"served"} & set(os.listdir(folder))
+        with bench.begun("-s", folder) as broker:
+            time.sleep(QUIET)
+            yield expect(f"{title}: before it is ready", {"served"} & set(os.listdir(folder)), before)
+            broker.puppet.write(b"ready\n")
+            yield expect(f"{title}: ready", broker.line(), b"ready\n")
+            yield expect(f"{title}: the path", read(where), f"{broker.path}\n")
+            yield expect(f"{title}: its mode", stat.S_IMODE(os.lstat(where).st_mode), 0o644)
+            yield expect(f"{title}: a stop", broker.stop(), (0, None))
+        yield expect(f"{title}: what is left", (os.listdir(folder), read(f"{folder}/journal")), (["journal"], "mine"))
+    yield from served_in_vain(bench, folder, where)
+
+
+def served_in_vain(bench, folder, where):
+    with bench.ready("-s", folder) as broker:
+        # another broker has begun since then
+        os.rename(where, f"{folder}/before")
+        write(where, "another's\n")
+        yield expect("another's file", (broker.stop(), read(where)), ((0, None), "another's\n"))
+    os.remove(where)
+    with bench.ready("-s", folder) as broker:
+        broker.puppet.leave(0)
+        yield expect("a program that ends unasked", (broker.end()[0], os.path.exists(where)), (1, False))
+    with bench.ready("-s", f"{bench.home}/no-folder") as broker:
+        _client, place = broker.met()
+        yield expect("no folder: it serves", place in range(31), True)
+        broker.process.send_signal(signal.SIGTERM)
+        broker.puppet.next()
+        broker.puppet.leave()
+        status, printed, told = broker.end()
+        yield expect("no folder: it is told", (status, printed, "no-folder/served: No such file" in told), (0, b"", True))
+    with bench.begun("-s", folder) as broker:
+        broker.puppet.write(b"cannot open store\n")
+        broker.puppet.leave(1)
+        yield expect("a store that another has", (broker.end()[0], os.path.exists(where)), (1, False))
+
+
+def write(path, text):
+    with open(path, "w", encoding="ascii") as file:
+        file.write(text)
+
+
+def read(path):
+    with open(path, encoding="ascii") as file:
+        return file.read()
 
 
 def deaths(bench):
@@ -333,4 +391,4 @@ def log(bench):
         yield expect("-v", broker.end(), (0, b"", "".join(f"regtxd: {line}\n" for line in told)))
 
 
-PARTS = [words, begins, doors, opened_last, deaths, stops, idle, systemd, log]
+PARTS = [words, begins, doors, opened_last, served, deaths, stops, idle, systemd, log]

@@ -3,11 +3,11 @@
 
     tests/c_client.py PROGRAM
 
-The client is built without warnings into a folder that goes with this, and once more for the sanitizers of addresses and of undefined
-behaviour. Each build carries out the checks of clients/c/tests over real stores, some of which the broker of server/ serves. The
-programs of the page are compiled and run twice, the example must print what the page shows, and the program or the example is
-killed again and again while the example installs parts of a product: tests/client_trials.py. The last line is 'N passed, N failed';
-status 0 if none failed.
+The client is built without warnings into a folder that goes with this, once more for the sanitizers of addresses and of undefined
+behaviour, and as one source that tools/amalgamation.py makes. Each build carries out the checks of clients/c/tests over real stores, some
+of which the broker of server/ serves. The programs of the page are compiled and run twice, the example must print what the page shows,
+and the program or the example is killed again and again while the example installs parts of a product: tests/client_trials.py. The last
+line is 'N passed, N failed'; status 0 if none failed.
 """
 import glob
 import os
@@ -29,13 +29,13 @@ SANITIZERS = ["-fsanitize=address,undefined", "-fno-sanitize-recover=all"]
 CODE = re.compile(r"^```c\n(.*?)^```$", re.MULTILINE | re.DOTALL)
 TOLD = re.compile(r"(\d+) passed, (\d+) failed")
 # there are so many at least
-LEAST_CHECKS = 3_500
+LEAST_CHECKS = 3_700
 BUILD_SECONDS, CHECK_SECONDS = 300, 120
 
 
-def build(name, *words):
+def build(name, *words, sources=None):
     """Compiles the client with these files and flags into a program; answers what the compiler says."""
-    sources = sorted(glob.glob(os.path.join(CLIENT, "regtx_*.c")))
+    sources = sources or sorted(glob.glob(os.path.join(CLIENT, "regtx_*.c")))
     ran = subprocess.run(["cc", *FLAGS, "-o", name, *sources, *words], capture_output=True, text=True, timeout=BUILD_SECONDS)
     return ran.stderr if ran.returncode else None
 
@@ -51,6 +51,9 @@ def build_results(program):
                         ("connecting", [program.at("connecting.c")]), ("example", [os.path.join(CLIENT, "example.c"), *SANITIZERS])]:
         why = build(program.at(name), *words)
         yield f"{name}: {why}" if why else None
+    subprocess.run([os.path.join(TOP, "tools", "amalgamation.py"), program.at("joined_source")], check=True)
+    why = build(program.at("joined"), *checks, sources=[program.at("joined_source", "regtx_client.c")])
+    yield f"joined: {why}" if why else None
 
 
 def check_results(program, name):
@@ -91,7 +94,7 @@ def main():
         counts = [tell("builds", list(build_results(program)))]
         if counts[0][1]:
             finish(counts)
-        counts += [check_results(program, name) for name in ("check", "sanitized")]
+        counts += [check_results(program, name) for name in ("check", "sanitized", "joined")]
         counts.append(tell("page", [*page_program_results(program), *page_results(program, program.at("example"), PAGE)]))
         counts.append(tell("kills", list(kill_results(program, program.at("example")))))
     finish(counts)

@@ -37,14 +37,14 @@ DAMAGED = "damaged: restore a backup; other programs may read what is left"
 ADVICE = {
     "Truncated": "the file ends early: copy it again from its source, or restore a backup",
     "BadBase": "no hive begins here: check which file this is, or restore a backup",
-    "NotClean": "not closed: open its store, or let the system that wrote it shut down; or restore a backup",
+    "NotClean": "not closed: open its store, or `recover` it by its logs; or restore a backup",
     "E17": "a version, type or flag that this program doesn't read: use a program that does",
     "E6": "over a limit of this program: use a program that reads it",
 }
 ALL = "has all changes"
 # of a store in which no transaction has committed
 NO_OUTCOMES = f"outcomes: applied 0, {ALL}"
-A_LOG = "a log, not a hive: check the hive's own file"
+A_LOG = "a log, not a hive: check the hive's own file, or `recover` it by its logs"
 TOO_HEAVY = "too large for a store: `export` prints it"
 NO_STORE = "no store, or a damaged journal: check the folder, or restore a backup"
 BAD_HIVE = "a damaged hive: check its file alone, and restore a backup"
@@ -214,10 +214,14 @@ def blocks(program):
             ("a part of the block", file[:4_095], "Truncated")]:
         wanted = [*block_lines(file), f"E15 HiveDamaged 0 {cause}", ADVICE[cause]]
         results.append(expect(title, check(program, file), (wanted, 1)))
-    for title, at, some in [("another version", 24, 2), ("a log", 28, 1), ("another log", 28, 2), ("another type", 28, 3), ("another format", 32, 2)]:
+    for title, at, some in [("another version", 24, 2), ("a log", 28, 1), ("another log", 28, 2), ("a new log", 28, 6), ("another type", 28, 3), ("another format", 32, 2)]:
         other = mended(file[:at] + u32(some) + file[at + 4:])
         wanted = A_LOG if title.endswith("log") else ADVICE["E17"]
         results.append(expect(title, check(program, other), ([*block_lines(other), "E17 Unsupported", wanted], 1)))
+    for kind in (1, 2, 6):
+        unequal = mended(file[:8] + u32(7) + file[12:28] + u32(kind) + file[32:])
+        results.append(expect(f"a log of type {kind} that was being written", check(program, unequal), (
+            [*block_lines(unequal), "E15 HiveDamaged 0 NotClean", A_LOG], 1)))
     late = mended(file[:12] + bytes([255] * 8) + file[20:])
     results.append(expect("the last moment", check(program, late)[0][4], f"written {2 ** 64 - 1}"))
     heavy, _ = hive(Key("", 0, [Key(f"{number:05}") for number in range(90_000)], many=500))
@@ -420,4 +424,5 @@ def main():
         finish([part(program) for part in (all_cases, faults, blocks, others, stores, memory)])
 
 
-main()
+if __name__ == "__main__":
+    main()

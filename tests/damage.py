@@ -292,7 +292,7 @@ def outcomes(stores, pool):
 
 COMMANDS = [("get", "0:A", "v"), ("get-raw", "0:A", "v"), ("ls", "0:"), ("set", "0:A", "v", "dword", "1"),
             ("set-raw", "0:A", "v", "dword", "file.reg"), ("create", "0:B"), ("del", "0:A"), ("del-tree", "0:A"), ("export",),
-            ("export-utf8",), ("export-json",), ("export-tsv",), ("check",), ("apply", "file.reg", "HKEY_LOCAL_MACHINE=0"),
+            ("export-utf8",), ("export-json",), ("export-tsv",), ("check",), ("follow", "0"), ("apply", "file.reg", "HKEY_LOCAL_MACHINE=0"),
             ("apply-check", "file.reg", "HKEY_LOCAL_MACHINE=0")]
 
 

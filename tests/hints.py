@@ -88,7 +88,8 @@ def words(program):
         yield expect(f"{given}: commands", [line.split(" ")[2] for line in text.splitlines()], COMMANDS)
     store = made(program, "words")
     for given, word in [(["get", store, "nokey"], "nokey"), (["ls", store, "Software"], "Software"), (["new", "none", "1", "1"], "1"),
-                        (["new", "none", ID, "17"], "17"), (["usage", "nothing"], "nothing"), (["get", store, "0:A", "50%"], "50%")]:
+                        (["new", "none", ID, "17"], "17"), (["usage", "nothing"], "nothing"), (["get", store, "0:A", "50%"], "50%"),
+                        (["recover-to", "all", "hive", "log", "out"], "all"), (["recover-from", "+1", "hive", "log", "out"], "+1")]:
         printed, status, text = shown(program, *given)
         yield expect(f"{given}", (printed, status), (b"wrong words\n", 2))
         told = f"regtx: {word}: not understood\nusage: regtx {given[0]} "
@@ -130,9 +131,28 @@ def stores(program):
     fcntl.flock(handle, fcntl.LOCK_EX)
     for given, printed in [(["run", "there", script], UNOPENED), (["new", "there", ID, "1"], UNMADE)]:
         yield expect(f"{given[0]}: in use", shown(program, *given), (printed, 1, hints("there: another program has it")))
+    yield from served(program, script)
     os.close(handle)
+    yield expect("served, and not in use", shown(program, "get", "there", "0:A", "v"), (b"E2 NotFound\n", 1, ""))
+    os.remove(program.at("there", "served"))
     yield from missing_files(program, script)
     yield from refused_files(program, script)
+
+
+def served(program, script):
+    """What is told of a store that another program has, by the file of a broker in its folder."""
+    for content, where in [(b"/run/app.sock\n", "/run/app.sock"), ("/run/ä b.sock\n".encode(), "/run/ä b.sock"), (b"/no/end", "/no/end"),
+                           (b"", None), (b"\n", None), (b"/one\n/two\n", None), (b"/a\x1b[2J\n", None), (b"/\xff\n", None),
+                           (b"/" + b"a" * 5_000 + b"\n", None)]:
+        program.put("there/served", content)
+        told = "there: another program has it" + (f", served at {where}" if where else "")
+        for given in (["run", "there", script], ["get", "there", "0:A", "v"], ["set", "there", "0:A", "v", "sz", "text"], ["ls", "there", "0:"],
+                      ["export", "there"], ["check", "there"]):
+            yield expect(f"{given[0]}: served at {content[:20]}", shown(program, *given), (UNOPENED, 1, hints(told)))
+    # whoever has no right to read it is told no less than without it
+    if as_other():
+        os.chmod(program.at("there", "served"), 0)
+        yield expect("unreadable", shown(program, "ls", "there", "0:", **as_other())[2], hints("there: another program has it"))
 
 
 def missing_files(program, script):

@@ -5,11 +5,12 @@
 
 - version: each version that is told is the one of crates/regtx/src/about.rt.
 - files: `make install` and `make uninstall`: which files with which modes, what is refused, and what is left.
-- works: the program, the library with pkg-config, the three clients, the two bindings, the broker and its units, each from the place
+- works: the program, the libraries with pkg-config, the three clients, the two bindings, the broker and its units, a replica, each from the place
   where it is installed.
-- manual: the manual page has no warning of groff or mandoc, and all that the pages and the usages have.
+- manual: the manual pages have no warning of groff or mandoc, and all that the pages, the usages and the headers have.
 - completion: what bash and zsh complete after each word of each command.
-- package: a Debian package, its fields and its files; it is installed by dpkg, tried and removed, if this is root.
+- package: the Debian packages, their fields and files, and what lintian says; they are installed by dpkg, tried and removed, if this
+  is root.
 
 What can't be tried here is told, and counts neither as passed nor as failed. The last line is 'N passed, N failed', and the status is 0
 if none failed.
@@ -29,8 +30,9 @@ sys.path[:0] = [os.path.join(TOP, "tests"), os.path.join(TOP, "tools"), os.path.
 import completion  # noqa: E402
 import debian_package  # noqa: E402
 import manual_page  # noqa: E402
-from installation import (SOURCES, Make, content, copied, differences, environment, expected_files, folders,  # noqa: E402
+from installation import (MANUAL, SOURCES, Make, content, copied, dead_links, differences, environment, expected_files, folders,  # noqa: E402
                           modes, printed, ran, source_of)
+from programs_of_c import READ, READER, SHOP  # noqa: E402
 from scratch import are_there, expect, finish, program_at, tell  # noqa: E402
 
 ID = "00112233-4455-6677-8899-aabbccddeeff"
@@ -40,40 +42,7 @@ UNPROVED_LIBRARY = "regtx: the library for C that is installed isn't proved, as 
 VENDOR = "opened 0\nok\ncreated 2\nok\ncreated 2\ncommitted 1\n"
 # folders that other programs use too
 SHARED = ["bin", "include", "lib", "lib/pkgconfig", "lib/systemd", "lib/systemd/system", "libexec", "share", "share/bash-completion", "share/bash-completion/completions",
-          "share/doc", "share/man", "share/man/man1", "share/zsh", "share/zsh/site-functions"]
-READER = r"""
-#include <regtx.h>
-#include <stdio.h>
-#define TEXT(t) (const uint16_t *)u"" t, sizeof u"" t / 2 - 1
-
-int main(int count, char **words)
-{
-    static uint8_t file[1 << 20];
-    uint8_t data[64] = {0};
-    uint32_t type = 0;
-    size_t len = 0;
-    regtx_hive hive = {0};
-    regtx_info info = {0, 0, 0};
-    FILE *from = count == 2 ? fopen(words[1], "rb") : NULL;
-    if (from == NULL)
-        return 2;
-    len = fread(file, 1, sizeof file, from);
-    fclose(from);
-    uint32_t code = regtx_hive_open(file, len, &hive);
-    if (code == REGTX_OK)
-        code = regtx_hive_info(&hive, TEXT("Software\\Vendor\\Product"), &info);
-    if (code == REGTX_OK)
-        code = regtx_hive_value(&hive, TEXT("Software\\Vendor\\Product"), TEXT("Version"), &type, data, sizeof data, &len);
-    printf("%u: %d subkeys, %d values, type %u, %d bytes, %c%c%c\n", (unsigned)code, (int)info.subkeys, (int)info.values,
-           (unsigned)type, (int)len, data[0], data[2], data[4]);
-    regtx_hive_close(&hive);
-    return code != REGTX_OK;
-}
-"""
-# what examples/software.txt writes
-READ = "0: 0 subkeys, 4 values, type 1, 8 bytes, 1.2\n"
-# what the examples of the clients for C and Rust print, by their pages
-SHOP = "0 of 3 parts were there before\npart 1: committed 1\npart 2: committed 2\npart 3: committed 3\n3 parts are installed\n"
+          "share/doc", "share/man", "share/man/man1", "share/man/man3", "share/zsh", "share/zsh/site-functions"]
 # a word after a command, such as `[PREFIX=HIVE` and `..]`
 WORD = re.compile(r"[][A-Z:=.]+|\[once\]")
 PYTHON = re.compile(r"^```python\n(.*?)^```$", re.MULTILINE | re.DOTALL)
@@ -90,8 +59,14 @@ def versions(make, home):
     make.install(PREFIX=prefix)
     yield expect("the form", bool(re.fullmatch(r"\d+\.\d+\.\d+", wanted)), True)
     yield expect("about", printed(os.path.join(prefix, "bin/regtx"), "about").splitlines()[0], f"regtx {wanted}")
-    told = printed("pkg-config", "--modversion", "regtx", env=environment(PKG_CONFIG_PATH=os.path.join(prefix, "lib/pkgconfig")))
-    yield expect("pkg-config", told, f"{wanted}\n")
+    client_folder = os.path.join(prefix, "share/regtx/clients/python")
+    for name in ("regtx", "regtx-client"):
+        told = printed("pkg-config", "--modversion", name, env=environment(PKG_CONFIG_PATH=os.path.join(prefix, "lib/pkgconfig")))
+        yield expect(f"pkg-config, {name}", told, f"{wanted}\n")
+    project = content(os.path.join(client_folder, "pyproject.toml")).decode()
+    yield expect("pyproject.toml", re.findall(r'^version = "(.*)"$', project, re.M), [wanted])
+    newest = content(os.path.join(TOP, "docs", "changelog")).decode().splitlines()[0]
+    yield expect("the changelog", newest, f"regtx ({wanted}) unstable; urgency=medium")
     client = os.path.join(prefix, "share/regtx/clients")
     told = printed(sys.executable, "-Bc", "import regtx; print(regtx.__version__)", cwd=os.path.join(client, "python"))
     yield expect("the client for Python", told, f"{wanted}\n")
@@ -110,8 +85,9 @@ def versions(make, home):
     # what pages and tests show of `regtx about` and of the package
     found = printed("git", "grep", "-hoE", r"regtx[ _][0-9]+(\.[0-9]+)+", cwd=TOP).split()
     yield expect("pages and tests", {name.removeprefix("regtx").removeprefix("_") for name in found} - {""}, {wanted})
-    title = content(os.path.join(prefix, "share/man/man1/regtx.1")).decode().splitlines()[1]
-    yield expect("the manual", re.findall(r'"regtx (.*?)"', title), [wanted])
+    for page in MANUAL:
+        title = content(os.path.join(prefix, page)).decode().splitlines()[1]
+        yield expect(page, re.findall(r'"regtx (.*?)"', title), [wanted])
 
 
 def library_told(folder):
@@ -133,9 +109,10 @@ def wrong_contents(root, make):
 
 
 def built(folder):
-    """Each file of a folder, with when it was written."""
+    """Each file of a folder, with when it was written. The system of tests/fresh_root.py may be made at the same time."""
     found = {}
-    for at, _, names in os.walk(folder):
+    for at, folders, names in os.walk(folder):
+        folders[:] = [name for name in folders if name != "fresh"]
         found.update({os.path.join(at, name): os.stat(os.path.join(at, name)).st_mtime_ns for name in names})
     return found
 
@@ -151,6 +128,8 @@ def staged(make, home):
         yield expect(f"{destination}: the files", differences(modes(root), expected_files()), ([], [], []))
         yield expect(f"{destination}: the folders", set(folders(base).values()), {0o755})
         yield expect(f"{destination}: other contents", wrong_contents(root, make), [])
+        dead, count = dead_links(os.path.join(root, "share"))
+        yield expect(f"{destination}: links", (dead, count > 60), ([], True))
         yield expect(f"{destination}: make uninstall", make("uninstall", **given), ("", "", 0))
         yield expect(f"{destination}: what is left", [*modes(base), *folders(base)], [])
     yield expect("nothing is there", make("uninstall", DESTDIR=os.path.join(home, "none"), PREFIX="/usr"), ("", "", 0))
@@ -178,6 +157,30 @@ def shared(make, home):
     yield expect("folders of others", sorted(folders(prefix)), SHARED)
 
 
+def elsewhere(make, home):
+    """Libraries and modules of Python in the folders that are named; what Python and pip have written there goes, too."""
+    prefix, modules = os.path.join(home, "elsewhere"), "lib/python3/dist-packages"
+    given = {"PREFIX": prefix, "LIBRARIES": "lib64", "PYTHON_MODULES": modules}
+    os.makedirs(os.path.join(prefix, modules, "others"))
+    make.install(**given)
+    found = environment(PYTHONPATH=os.path.join(prefix, modules), PYTHONDONTWRITEBYTECODE="")
+    told = ran(sys.executable, "-c", "import regtx.aio, importlib.metadata; print(importlib.metadata.version('regtx'))", env=found, cwd=home)
+    yield expect("import regtx", told, (f"{version()}\n", "", 0))
+    told = printed("pkg-config", "--variable=libdir", "regtx-client", env=environment(PKG_CONFIG_PATH=os.path.join(prefix, "lib64/pkgconfig")))
+    yield expect("pkg-config", told, f"{prefix}/lib64\n")
+    told = ran(os.path.join(prefix, "bin/regtx-replicate"), "--help", cwd=home)
+    yield expect("regtx-replicate", (told[0].startswith("usage: regtx-replicate"), told[1:]), (True, ("", 0)))
+    yield expect("byte code", os.path.exists(os.path.join(prefix, modules, "regtx", "aio", "__pycache__")), True)
+    yield expect("make uninstall", make("uninstall", **given), ("", "", 0))
+    yield expect("what is left", (modes(prefix), os.path.exists(os.path.join(prefix, modules, "regtx"))), ({}, False))
+    make.install(PREFIX=prefix)
+    place = os.path.join(prefix, "share/regtx/clients/python")
+    told = ran(sys.executable, "-c", "import wheels", cwd=place, env=environment(PYTHONDONTWRITEBYTECODE=""))
+    yield expect("import wheels", (told, os.path.exists(os.path.join(place, "__pycache__"))), (("", "", 0), True))
+    yield expect("make uninstall after pip", make("uninstall", PREFIX=prefix), ("", "", 0))
+    yield expect("what is left of that", modes(prefix), {})
+
+
 def refused(make, home):
     """What can't be installed; nothing is written then."""
     base, empty = os.path.join(home, "refused"), os.path.join(home, "empty")
@@ -186,6 +189,7 @@ def refused(make, home):
             ("a blank", "PREFIX must begin with /", {"PREFIX": "/usr/my programs"}),
             ("a quote", "PREFIX must begin with /", {"PREFIX": "/usr/it's"}),
             ("a relative path", "PREFIX must begin with /", {"PREFIX": "usr"}),
+            ("a blank in LIBRARIES", "LIBRARIES must have no blanks", {"PREFIX": "/usr", "LIBRARIES": "my lib"}),
             ("no program", "No such file", {"PREFIX": "/usr", "PROGRAM": os.path.join(home, "missing")}),
             ("no library", "has no regtx.h", {"PREFIX": "/usr", "LIBRARY": empty})]:
         _, why, status = make("install", DESTDIR=base, **given)
@@ -200,7 +204,7 @@ def defaults(make, home):
     """Without PROGRAM and LIBRARY the program that tools/build_quick.py names is installed, and what tools/c_library.py makes if it
     is asked for what is stale."""
     copy, base = os.path.join(home, "copy"), os.path.join(home, "defaults")
-    copied([*SOURCES, "docs", "clients", "bindings", "completions", "server", "Makefile"], copy)
+    copied([*SOURCES, "docs", "clients", "bindings", "completions", "examples", "server", "Makefile", "crates/regtx_c/README.md", "out/client"], copy)
     for name, text in [("build_quick.py", f"echo '{make.program}'"),
                        ("c_library.py", f"mkdir -p $2 && cp {make.library}/regtx.h {make.library}/libregtx.* $2 && echo $* >>made")]:
         with open(os.path.join(copy, "tools", name), "w", encoding="ascii") as file:
@@ -241,6 +245,7 @@ def files(make, home):
     """What is installed and removed; which programs are told to be unproved; and that nothing is built."""
     yield from staged(make, home)
     yield from shared(make, home)
+    yield from elsewhere(make, home)
     yield from refused(make, home)
     yield from defaults(make, home)
     yield from stale(make, home)
@@ -287,9 +292,12 @@ def clients(prefix, home):
                         PATH=f"{os.path.dirname(program)}:{os.environ['PATH']}")
     os.mkdir(os.path.join(home, "python"))
     yield expect("Python", ran(sys.executable, "-c", example, cwd=os.path.join(home, "python"), env=found), ("1 1.0\n", "", 0))
-    sources = f"-I{place}/c {place}/c/example.c {place}/c/regtx_*.c"
-    yield expect("the client for C", shell(f"cc -std=c11 -Wall -Wextra -Werror -o c_client {sources}", cwd=home), ("", "", 0))
-    yield expect("C", ran(os.path.join(home, "c_client"), program, "c_shop", cwd=home), (SHOP, "", 0))
+    config = environment(PKG_CONFIG_PATH=os.path.join(prefix, "lib/pkgconfig"))
+    for title, sources in [("one source", f"-I{place}/c {place}/c/example.c {place}/c/regtx_*.c"),
+                           ("regtx-client.pc", f"{place}/c/example.c $(pkg-config --cflags --libs regtx-client)")]:
+        told = shell(f"cc -std=c11 -Wall -Wextra -Werror -o c_client {sources}", cwd=home, env=config)
+        yield expect(f"the client for C, {title}", told, ("", "", 0))
+        yield expect(f"C, {title}", ran(os.path.join(home, "c_client"), program, f"c_{title[0]}_shop", cwd=home), (SHOP, "", 0))
     if are_there("works", "cargo"):
         given = environment(CARGO_TARGET_DIR=os.path.join(home, "target"), RUSTFLAGS="-D warnings")
         words = ["build", "--quiet", "--examples", "--offline", "--locked", "--jobs", "1"]
@@ -330,7 +338,28 @@ def server(prefix, home):
     yield expect("what is there", printed(program, "ls", "store", "0:", cwd=place), "key A\n")
     unit = content(os.path.join(prefix, "lib/systemd/system/regtx@.service")).decode()
     words = re.findall(r"^ExecStart=(.*)$", unit, re.M)
-    yield expect("the unit", words, [f"{broker} /run/regtx/%i.sock {program} wait 60 serve /var/lib/regtx/%i"])
+    yield expect("the unit", words, [f"{broker} -s /var/lib/regtx/%i /run/regtx/%i.sock {program} wait 60 serve /var/lib/regtx/%i"])
+
+
+def fleet(prefix, home):
+    """The installed command publishes a store at rest, and applies its changes to a replica."""
+    bin_folder, place = os.path.join(prefix, "bin"), os.path.join(home, "fleet")
+    command, words = os.path.join(bin_folder, "regtx-replicate"), ["--program", os.path.join(bin_folder, "regtx")]
+    os.makedirs(os.path.join(place, "changes"), 0o755)
+    printed(words[1], "new", "store", ID, "1", cwd=place)
+    publish = [command, "publish", "store", "--to", "changes", "--once", *words]
+    yield expect("publish", ran(*publish, cwd=place), ("published 0\n", f"regtx-replicate: publishes store {ID} after 0\n", 0))
+    printed(command, "begin", "replica", "--of", "store", "--from", "changes", *words, cwd=place)
+    with subprocess.Popen([os.path.join(bin_folder, "regtxd"), "-s", "store", "socket", words[1], "serve", "store"], cwd=place,
+                          stdout=subprocess.PIPE, text=True) as served:
+        served.stdout.readline()
+        printed(os.path.join(bin_folder, "regtxc"), "socket", "create", "0:A", cwd=place)
+        told, _, status = ran(*publish, cwd=place)
+        yield expect("publish, served", (told, status), ("published 1\n", 0))
+        served.terminate()
+    told, _, status = ran(command, "subscribe", "replica", "--from", "changes", "--once", *words, cwd=place)
+    yield expect("subscribe", (told, status), ("applied 1\n", 0))
+    yield expect("the replica", printed(words[1], "ls", "replica", "0:", cwd=place), "key A\n")
 
 
 def works(make, home):
@@ -347,6 +376,7 @@ def works(make, home):
             (["get", "store", "0:Software\\Vendor", "Version"], "sz 1.0\n"), (["ls", "store", "1:Services"], "key Vendor\n")]:
         yield expect(words[0], ran(program, *words, cwd=home), (told, "", 0))
     yield from server(prefix, home)
+    yield from fleet(prefix, home)
     yield from library(prefix, home)
     yield from clients(prefix, home)
     yield from bindings(prefix, home)

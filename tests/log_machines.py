@@ -11,6 +11,7 @@ reader. The last line is 'N passed, N failed', and the status is 0 if none faile
 - spoiled: a bit of each field of each entry, each length of the log, an entry left out.
 - false_contents: entries with right hashes whose contents are wrong.
 - torn: base blocks of which the sum, the letters or all is wrong.
+- limits: numbers from which entries are applied, and up to which.
 - heads: logs whose first sector is none, and old logs. Files that are cut.
 - memory: each allocation refused in turn.
 """
@@ -104,27 +105,28 @@ class Runs:
     def __init__(self, program):
         self.program = program
 
-    def recover(self, primary, *logs, **given):
-        """The lines that it printed, and the file that it wrote, or None."""
+    def recover(self, primary, *logs, limits=None, **given):
+        """The lines that it printed, and the file that it wrote, or None. Limits are two numbers, or None for either."""
         names = [self.program.put(f"log{at}", log) for at, log in enumerate(logs)]
         out = self.program.at("out")
         if os.path.exists(out):
             os.remove(out)
-        told, _ = self.program.run("recover", self.program.put("hive", primary), "out", *names, **given)
+        words = ["recover"] if limits is None else ["recover-within", *("-" if number is None else str(number % TOP_NUMBER) for number in limits)]
+        told, _ = self.program.run(*words, self.program.put("hive", primary), "out", *names, **given)
         if not os.path.exists(out):
             return told.decode().splitlines(), None
         with open(out, "rb") as file:
             return told.decode().splitlines(), file.read()
 
-    def is_file(self, title, primary, logs, wanted):
+    def is_file(self, title, primary, logs, wanted, limits=None):
         """What is wrong if a file is wanted."""
-        lines, found = self.recover(primary, *logs)
+        lines, found = self.recover(primary, *logs, limits=limits)
         if found == wanted:
             return None
         return f"{title}: {lines}" if found is None else f"{title}: other bytes, {len(found)} and not {len(wanted)}: {lines}"
 
-    def is_refused(self, title, primary, logs, wanted):
-        lines, found = self.recover(primary, *logs)
+    def is_refused(self, title, primary, logs, wanted, limits=None):
+        lines, found = self.recover(primary, *logs, limits=limits)
         return expect(title, (lines[-1:], found), ([wanted], None))
 
     def ends(self, title, log, wanted):
@@ -295,6 +297,77 @@ def torn(runs):
             yield runs.is_refused(f"torn {seed}, {title}, no log", bad, [b"", bytes(HEAD)], none)
 
 
+def limits(runs):
+    """A limit gives what a machine gives that was switched off earlier, or that tells another number."""
+    for seed in range(8):
+        base = [100, TOP_NUMBER - 3, 0, 2**31 - 2][seed % 4]
+        machine = Machine(seed + 400, base=base, minor=3 + seed % 3)
+        entries, last = machine.entries, len(machine.entries) - 1
+        log, clean = machine.log(entries), block(base, base, len(machine.states[0]), minor=machine.minor) + machine.rest + machine.states[0]
+        for kept in range(len(entries)):
+            for upto in range(-1, last + 3):
+                title, within = f"machine {seed}, kept {kept}, up to {upto}", (None, base + upto)
+                if upto < kept:
+                    yield runs.is_refused(title, machine.primary(kept, kept), [log], BAD_LOG, within)
+                    continue
+                primary = machine.primary(kept, min(upto, last) + 1)
+                wanted = machine.wanted(primary, kept, min(upto, last))
+                yield runs.is_file(title, primary, [log], wanted, within)
+                cut = machine.chance.randint(1, last)
+                yield runs.is_file(f"{title}, two logs", primary, [machine.log(entries[cut:]), machine.log(entries[:cut])], wanted, within)
+            # a primary file whose second number tells nothing
+            primary = machine.primary(kept, last + 1)
+            other = block(base + 900, base + 800, len(machine.states[kept]), minor=machine.minor) + primary[SECTOR:]
+            wanted = machine.wanted(other, kept, last)
+            yield runs.is_file(f"machine {seed}, from {kept}", other, [log], wanted, (base + kept, None))
+            yield runs.is_refused(f"machine {seed}, not from {kept}", other, [log], BAD_LOG)
+            one = machine.wanted(other, kept, kept)
+            other = block(base + 900, base + 800, len(machine.states[kept]), minor=machine.minor) + machine.rest + machine.states[kept]
+            yield runs.is_file(f"machine {seed}, {kept} alone", other, [log], one, (base + kept, base + kept))
+            yield runs.is_file(f"machine {seed}, clean, from {kept}", clean, [log], clean, (base + kept, None))
+        for number in (base - 1, base + last + 1, base + 50):
+            yield runs.is_refused(f"machine {seed}, from {number}", machine.primary(0, 0), [log], BAD_LOG, (number, None))
+        yield runs.is_refused(f"machine {seed}, from 2 up to 1", machine.primary(0, 0), [log], BAD_LOG, (base + 2, base + 1))
+        yield runs.is_file(f"machine {seed}, clean, up to the one before", clean, [log], clean, (None, base - 1))
+        yield from torn_limits(runs, machine, log)
+    yield from told_limits(runs)
+
+
+def torn_limits(runs, machine, log):
+    """Limits of hives whose base block is torn: the newest log as if it ended earlier, and all of it from a number on."""
+    base, last = machine.base, len(machine.entries) - 1
+    older = machine.log(Machine(900, base=base - 60, steps=3).entries)
+    for upto in range(last + 1):
+        primary = machine.primary(0, upto + 1)
+        torn = primary[:300] + bytes([primary[300] ^ 1]) + primary[301:]
+        yield runs.is_file(f"torn, up to {upto}", torn, [older, log], machine.wanted(log, 0, upto), (None, base + upto))
+        for first in range(upto + 1):
+            primary = machine.primary(first, upto + 1)
+            torn = primary[:300] + bytes([primary[300] ^ 1]) + primary[301:]
+            yield runs.is_file(f"torn, {first} up to {upto}", torn, [log, older], machine.wanted(log, first, upto), (base + first, base + upto))
+        yield runs.is_refused(f"torn, from {last + 1}", torn, [log], BAD_LOG, (base + last + 1, None))
+        yield runs.is_refused(f"torn, up to {-70}", torn, [log, older], BAD_LOG, (None, base - 70))
+
+
+def told_limits(runs):
+    """What is told of logs within limits: all that they have, and a number that is missing below the limit."""
+    machine = Machine(50, steps=3)
+    first, second, third = machine.entries
+    ends = [f"{places(part)[-1]:x}" for part in ([first], [second, third], [third])]
+    cases = [
+        ("up to 100", (None, 100), [[first], [second, third]], [f"entries 100 to 100, then no letters at 0x{ends[0]}",
+                                                                f"entries 101 to 102, then no letters at 0x{ends[1]}"], "recovered 100"),
+        ("up to 101", (None, 101), [[first], [third]], [f"entries 100 to 100, then no letters at 0x{ends[0]}",
+                                                        f"entries 102 to 102, then no letters at 0x{ends[2]}"], "recovered 100"),
+        ("up to 102", (None, 102), [[first], [third]], [f"entries 100 to 100, then no letters at 0x{ends[0]}",
+                                                        f"entries 102 to 102, then no letters at 0x{ends[2]}, 101 is missing"], "recovered 100"),
+        ("from 99", (99, None), [[first]], [f"entries 100 to 100, then no letters at 0x{ends[0]}, 99 is missing"], BAD_LOG),
+    ]
+    for title, within, parts, lines, wanted in cases:
+        found, _ = runs.recover(machine.primary(0, 0), *map(machine.log, parts), limits=within)
+        yield expect(title, found, [f"log {at}: {line}" for at, line in enumerate(lines, 1)] + [wanted])
+
+
 def heads(runs):
     machine = Machine(80)
     entries, last = machine.entries, len(machine.entries) - 1
@@ -347,7 +420,7 @@ def main():
         sys.exit(__doc__)
     with program_at(sys.argv[1], "machines-") as program:
         runs = Runs(program)
-        finish([tell(part.__name__, list(part(runs))) for part in (whole, spoiled, false_contents, torn, heads, memory)])
+        finish([tell(part.__name__, list(part(runs))) for part in (whole, spoiled, false_contents, torn, limits, heads, memory)])
 
 
 if __name__ == "__main__":

@@ -1,4 +1,4 @@
-"""What is wrong with the manual page: its form by groff and mandoc, and what it has of the pages and of the program's usages."""
+"""What is wrong with the manual pages: their form by groff and mandoc, and what they have of the pages, the usages and the headers."""
 import os
 import re
 
@@ -19,7 +19,7 @@ REFUSALS = [
     "E9 NoSuchHandle", "E10 NoSeat", "E11 JournalFull", "E12 HistoryFull", "E13 DiskFault", "E14 Faulted", "E15 HiveDamaged",
     "E16 JournalDamaged", "E17 Unsupported", "E18 Fixed",
 ]
-ALSO = "uuidgen(1), flock(1), hivexsh(1), hivexml(1), hivexregedit(1), reglookup(1)"
+ALSO = "regtxd(1), regtxc(1), uuidgen(1), flock(1), hivexsh(1), hivexml(1), hivexregedit(1), reglookup(1)"
 FILES = ["journal", "hive00.dat, hive01.dat, ..", "hive00.log, hive01.log, ..", "one hive more: hive02.dat in a store of 2"]
 # a page's marks, and the signs that a terminal has for those of ASCII
 MARKS = re.compile(r"^#+ |^(?:- |\d+\. )|^\|[-|]+\|$|^```.*$|\*\*|`|^    (?=\S)|\]\([^)\s]+\)|\[(?=[^\]]+\]\()", re.M)
@@ -31,6 +31,8 @@ SPOILED = [
     ("docs/SCRIPTS.md", "\n```\ncode\n", "has no end"),
     ("docs/USING.md", "\n#### Deep\n", "of no known kind"),
     ("docs/USING.md", "\nA mark ` alone\n", "has no end"),
+    ("docs/USING.md", "\n![a picture](pictures/commit.svg)\n", "shows no picture: a picture"),
+    ("README.md", "\n![a picture](docs/pictures/commit.svg) amid words\n", "of no known kind"),
     ("docs/SCRIPTS.md", "\n## How a run ends\n", "2 sections are called"),
     ("docs/USING.md", "\n| file | what |\n|---|---|\n| a | b |\n", "2 tables of files"),
     ("crates/regtx/src/usages.rt", None, f"of which {len(usages()) - 1} could be read"),
@@ -73,8 +75,13 @@ def cells(line):
 
 
 def passages(page):
-    """What a page says, in parts that have to be found as they are: paragraphs, items, cells and lines of code."""
-    text = content(os.path.join(TOP, page)).decode().replace("./regtx", "regtx")
+    """What a page says."""
+    return parts_of(content(os.path.join(TOP, page)).decode())
+
+
+def parts_of(text):
+    """What a text says, in parts that have to be found as they are: paragraphs, items, cells and lines of code."""
+    text = text.replace("./regtx", "regtx")
     code = re.compile(r"^```.*\n((?:.*\n)*?)```$", re.M)
     for inner in code.findall(text):
         yield from inner.splitlines()
@@ -136,6 +143,55 @@ def matter(page, commands):
         yield expect(f"what is lost of {name}", lost(name, text), [])
 
 
+def below(page, title):
+    """What a page has below one of its headings."""
+    text = content(os.path.join(TOP, page)).decode()
+    return re.split(r"^## ", text.split(f"\n## {title}\n", 1)[1], flags=re.M)[0]
+
+
+def told(header):
+    """What the comments of a header say, and what it declares."""
+    text = re.split(r"^static inline ", content(os.path.join(TOP, header)).decode(), flags=re.M)[0]
+    found = [re.sub(r"^ ?\* ?", "", paragraph, flags=re.M) for comment in re.findall(r"^/\*(.*?)\*/", text, re.M | re.S)
+             for paragraph in re.split(r"\n \*\n", comment)]
+    # the last comment of regtx.h is of what the compiler alone sees
+    return [part for part in found if "What follows lets" not in part] + re.findall(r"^(?!typedef)\w[\w ]*[ *]regtx_\w+\(.*?\);", text, re.M | re.S)
+
+
+# the other pages: their sections, and what each has to say
+OTHERS = {
+    "regtxd.1": (["NAME", "SYNOPSIS", "DESCRIPTION", "SERVING A STORE", "SYSTEMD", "EXAMPLES", "SEE ALSO"], lambda: [
+        *passages("docs/SERVING.md"), *parts_of(below("server/README.md", "regtxd")), *parts_of(below("server/README.md", "systemd"))]),
+    "regtxc.1": (["NAME", "SYNOPSIS", "DESCRIPTION", "SEE ALSO"], lambda: parts_of(below("server/README.md", "regtxc"))),
+    "regtx-replicate.1": (["NAME", "SYNOPSIS", "DESCRIPTION", "A FLEET OF STORES", "EXAMPLES", "SEE ALSO"], lambda: passages("docs/FLEET.md")),
+    "regtx.3": (["NAME", "SYNOPSIS", "DESCRIPTION", "DECLARATIONS", "PROMISES", "EXAMPLES", "SEE ALSO"], lambda: [
+        *told("crates/regtx_c/regtx.h"), *parts_of(below("crates/regtx_c/README.md", "What callers rely on"))]),
+    "regtx_client.3": (["NAME", "SYNOPSIS", "DESCRIPTION", "STORES", "DECLARATIONS", "EXAMPLES", "SEE ALSO"], lambda: [
+        *told("clients/c/regtx_client.h"), *parts_of(below("clients/README.md", "Writes")), *parts_of(below("clients/c/README.md", "Codes")),
+        *parts_of(below("clients/c/README.md", "Calls"))]),
+}
+
+
+def other(prefix, name, version):
+    """Another page than that of the program."""
+    page = os.path.join(prefix, f"share/man/man{name[-1]}/{name}")
+    lines, why, status = rendered(page)
+    yield expect(f"groff, {name}", (why, status), ("", 0))
+    yield expect(f"groff's line of {name}", lines[-1].split()[:2], ["regtx", version])
+    titles, wanted = OTHERS[name]
+    found = [line for line in lines[1:-1] if line and not line.startswith(" ")]
+    yield expect(f"sections of {name}", found, titles)
+    text, parts_wanted = solid("".join(lines).lower()), list(wanted())
+    yield expect(f"what is lost of {name}", [part for part in parts_wanted if solid(part.lower().replace("`", "")) not in text], [])
+    yield expect(f"what {name} has to have", len(parts_wanted) > 10, True)
+    tools = are_there("manual", "mandoc", "lexgrog")
+    if "mandoc" in tools:
+        yield expect(f"mandoc, {name}", ran("mandoc", "-Tlint", page), ("", "", 0))
+    if "lexgrog" in tools:
+        begin = f'{page}: "{name[:-2]} - '
+        yield expect(f"lexgrog, {name}", ran("lexgrog", page)[0].startswith(begin), True)
+
+
 def spoiled(home):
     """Pages that aren't made into a manual, since something of them would be lost."""
     copy = os.path.join(home, "spoiled")
@@ -144,12 +200,14 @@ def spoiled(home):
         text = content(os.path.join(copy, name)).decode()
         with open(os.path.join(copy, name), "w", encoding="utf-8") as file:
             file.write(text + added if added else text.replace("        does:", "        does :", 1))
-        printed, why, status = ran(os.path.join(copy, "tools", "manual.py"))
+        printed, why, status = ran(os.path.join(copy, "tools", "manual.py"), "regtx.1")
         yield expect(f"{name} with {added}", (printed, told in why, "Traceback" in why, status), ("", True, False, 1))
 
 
 def results(prefix, commands, version, home):
-    page = os.path.join(prefix, MANUAL)
+    page = os.path.join(prefix, MANUAL[0])
     yield from form(page, version)
     yield from matter(page, commands)
+    for name in OTHERS:
+        yield from other(prefix, name, version)
     yield from spoiled(home)

@@ -1,5 +1,5 @@
 #!/usr/bin/env python3
-"""Uses stores by clients/python/regtx.py and a built program:
+"""Uses stores by clients/python/regtx and a built program:
 
     tests/python_client.py PROGRAM [SEED]
 
@@ -18,6 +18,7 @@
 - connections, gathered, exchanges, once_of_both: connections to a store that is served, what is sent together, and work done once.
 - refused_connections, lost_connections, ended_transactions, interrupted_connections, forks_of_connections, killed_servers: how
   connections don't begin, and how they and their transactions end.
+- backups, followers, followed_ends: copies of a store that is served, and clients that are told of its changes.
 - commands: stores that are made, imported and upgraded.
 - ends: programs that end early, that add a line or a status at their end, or that are interrupted; a full disk, a store in use.
 - calls: a run with one commit is ended at each of its calls on files in turn, and another run says whether it is done.
@@ -31,6 +32,7 @@ import gzip
 import os
 import random
 import re
+import select
 import signal
 import subprocess
 import sys
@@ -45,6 +47,7 @@ sys.dont_write_bytecode = True
 sys.path[:0] = [os.path.join(TOP, "tests"), CLIENT, os.path.join(CLIENT, "tests")]
 import regtx  # noqa: E402
 from connections import connections, exchanges, gathered, once_of_both  # noqa: E402
+from following import backups, followed_ends, followers  # noqa: E402
 from lives import dropped, forks, hints, times  # noqa: E402
 from lost import (  # noqa: E402
     ended_transactions, forks_of_connections, interrupted_connections, killed_servers, lost_connections, refused_connections)
@@ -199,8 +202,8 @@ def refusals(program):
             (lambda: store.delete_key("0:A"), regtx.HasSubkeys, "E3 HasSubkeys", "delete 0:A"),
             (lambda: store.create_key("0:A\\\\B"), regtx.BadName, "E4 BadName", "create 0:A\\\\B"),
             (lambda: store.key_info("0:A\\"), regtx.BadName, "E4 BadName", "info 0:A\\"),
-            (lambda: store.create_key("0:" + "\\".join(33 * "b")), regtx.Refused, "E5 TooDeep", "create 0:" + "\\".join(33 * "b")),
-            (lambda: store.delete_key("0:"), regtx.Refused, "E18 Fixed", "delete 0:"),
+            (lambda: store.create_key("0:" + "\\".join(33 * "b")), regtx.TooDeep, "E5 TooDeep", "create 0:" + "\\".join(33 * "b")),
+            (lambda: store.delete_key("0:"), regtx.Fixed, "E18 Fixed", "delete 0:"),
         ]
         for call, kind, reply, line in sent:
             error = raised(call)
@@ -602,7 +605,7 @@ def pages(program):
     """The examples of the page print what it shows."""
     with open(os.path.join(CLIENT, "README.md"), encoding="utf-8") as file:
         page = file.read()
-    first, connecting, gathering, once = re.findall(r"^```python\n(.*?)^```$", page, re.MULTILINE | re.DOTALL)
+    first, connecting, gathering, following, pooled, later, once = re.findall(r"^```python\n(.*?)^```$", page, re.MULTILINE | re.DOTALL)
     session = re.search(r"^\$ clients/python/example.py \S+ \S+\n(.*?)^```$", page, re.MULTILINE | re.DOTALL)[1]
     printed = re.search(r"^It prints `(.*?)`", page, re.MULTILINE)[1]
     environment = dict(os.environ, PATH=f"{program.home}:{os.environ['PATH']}", PYTHONPATH=CLIENT, PYTHONDONTWRITEBYTECODE="1")
@@ -612,13 +615,29 @@ def pages(program):
     gathering = f"import regtx\nwith regtx.Store('store') as store:\n{textwrap.indent(gathering, '    ')}"
     again = "was installed by change 1\n" + session.partition("\n")[2]
     with served(program, broker_in(program), "page", hives=2) as it:
-        connecting = connecting.replace("/run/regtx/app.sock", it.path)
+        connecting, following, pooled, later = (each.replace("/run/regtx/app.sock", it.path) for each in (connecting, following, pooled, later))
         for title, words, wanted in [
                 ("the first example", ["-c", first], f"{printed}\n"), ("once", ["-c", twice], "1\n"), ("together", ["-c", gathering], ""),
                 ("connecting", ["-c", connecting], "1\n"), ("connecting again", ["-c", connecting], "1\n"),
+                ("a pool", ["-c", f"import regtx\n{pooled}"], ""), ("asyncio", ["-c", later], "0\n"),
                 ("the example", [example, "shop", program.path], session), ("the same again", [example, "shop"], again)]:
             ran = subprocess.run([sys.executable, *words], cwd=program.home, env=environment, capture_output=True, text=True, timeout=60)
             yield expect(title, (ran.stdout, ran.stderr, ran.returncode), (wanted, "", 0))
+        yield from following_results(it, [sys.executable, "-u", "-c", f"import regtx\n{following}"], environment)
+
+
+def following_results(it, words, environment):
+    """The example of one who follows prints changes as they come, and ends as the server does."""
+    with subprocess.Popen(words, env=environment, stdout=subprocess.PIPE, stderr=subprocess.PIPE, text=True) as follower, it.lines() as client:
+        for number in range(1_000):
+            client.ask(f"create 0:F{number}", "flush")
+            if select.select([follower.stdout], [], [], 0.05)[0]:
+                break
+        told = re.fullmatch(r"[0-9]+ None \['create 0:F([0-9]+)'\]\n", follower.stdout.readline())
+        yield expect("following", told is not None and int(told[1]) <= number, True)
+        yield expect("the server's end", it.end()[0], 0)
+        _, why = follower.communicate(timeout=60)
+        yield expect("the end of following", (why, follower.returncode), ("", 0))
 
 
 def caught(results):
@@ -640,7 +659,7 @@ def main():
         parts = {part.__name__: part(program) for part in (
             values, names, refusals, scopes, sessions, trees, conflicts, dropped, forks, times, hints, connections, gathered, exchanges,
             once_of_both, refused_connections, lost_connections, ended_transactions, interrupted_connections, forks_of_connections,
-            killed_servers, commands, ends, pages)}
+            killed_servers, backups, followers, followed_ends, commands, ends, pages)}
         parts |= {"calls": calls(program, library), "kills": kills(program, library, random.Random(seed))}
         finish([tell(part, list(caught(results))) for part, results in parts.items()])
 

@@ -10,6 +10,9 @@ failed.
 - machines: one log or two, in any order, whole, cut or spoiled; primary files of which each page is of some state.
 - lost: machines of which one entry is missing in the middle: an earlier state, whole, or a refusal.
 - pages: logs of Windows 8 and before, on disks with sectors of several sizes; those that aren't whole, and several at once.
+- limits: numbers from which something is applied, and up to which.
+- damaged: results that are no whole hive, and are kept.
+- checks: `check` of hives with their logs: what would be applied, and a report of the result. Nothing is written.
 - reports: all lines that are printed, and the status.
 - refusals: hives and logs of which nothing is made.
 - outputs: new files that are there already, can't be written, or fill the device; inputs that are only read.
@@ -28,7 +31,8 @@ import time
 TOP = os.path.dirname(os.path.dirname(os.path.abspath(__file__)))
 sys.dont_write_bytecode = True
 sys.path[:0] = [os.path.join(TOP, "tests"), os.path.join(TOP, "runs", "hives")]
-from log_machines import HEAD, block, recovered, with_sum  # noqa: E402
+from checks import A_LOG, ADVICE, DAMAGED, block_lines, cells_line  # noqa: E402
+from log_machines import HEAD, TOP_NUMBER, block, recovered, with_sum  # noqa: E402
 from maker import SPLITS_FROM, Cells, Key, Value, key_of  # noqa: E402
 from marvin import BIN, PAGE, SECTOR, entry  # noqa: E402
 from scratch import are_there, as_other, expect, finish, limited, mounted, program_at, refusal_shim, tell  # noqa: E402
@@ -46,7 +50,7 @@ class Machine:
         self.chance, self.base, self.minor = random.Random(seed), base, minor
         self.keys = [self.key(number) for number in range(self.chance.randint(2, 8))]
         self.rest = bytes(HEAD - SECTOR)
-        self.states, self.entries = [], []
+        self.states, self.entries, self.counts = [], [], []
         self.write()
         for _ in range(steps):
             self.change()
@@ -76,6 +80,7 @@ class Machine:
         last = key_of(cells, Key("r", len(self.states), list(self.keys)), {})
         cells.fill(self.root, cells.bytes[last + 4:last + 4 + ROOT_BYTES])
         self.states.append(cells.bins())
+        self.counts.append((1 + len(self.keys), sum(len(key.values) for key in self.keys)))
 
     def step(self, at):
         """The entry of the pages that two states have otherwise."""
@@ -107,12 +112,12 @@ class Runs:
     def __init__(self, program):
         self.program = program
 
-    def recover(self, primary, *logs, out="out", **given):
+    def recover(self, primary, *logs, out="out", words=("recover",), **given):
         """The lines, the status, and the file or None."""
         names = [self.program.put(f"log{at}", log) for at, log in enumerate(logs, 1)]
         if os.path.exists(self.program.at(out)):
             os.remove(self.program.at(out))
-        told, status = self.program.run("recover", self.program.put("hive", primary), *names, out, **given)
+        told, status = self.program.run(*words, self.program.put("hive", primary), *names, out, **given)
         return told.decode().splitlines(), status, self.file(out)
 
     def file(self, name):
@@ -121,15 +126,28 @@ class Runs:
         with open(self.program.at(name), "rb") as file:
             return file.read()
 
-    def is_file(self, title, primary, logs, wanted):
+    def check(self, primary, *logs):
+        """The lines of `check` and the status. All else that is in the folder stays as it was."""
+        names = [self.program.put(f"log{at}", log) for at, log in enumerate(logs, 1)]
+        hive = self.program.put("hive", primary)
+        before = self.contents()
+        told, status = self.program.run("check", hive, *names)
+        return told.decode().splitlines() + ([] if self.contents() == before else ["something was written"]), status
+
+    def contents(self):
+        """The files of the folder with their bytes."""
+        names = sorted(os.listdir(self.program.home))
+        return {name: self.file(name) for name in names if os.path.isfile(self.program.at(name))}
+
+    def is_file(self, title, primary, logs, wanted, words=("recover",)):
         """What is wrong if a file is wanted."""
-        lines, status, found = self.recover(primary, *logs)
+        lines, status, found = self.recover(primary, *logs, words=words)
         if (found, status) == (wanted, 0):
             return None
         return f"{title}: status {status}, {'no file' if found is None else 'another file'}: {lines[-3:]}"
 
-    def is_refused(self, title, primary, logs, wanted):
-        lines, status, found = self.recover(primary, *logs)
+    def is_refused(self, title, primary, logs, wanted, words=("recover",)):
+        lines, status, found = self.recover(primary, *logs, words=words)
         return expect(title, (lines[-1:], status, found), ([wanted], 1, None))
 
 
@@ -246,6 +264,159 @@ def pages(runs):
     yield runs.is_file("entries first", primary, [page_log(new, 0, 100)[0], new.log(new.entries)], new.wanted(primary, 1))
     clean = block(9, 9, len(new.states[0]), root=new.root) + new.rest + new.states[0]
     yield runs.is_file("a clean hive", clean, [page_log(new, 0, 9)[0]], clean)
+
+
+def to(number):
+    return "recover-to", str(number % TOP_NUMBER)
+
+
+def starting(number):
+    return "recover-from", str(number % TOP_NUMBER)
+
+
+def limits(runs):
+    """Earlier states, and first entries of another number."""
+    for seed in range(MACHINES // 8):
+        machine = Machine(90_000 + seed, base=[100, 2**32 - 2, 0, 7][seed % 4], minor=3 + seed % 3)
+        entries, last, base = machine.entries, len(machine.entries) - 1, machine.base
+        log, kept = machine.log(entries), machine.chance.randrange(len(machine.entries))
+        for upto in range(kept, last + 2):
+            primary, title = machine.primary(kept, min(upto, last) + 1), f"machine {seed}, kept {kept}, up to {upto}"
+            yield runs.is_file(title, primary, [log], machine.wanted(primary, min(upto, last)), to(base + upto))
+        yield runs.is_refused(f"machine {seed}, up to the one before", machine.primary(kept, kept), [log], BAD_LOG, to(base + kept - 1))
+        primary = machine.primary(kept, last + 1)
+        other = block(base + 30, base + 29, len(machine.states[kept]), minor=machine.minor, root=machine.root) + primary[SECTOR:]
+        yield runs.is_file(f"machine {seed}, from {kept}", other, [log], machine.wanted(other, last), starting(base + kept))
+        yield runs.is_refused(f"machine {seed}, from none", primary, [log], BAD_LOG, starting(base - 1))
+        clean = block(base, base, len(machine.states[0]), minor=machine.minor, root=machine.root) + machine.rest + machine.states[0]
+        for words in (to(base - 1), starting(base + 1)):
+            yield runs.is_file(f"machine {seed}, clean, {words}", clean, [log], clean, words)
+    machine = Machine(91_000, steps=3)
+    head, primary, log = "hive 1.5, numbers 101 and 100, not clean", machine.primary(0, 0), machine.log(machine.entries)
+    end = f"0x{len(log):x}"
+    yield expect("lines up to 101", runs.recover(primary, log, words=to(101))[:2], (
+        [head, f"log 1: entries 100 to 102, then no letters at {end}", "applied 100 to 101 of log 1", "recovered 101"], 0))
+    yield expect("lines from 99", runs.recover(primary, log, words=starting(99))[:2], (
+        [head, f"log 1: entries 100 to 102, then no letters at {end}, 99 is missing", BAD_LOG], 1))
+    yield from limits_of_pages(runs)
+    yield from limit_words(runs)
+
+
+def limits_of_pages(runs):
+    """A log of pages counts as one entry of its number."""
+    machine = Machine(92_000, steps=2)
+    primary = being_written(machine, 1, 8)
+    (log, count, sector), (later, _, _) = page_log(machine, 1, 8), page_log(machine, 1, 9)
+    wanted = recovered(sector, 9, len(machine.states[2])) + machine.rest + machine.states[2]
+    for title, words in (("up to 8", to(8)), ("from 8", starting(8))):
+        yield runs.is_file(f"pages {title}", primary, [later, log], wanted, words)
+    for title, words in (("up to 7", to(7)), ("from 7", starting(7)), ("from 10", starting(10))):
+        yield runs.is_refused(f"pages {title}", primary, [later, log], BAD_LOG, words)
+    yield expect("pages up to 9", runs.recover(primary, later, log, words=to(9))[0][-2:], [f"applied {count} pages of number 9", "recovered 9"])
+
+
+def limit_words(runs):
+    """Words that are wrong, and files that aren't there."""
+    runs.program.put("hive", b"")
+    for name in ("recover-from", "recover-to"):
+        for words in ([], ["1"], ["1", "hive"], ["1", "hive", "out"], ["hive", "log1", "out"], ["-1", "hive", "log1", "out"], ["+1", "hive", "log1", "out"],
+                      ["0x1", "hive", "log1", "out"], ["4294967296", "hive", "log1", "out"], ["", "hive", "log1", "out"], ["1", "hive", *["log1"] * 9, "out"]):
+            yield expect(f"{name} {words}", runs.program.run(name, *words), (b"wrong words\n", 2))
+        yield expect(f"{name} none", runs.program.run(name, "4294967295", "none", "log1", "out"), (b"cannot read file\n", 1))
+    for words in ([], ["hive"], ["hive", "out"], ["hive", *["log1"] * 9, "out"]):
+        yield expect(f"recover-damaged {words}", runs.program.run("recover-damaged", *words), (b"wrong words\n", 2))
+
+
+def damaged(runs):
+    """Results that are no whole hive."""
+    machine = Machine(93_000, steps=2)
+    primary, keep = machine.primary(0, 0), ("recover-damaged",)
+    state, place = bytearray(machine.states[1]), machine.root
+    state[place + 4:place + 6] = b"xx"
+    state = bytes(state)
+    why = f"{BAD_LOG[:-6]}BadRecord at 0x{HEAD + place:x} in the root"
+    bad = machine.log([entry(100, len(state), [(0, state)])])
+    end = f"0x{len(bad):x}"
+    steps = ["hive 1.5, numbers 101 and 100, not clean", f"log 1: entries 100 to 100, then no letters at {end}", "applied 100 to 100 of log 1"]
+    wanted = recovered(primary[:SECTOR], 100, len(state)) + machine.rest + state
+    yield expect("not whole", runs.recover(primary, bad, words=keep), ([*steps, why, "recovered 100, not whole"], 3, wanted))
+    yield expect("it has to be whole", runs.recover(primary, bad), ([*steps, why], 1, None))
+    # a hive that was closed, with the same fault
+    clean = block(9, 9, len(state), root=place) + machine.rest + state
+    lines = ["hive 1.5, numbers 9 and 9, clean", f"log 1: entries 100 to 100, then no letters at {end}", why, "clean 9, not whole"]
+    yield expect("clean, not whole", runs.recover(clean + b"more", bad, words=keep), (lines, 3, clean))
+    # pages that spoil it
+    older = page_log(machine, 1, 8)[0]
+    torn_root = bytearray(being_written(machine, 1, 8))
+    spoiled = with_sum(older[:36] + struct.pack("<I", 36) + older[40:SECTOR]) + older[SECTOR:]
+    lines, status, found = runs.recover(bytes(torn_root), spoiled, words=keep)
+    yield expect("pages, not whole", (lines[-1:], status, found is None), (["recovered 9, not whole"], 3, False))
+    # results that are whole
+    log, last = machine.log(machine.entries), len(machine.entries) - 1
+    lines, status, found = runs.recover(primary, log, words=keep)
+    yield expect("whole", (lines[-1:], status, found), ([f"recovered {100 + last}"], 0, machine.wanted(primary, last)))
+    whole = block(9, 9, len(machine.states[0]), root=place) + machine.rest + machine.states[0]
+    yield expect("clean", runs.recover(whole, log, words=keep)[1:], (0, whole))
+    # what else is refused stays so
+    for title, file, logs, refusal in (("no log fits", primary, [b""], BAD_LOG), ("a short file", primary[:4_095], [log], TRUNCATED),
+                                       ("lacking pages", primary[:HEAD], [machine.log([entry(100, 4 * BIN, [])])], BAD_LOG),
+                                       ("a log", log, [log], "E17 Unsupported")):
+        yield runs.is_refused(f"damaged, {title}", file, logs, refusal, keep)
+    yield expect("the file that is kept", runs.program.run("check", runs.program.put("kept", wanted))[1], 1)
+
+
+def checks(runs):
+    """`check` of hives with their logs."""
+    fits = "its logs don't fit: take the hive and all its logs from one moment; or restore a backup"
+    for seed in range(MACHINES // 8):
+        machine = Machine(94_000 + seed, minor=3 + seed % 3)
+        entries, last, kept = machine.entries, len(machine.entries) - 1, machine.chance.randrange(len(machine.entries))
+        cut = machine.chance.randint(1, last)
+        parts = [entries[:cut], entries[cut:]]
+        primary, logs = machine.primary(kept, last + 1), [machine.log(part) for part in parts]
+        first, second = 100 + kept, 100 + cut
+        told = [f"hive 1.{machine.minor}, numbers {first + 1} and {first}, not clean"]
+        told += [f"log {at}: entries {begin} to {begin + len(part) - 1}, then no letters at 0x{len(log):x}"
+                 for at, (begin, part, log) in enumerate(zip((100, second), parts, logs), 1)]
+        told += [f"applied {first} to {second - 1} of log 1"] if kept < cut else []
+        told += [f"applied {max(first, second)} to {100 + last} of log 2"]
+        yield is_report(f"machine {seed}", runs.check(primary, *logs), told, machine.wanted(primary, last), machine.counts[-1])
+    machine = Machine(95_000, steps=2)
+    log, primary, state = machine.log(machine.entries), machine.primary(0, 0), machine.states[0]
+    clean = block(9, 9, len(state), root=machine.root) + machine.rest + state
+    line = f"log 1: entries 100 to 101, then no letters at 0x{len(log):x}"
+    yield is_report("clean", runs.check(clean + b"more", log), ["hive 1.5, numbers 9 and 9, clean", line], clean, machine.counts[0])
+    pages, count, sector = page_log(machine, 1, 8)
+    wanted = recovered(sector, 9, len(machine.states[2])) + machine.rest + machine.states[2]
+    told = ["hive 1.5, numbers 9 and 8, not clean", f"log 1: {count} pages", f"applied {count} pages of number 8"]
+    yield is_report("pages", runs.check(being_written(machine, 1, 8), pages), told, wanted, machine.counts[2])
+    head = "hive 1.5, numbers 101 and 100, not clean"
+    yield expect("no log fits", runs.check(primary, machine.log(machine.entries[1:])), (
+        [head, f"log 1: entries 101 to 101, then no letters at 0x{SECTOR + len(machine.entries[1]):x}, 100 is missing", BAD_LOG, fits], 1))
+    yield expect("a log for a hive", runs.check(log, log), (["hive 1.5, numbers 100 and 100, clean", line, "E17 Unsupported", A_LOG], 1))
+    yield expect("a short file", runs.check(primary[:4_095], log), (
+        [head, line, "applied 100 to 101 of log 1", TRUNCATED, ADVICE["Truncated"]], 1))
+    bad = bytearray(machine.states[1])
+    bad[machine.root + 4:machine.root + 6] = b"xx"
+    spoiled = machine.log([entry(100, len(bad), [(0, bytes(bad))])])
+    wanted = recovered(primary[:SECTOR], 100, len(bad)) + machine.rest + bytes(bad)
+    yield expect("not whole", runs.check(primary, spoiled), (
+        [head, f"log 1: entries 100 to 100, then no letters at 0x{len(spoiled):x}", "applied 100 to 100 of log 1", *block_lines(wanted), cells_line(wanted),
+         f"{BAD_LOG[:-6]}BadRecord at 0x{HEAD + machine.root:x} in the root", DAMAGED], 1))
+    program = runs.program
+    yield expect("eight logs", program.run("check", "hive", *["log1"] * 8)[1], 1)
+    yield expect("nine logs", program.run("check", "hive", *["log1"] * 9), (b"wrong words\n", 2))
+    for title, words in (("a folder", [".", "log1"]), ("no log", ["hive", "none"]), ("no hive", ["none", "log1"])):
+        yield expect(title, program.run("check", *words), (b"cannot read file\n", 1))
+
+
+def is_report(title, found, told, file, counts):
+    """What is wrong with what a check with logs printed, which ends with the report of a whole hive."""
+    lines, status = found
+    weight = [line for line in lines if line.startswith("weight ") and line.endswith(" of 16777216")]
+    keys, values = counts
+    wanted = [*told, *block_lines(file), cells_line(file), f"{keys} keys, {values} values", *weight, "whole"]
+    return expect(title, (lines, status, len(weight)), (wanted, 0, 1))
 
 
 def reports(runs):
@@ -408,7 +579,8 @@ def main():
         sys.exit(__doc__)
     with program_at(sys.argv[1], "recovered-") as program:
         runs = Runs(program)
-        finish([tell(part.__name__, list(part(runs))) for part in (machines, lost, pages, reports, refusals, outputs, kills, memory)])
+        finish([tell(part.__name__, list(part(runs))) for part in (machines, lost, pages, limits, damaged, checks, reports, refusals, outputs, kills,
+                                                                       memory)])
 
 
 if __name__ == "__main__":

@@ -523,6 +523,36 @@ def as_lines(program, title, source, wanted):
     return [expect(f"{title}, TSV", rows_of_tsv(program, source), texts), expect(f"{title}, JSON", rows_of_json(program, source), texts)]
 
 
+def tagged_hive(chances):
+    """A hive whose keys have flags, classes and descriptors at random, and rows of these by paths."""
+    rows, classes = {}, [b"", b"a", "Class".encode("utf-16-le"), '"\\\n\u00e4\u4e2d'.encode("utf-16-le"), b"\0\xd8", bytes(range(31))]
+
+    def key(path, depth):
+        flags = chances.choice([0, 2, 4, 8, 0x10, 0x4f80 & ~0x40])
+        its = Key(path[-1] if path else "ROOT", flags=flags, class_bytes=chances.choice(classes),
+                  descriptor=chances.choice([b"", b"one", bytes(range(200))]))
+        rows[":".join(["0", "\\".join(path)])] = (flags, its.class_bytes, its.descriptor)
+        its.keys = [key((*path, name), depth - 1) for name in "abc"] if depth else []
+        return its
+    return made_hive(key((), 3))[0], rows
+
+
+def class_of(found):
+    """The bytes of a class, from a line of JSON."""
+    return found["class"].encode("utf-16-le", "surrogatepass") if "class" in found else bytes.fromhex(found.get("class_hex", ""))
+
+
+def tags(program, seed):
+    """Flags, classes and descriptors in lines of JSON, beside those that the hive was made with. Lines of values have none."""
+    file, rows = tagged_hive(random.Random(seed))
+    found = [json.loads(line) for line in program.run("export-json", program.put("tagged.dat", file))[0].splitlines()]
+    as_told = {f"{each['hive']}:{each['key']}": (each["flags"], class_of(each), bytes.fromhex(each.get("descriptor", ""))) for each in found}
+    odd = [each for each in found if len(class_of(each)) % 2 == 0 and "class_hex" in each or "" in (each.get("class"), each.get("descriptor"))]
+    values = [json.loads(line) for line in program.run("export-json", hive_of_others(program, "reged"))[0].splitlines()]
+    return [expect("flags, classes, descriptors", as_told, rows), expect("fields without bytes, or of whole units", odd, []),
+            expect("fields of values", {field for each in values if "name" in each for field in each} & {"flags", "class", "descriptor"}, set())]
+
+
 def wild(program, title, file):
     """A hive with names that no call may have: each is printed, and `apply` refuses the file."""
     wanted = hive_dump(program, file)
@@ -553,6 +583,7 @@ def exports(program, seed):
     results += there_and_back(program, "reged", file, 1, [hive_dump(program, file)])
     results += wild(program, "hivex", hive_of_others(program, "hivex"))
     results += wild(program, "a wild hive", program.put("wild.dat", wild_hive(chances)))
+    results += tags(program, seed)
     store(program, "plain", 1, [*BEFORE, "create 0:A\\BB", "set 0:A\\B w 4 01000000"])
     results += parts(program, "plain")
     results += [expect(f"refused: {words}", program.run(kind, "plain", *words), wanted)

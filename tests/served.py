@@ -8,9 +8,11 @@
 - unread, long_lines, lines: a client that doesn't read, a line without an end, and each line that is answered otherwise than in a run.
 - by_words: lines that a shell sends one by one.
 - killed_program, killed_broker, stops: what is there after each end.
-- full_disk, failing_syncs: what is told after a fault.
+- full_disk, failing_syncs: what is told after a fault; stats: how full a store is.
 - kept_under_way, kept_is_durable: what is told of a commit before that is answered.
 - generations: a history that becomes full.
+- backups, refusals, full_backups, killed_backups: copies that are made while the store is served.
+- followed, watched, followed_rest and others: clients that are told of changes as these become durable.
 - doors: who gets in; examples: those of the pages.
 - frames_by_hand: the program without the broker.
 
@@ -26,17 +28,20 @@ from concurrent.futures import ProcessPoolExecutor
 TOP = os.path.dirname(os.path.dirname(os.path.abspath(__file__)))
 sys.dont_write_bytecode = True
 sys.path.insert(0, os.path.join(TOP, "tests"))
+import served_backups  # noqa: E402
 import served_clients  # noqa: E402
 import served_ends  # noqa: E402
+import served_following  # noqa: E402
 import served_frames  # noqa: E402
 import served_generations  # noqa: E402
 from parts import results_of  # noqa: E402
 from scratch import finish, memory, noting_library, program_at, skip, tell  # noqa: E402
 from served_store import Bench, broker_in, short_folder  # noqa: E402
 
-PARTS = {part.__name__: part for part in [*served_clients.PARTS, *served_ends.PARTS, *served_generations.PARTS, *served_frames.PARTS]}
+MODULES = [served_clients, served_ends, served_generations, served_backups, served_following, served_frames]
+PARTS = {part.__name__: part for module in MODULES for part in module.PARTS}
 # these come first
-LONGEST = ["generations", "killed_program", "killed_clients", "once", "stops", "kept_under_way", "unread"]
+LONGEST = ["generations", "followed_rest", "held_open", "backups", "killed_program", "killed_clients", "once", "stops", "kept_under_way", "unread"]
 PART_SECONDS, FULL_SECONDS = 240, 1_500
 # as many at a time: parts wait more than they work
 WORKERS = min(4, 1 + (os.cpu_count() or 1))

@@ -266,6 +266,29 @@ def kept_is_durable(bench):
         yield expect("the stop", it.end()[0], 0)
 
 
+def stats(bench):
+    """How full a store is: its numbers as changes are accepted and flushed, its clients, and the room that `check` finds used."""
+    def room_of(reply):
+        return int(reply.split(" ")[6])
+
+    with bench.served() as it, it.lines() as client:
+        first = client.ask("stats")
+        room = room_of(first)
+        yield expect("at first", first, f"stats number 0 durable 0 room {room} clients 1 waiting 0")
+        accepted = client.ask("create 0:A", "stats")[1]
+        yield expect("accepted", accepted, f"stats number 1 durable 0 room {room_of(accepted)} clients 1 waiting 0")
+        yield expect("takes room", room_of(accepted) > room, True)
+        with it.lines() as other:
+            flushed = other.ask("flush", "stats")[1]
+            yield expect("flushed", flushed, f"stats number 1 durable 1 room {room_of(accepted)} clients 2 waiting 0")
+        yield expect("one has gone", until(lambda: " clients 1 " in client.ask("stats")), True)
+        with it.lines() as other:
+            yield expect("with a word", other.ask("stats now"), "line 1: not understood")
+        it.kill_program()
+        found = subprocess.run([bench.program.path, "check", it.store], capture_output=True, text=True, timeout=STOP_SECONDS).stdout
+        yield expect("as check finds it", f"journal {room_of(accepted)} of 67108864 bytes\n" in found, True)
+
+
 def doors(bench):
     """Modes, folders that others may write, and sockets of others: who doesn't get in, and that the store is free after a refusal."""
     with bench.served("-m", "0600") as it:
@@ -328,4 +351,4 @@ def examples(bench):
         yield expect(page, (ran.stdout.splitlines(), ran.returncode), ([line for line in shown if not line.startswith("$ ")], 0))
 
 
-PARTS = [killed_program, killed_broker, stops, full_disk, failing_syncs, kept_under_way, kept_is_durable, doors, examples]
+PARTS = [killed_program, killed_broker, stops, stats, full_disk, failing_syncs, kept_under_way, kept_is_durable, doors, examples]

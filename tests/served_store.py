@@ -86,13 +86,23 @@ class Lines:
         self.close()
 
 
+def replies_of(program, store, *lines):
+    """What a run of the program on a store answers to lines."""
+    ran = subprocess.run([program.path, "wait", "60", "run", store, "/dev/stdin"], capture_output=True, timeout=SECONDS,
+                         input="".join(f"{line}\n" for line in lines).encode())
+    return ran.stdout.decode().splitlines()
+
+
 class Served:
     """A store that is served, in a folder of its own."""
 
-    def __init__(self, program: Program, broker, folder, hives=1, options=(), before=(), store=None, make=True, wait=60, **given):
+    def __init__(self, program: Program, broker, folder, hives=1, options=(), before=(), store=None, make=True, wait=60, backups=None,
+                 **given):
         self.program, self.broker, self.options, self.before, self.seconds = program, broker, options, before, wait
         self.home = program.at(folder)
         self.store, self.path = store or f"{self.home}/store", f"{self.home}/socket"
+        # the folder of backups, if there is to be one
+        self.backups = backups
         self.given, self.process, self.server = given, None, None
         os.mkdir(self.home, 0o755)
         if make:
@@ -101,6 +111,7 @@ class Served:
     def start(self, **given):
         """Starts the broker, and waits until it is ready; answers what it said."""
         words = [self.broker, *self.options, self.path, *self.before, self.program.path, "wait", str(self.seconds), "serve", self.store]
+        words += [self.backups] if self.backups else []
         self.process = subprocess.Popen(words, stdin=subprocess.DEVNULL, stdout=subprocess.PIPE, stderr=subprocess.PIPE, **self.given,
                                         **given)
         said = self.process.stdout.readline().decode()
@@ -133,9 +144,7 @@ class Served:
 
     def replies(self, *lines):
         """What a run by the program itself answers, once the store isn't served any more."""
-        ran = subprocess.run([self.program.path, "wait", "60", "run", self.store, "/dev/stdin"], capture_output=True, timeout=SECONDS,
-                             input="".join(f"{line}\n" for line in lines).encode())
-        return ran.stdout.decode().splitlines()
+        return replies_of(self.program, self.store, *lines)
 
     def memory(self, process, what="VmRSS"):
         """The memory of a process, in kB."""

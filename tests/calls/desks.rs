@@ -1,5 +1,6 @@
-//! Desks: their parts, sessions that echo, ends and rests.
+//! Desks: their parts, sessions that echo, ends, rests and news.
 mod echoes;
 mod ends;
+mod news;
 mod parts;
 mod pipes;

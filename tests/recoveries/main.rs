@@ -5,12 +5,13 @@
 //! | `hash LOW HIGH HEX..` | the hash of each run of bytes, `-` if there are none, from a seed of two halves |
 //! | `entries FILE` | the entries of a log, and why they end |
 //! | `recover HIVE OUT LOG..` | how each log ends, and the recovered hive in OUT |
+//! | `recover-within FROM TO HIVE OUT LOG..` | the same within limits, each a number, or `-` if there is none |
 //!
 //! The status is 0 if all came as it should, 1 if a hive was refused, and 2 if a word or a file isn't understood.
 #![tactic(auto)]
 
 use base_block::{BaseBlock, SequenceNumber};
-use hive_recovery::{Log, carry_out, missing_number, plan, read_log};
+use hive_recovery::{Log, RecoveryLimits, carry_out, missing_number, plan, read_log};
 use marvin32::marvin32;
 use refusals::Refusal;
 use std::alloc::{AllocError, AllocFailed, Global};
@@ -79,7 +80,16 @@ fn run<R: Print + Eprint + Files + Env + AllocGlobal>(rt: &R) -> Result<(), Faul
     match words.as_slice() {
         [_, "hash", low, high, runs @ ..] => hash(rt, (number(low)?, number(high)?), runs),
         [_, "entries", file] => tell_entries(rt, file),
-        [_, "recover", hive, out, logs @ ..] => recover(rt, hive, out, logs),
+        [_, "recover", hive, out, logs @ ..] => {
+            recover(rt, RecoveryLimits::NONE, hive, out, logs)
+        }
+        [_, "recover-within", from, to, hive, out, logs @ ..] => {
+            let limits = RecoveryLimits {
+                from: limit(from)?,
+                to: limit(to)?,
+            };
+            recover(rt, limits, hive, out, logs)
+        }
         _ => Err(Fault::NotUnderstood),
     }
 }
@@ -89,6 +99,14 @@ fn number(word: &str) -> Result<u32, Fault> {
         Ok(value) => Ok(value),
         Err(_) => Err(Fault::NotUnderstood),
     }
+}
+
+// the number of an entry, or none
+fn limit(word: &str) -> Result<Option<SequenceNumber>, Fault> {
+    if word == "-" {
+        return Ok(None);
+    }
+    Ok(Some(SequenceNumber(number(word)?)))
 }
 
 // prints the hash of each run of bytes, low half first
@@ -119,9 +137,10 @@ fn tell_entries<R: Print + Files + AllocGlobal>(rt: &R, file: &str) -> Result<()
     Ok(())
 }
 
-// recovers a hive by logs, and tells how each ended
+// recovers a hive by logs, within limits, and tells how each ended
 fn recover<R: Print + Files + AllocGlobal>(
     rt: &R,
+    limits: RecoveryLimits,
     hive: &str,
     out: &str,
     paths: &[&str],
@@ -136,26 +155,27 @@ fn recover<R: Print + Files + AllocGlobal>(
     for bytes in &contents {
         logs.push(read_log(alloc, bytes)?)?;
     }
-    let planned = plan(alloc, &file, &logs);
-    let from = match BaseBlock::read_first(&file) {
+    let planned = plan(alloc, &file, &logs, limits);
+    let own = match BaseBlock::read_first(&file) {
         Some(block) => block.secondary,
         None => SequenceNumber(0),
     };
+    let reach = limits.reach(own);
     let next = match &planned {
         Ok(chosen) => match chosen.entries.last() {
             Some(last) => last.number().next(),
-            None => from,
+            None => reach.from,
         },
-        Err(_) => from,
+        Err(_) => reach.from,
     };
     for (index, log) in logs.iter().enumerate() {
-        tell_log(rt, index + 1, log, missing_number(log, from, next))?;
+        tell_log(rt, index + 1, log, missing_number(log, reach, next))?;
     }
     let chosen = planned?;
     let bytes = carry_out(alloc, &file, &chosen)?;
     fs::write(rt, out, &bytes)?;
     match chosen.entries.last() {
-        None => println!(rt; "clean {}", from.0)?,
+        None => println!(rt; "clean {}", own.0)?,
         Some(last) => println!(rt; "recovered {}", last.number().0)?,
     }
     Ok(())

@@ -73,11 +73,11 @@ fn told(alloc: Global, frame: &Frame) -> Result<String, AllocError> {
     }
 }
 
-// what the broker says, and what it has to be told then
-type Turn = (&'static [u8], &'static [&'static str]);
+/// What the broker says, and what it has to be told then.
+pub type Turn = (&'static [u8], &'static [&'static str]);
 
-// a client's talk with the program: answers what it was told instead, at the first difference
-fn talk<R: Wait>(
+/// A client's talk with the program: answers what it was told instead, at the first difference.
+pub fn talk<R: Wait>(
     rt: &R,
     alloc: Global,
     input: &Pipe,
