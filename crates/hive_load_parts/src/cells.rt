@@ -25,8 +25,10 @@ pub(crate) fn is_marked(seen: &Flags, at: u32) -> bool
 }
 
 /// The data of the allocated cell at an offset, which is marked, and had no mark before.
+///
+/// Refused with `BadOffset` if no allocated cell begins there, with `Shared` if it was marked.
 #[tactic(auto, using(crate::proofs::Spread::spreads_on))]
-pub(crate) fn look_once<'a>(
+pub fn look_once<'a>(
     image: &'a Image,
     seen: &mut Flags,
     looks: &mut Looks,
@@ -51,9 +53,11 @@ pub(crate) fn look_once<'a>(
     Ok(bytes)
 }
 
-/// The first bytes of the cell at an offset, which has at least as many.
+/// The first bytes of the cell at an offset, which is marked, and had no mark before.
+///
+/// Refused as [`look_once`] refuses, and with `BadRecord` if the cell has fewer bytes.
 #[tactic(auto, using(crate::proofs::Spread::spreads_on))]
-pub(crate) fn cell_prefix<'a>(
+pub fn cell_prefix<'a>(
     image: &'a Image,
     seen: &mut Flags,
     looks: &mut Looks,

@@ -24,9 +24,11 @@ const NIL: u32 = 0xffff_ffff;
 
 const _: () = prove!(NIL == 0xffff_ffff);
 
-// the class of a length
+/// The class of a key: the first bytes, of which `len` are asked, of the cell at an offset; none is read if `len` is 0.
+///
+/// Refused as the definition of a class refuses, with `Shared` at a cell that was met before, and with `NoMemory`.
 #[tactic(auto, using(crate::proofs::Spread::spreads_on))]
-fn class(
+pub fn class(
     alloc: Global,
     image: &Image,
     seen: &mut Flags,
@@ -67,8 +69,10 @@ fn security(alloc: Global, image: &Image, looks: &mut Looks, at: u32) -> Result<
     Ok(Descriptor::new(alloc, security.descriptor)?)
 }
 
-// the descriptor that a key names, which is kept if it wasn't before
-fn descriptor(
+/// The descriptor in the security cell at an offset, or an empty one at the offset of none. It is kept, and not read again.
+///
+/// Refused as the definition of a descriptor refuses, and with `NoMemory`. No cell is marked: a descriptor is shared.
+pub fn descriptor(
     alloc: Global,
     image: &Image,
     looks: &mut Looks,

@@ -17,6 +17,10 @@ mod lists;
 mod names;
 mod values;
 
+pub use crate::cells::{cell_prefix, look_once};
 pub use crate::descriptors::Descriptors;
 pub use crate::flags::Flags;
-pub use crate::keys::key;
+pub use crate::keys::{class, descriptor, key};
+pub use crate::lists::{leaf, subkey_list};
+pub use crate::names::name_of;
+pub use crate::values::value;

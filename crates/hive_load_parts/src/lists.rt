@@ -25,9 +25,12 @@ fn elements(alloc: Global, list: &SubkeyList) -> Result<Vec<u32>, AllocError>
     Ok(found)
 }
 
-// the subkeys in the list at an offset, which is no list of lists
+/// The offsets in the list of subkeys at an offset, which is no list of lists.
+///
+/// Refused as the definition of a leaf refuses, with `BadList` at a list of lists, with `Shared` at a cell that was met
+/// before, and with `NoMemory`.
 #[tactic(auto, using(crate::proofs::Spread::spreads_on))]
-fn leaf(
+pub fn leaf(
     alloc: Global,
     image: &Image,
     seen: &mut Flags,
@@ -106,9 +109,11 @@ fn listed(
     leaves(alloc, image, seen, looks, &found)
 }
 
-/// The subkeys of a key that says how many they are and where their list is.
+/// The offsets of the subkeys of a key that says how many they are and where their list is, in the order of the list.
+///
+/// Refused as the definition of a list refuses, with `Shared` at a cell that was met before, and with `NoMemory`.
 #[tactic(auto, using(crate::proofs::Spread::spreads_on))]
-pub(crate) fn subkey_list(
+pub fn subkey_list(
     alloc: Global,
     image: &Image,
     seen: &mut Flags,

@@ -6,8 +6,8 @@ use hive_records::StoredName;
 use reg_names::Name;
 use std::alloc::{AllocError, Global};
 
-/// The name that lies in a record.
-pub(crate) fn name_of(alloc: Global, stored: &StoredName) -> Result<Name, AllocError>
+/// The name that lies in a record. Memory alone is refused.
+pub fn name_of(alloc: Global, stored: &StoredName) -> Result<Name, AllocError>
     ensures { IfOk result (λ name. name ≡ units_of stored.now) }
 {
     let mut units = Vec::new(alloc);

@@ -75,9 +75,11 @@ fn is_big(split: bool, size: u32) -> bool
     split && SEGMENT_BYTES < size as usize
 }
 
-/// The value whose record is at an offset.
+/// The value whose record is at an offset. `split` says whether data past 16,344 bytes are in segments.
+///
+/// Refused as the definition of a value refuses, with `Shared` at a cell that was met before, and with `NoMemory`.
 #[tactic(auto, using(crate::proofs::Spread::spreads_on))]
-pub(crate) fn value(
+pub fn value(
     alloc: Global,
     image: &Image,
     seen: &mut Flags,
