@@ -4,6 +4,7 @@ pub mod Handles
 pub mod Openings
 pub mod Buffers
 pub mod Questions
+pub mod KeyFields
 pub mod Edits
 pub mod Files
 pub mod Texts

@@ -18,6 +18,7 @@ mod edits;
 mod files;
 mod fixed_keys;
 mod handle;
+mod key_fields;
 pub mod laws;
 mod loose;
 mod names;

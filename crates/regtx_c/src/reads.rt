@@ -42,8 +42,8 @@ fn node<'a>(tree: &'a Tree, names: &[Name]) -> Option<&'a Node>
     }
 }
 
-// the node of the key at a path
-fn key_node<'a>(alloc: Global, tree: &'a Tree, path: &[u16]) -> Result<&'a Node, Refusal>
+/// The node of the key at a path.
+pub(crate) fn key_node<'a>(alloc: Global, tree: &'a Tree, path: &[u16]) -> Result<&'a Node, Refusal>
     ensures named { IfOk result (λ _. names_of path.now ≡ Ok (path_names path.now)) }
     ensures key { IfOk result (λ node. row tree.now (folded_path (path_names path.now)) ≡ row_at node.now []) }
     ensures names { IfOk result (λ node.
