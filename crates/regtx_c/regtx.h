@@ -151,6 +151,23 @@ void regtx_hive_close(regtx_hive *hive);
  * Refused: REGTX_NOT_OPEN, REGTX_BAD_NAME, REGTX_TOO_DEEP, REGTX_NOT_FOUND. */
 uint32_t regtx_hive_info(regtx_hive *hive, const uint16_t *path, size_t path_len, regtx_info *info);
 
+/* Tells the flags of the key at a path, as a hive file has them, such as 0x0004 of a root, 0x0008 of a key that is not to
+ * be deleted, and 0x0010 of a link. One is left out: 0x0020 only says how the file stores the key's name.
+ * Refused: as regtx_hive_info. */
+uint32_t regtx_hive_flags(regtx_hive *hive, const uint16_t *path, size_t path_len, uint16_t *flags);
+
+/* Tells the class of the key at a path: the bytes that a hive file has, which are as a rule those of UTF-16 units, the
+ * lower byte first, without a zero at the end. A key without a class has none of them.
+ * Refused: as regtx_hive_info, REGTX_NO_ROOM. */
+uint32_t regtx_hive_class(regtx_hive *hive, const uint16_t *path, size_t path_len,
+                          uint8_t *class_bytes, size_t room, size_t *len);
+
+/* Tells the security descriptor of the key at a path: the bytes that a hive file has, which are those of a self-relative
+ * SECURITY_DESCRIPTOR. A key without a descriptor has none of them.
+ * Refused: as regtx_hive_class. */
+uint32_t regtx_hive_descriptor(regtx_hive *hive, const uint16_t *path, size_t path_len,
+                               uint8_t *descriptor, size_t room, size_t *len);
+
 /* Tells the name of the subkey at an index, in the order of names. Indexes begin at 0.
  * Refused: as regtx_hive_info, REGTX_NO_ROOM. */
 uint32_t regtx_hive_key_at(regtx_hive *hive, const uint16_t *path, size_t path_len, size_t index,
@@ -278,6 +295,26 @@ static inline uint32_t regtx_hive_open_or_null(const uint8_t *file, size_t len, 
     return regtx_hive_open(regtx_hive_bytes(file, len), len, hive);
 }
 
+static inline uint32_t regtx_hive_flags_or_null(regtx_hive *hive, const uint16_t *path, size_t path_len,
+                                                uint16_t *flags)
+{
+    return regtx_hive_flags(hive, regtx_hive_units(path, path_len), path_len, flags);
+}
+
+static inline uint32_t regtx_hive_class_or_null(regtx_hive *hive, const uint16_t *path, size_t path_len,
+                                                uint8_t *class_bytes, size_t room, size_t *len)
+{
+    return regtx_hive_class(hive, regtx_hive_units(path, path_len), path_len,
+                            regtx_hive_byte_room(class_bytes, room), room, len);
+}
+
+static inline uint32_t regtx_hive_descriptor_or_null(regtx_hive *hive, const uint16_t *path, size_t path_len,
+                                                     uint8_t *descriptor, size_t room, size_t *len)
+{
+    return regtx_hive_descriptor(hive, regtx_hive_units(path, path_len), path_len,
+                                 regtx_hive_byte_room(descriptor, room), room, len);
+}
+
 static inline uint32_t regtx_hive_info_or_null(regtx_hive *hive, const uint16_t *path, size_t path_len,
                                                regtx_info *info)
 {
@@ -383,6 +420,9 @@ static inline uint32_t regtx_code_name_or_null(uint32_t code, uint8_t *name, siz
 
 #define regtx_hive_open regtx_hive_open_or_null
 #define regtx_hive_info regtx_hive_info_or_null
+#define regtx_hive_flags regtx_hive_flags_or_null
+#define regtx_hive_class regtx_hive_class_or_null
+#define regtx_hive_descriptor regtx_hive_descriptor_or_null
 #define regtx_hive_key_at regtx_hive_key_at_or_null
 #define regtx_hive_value_name_at regtx_hive_value_name_at_or_null
 #define regtx_hive_value_at regtx_hive_value_at_or_null
