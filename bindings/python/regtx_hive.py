@@ -87,6 +87,8 @@ _LONG: Dict[str, Tuple[Any, Any]] = {
 _SHORT: Dict[str, Tuple[Any, Any]] = {
     "version": (_CODE, _AT),
     "hive_info": (_CODE, [*_AT, *_READ, *_AT]),
+    "hive_flags": (_CODE, [*_AT, *_READ, *_AT]),
+    **dict.fromkeys(["hive_class", "hive_descriptor"], (_CODE, [*_AT, *_READ, *_ROOM])),
     "hive_value": (_CODE, [*_AT, *_READ, *_READ, *_AT, *_ROOM]),
     "text": (_CODE, [*_U32, *_ROOM]),
     "code_name": (_CODE, [*_U32, *_ROOM]),
@@ -475,16 +477,30 @@ class Hive:
 
     def _value(self, path: str, name: str) -> Value:
         """The value of a name, of the key at a path."""
-        read, kind, length = [*_units(path), *_units(name)], ctypes.c_uint32(), ctypes.c_size_t()
+        kind = ctypes.c_uint32()
+        data = self._bytes(self._library.hive_value, [path, name], ctypes.byref(kind))
+        return Value(_KINDS.get(kind.value, kind.value), data)
+
+    def _flags(self, path: str) -> int:
+        """The flags of the key at a path."""
+        flags = ctypes.c_uint16()
+        with self._lock:
+            code = self._library.hive_flags(self._at, *_units(path), ctypes.byref(flags))
+        self._library.check(code, path)
+        return flags.value
+
+    def _bytes(self, call: Callable[..., int], names: Sequence[str], *words: object) -> bytes:
+        """The bytes that a call tells of a path, and perhaps a name."""
+        read, length = [word for name in names for word in _units(name)], ctypes.c_size_t()
         with self._lock:
             code = _NO_ROOM
             while code == _NO_ROOM:
                 room = len(self._data)
-                code = self._library.hive_value(self._at, *read, ctypes.byref(kind), self._data, room, ctypes.byref(length))
+                code = call(self._at, *read, *words, self._data, room, ctypes.byref(length))
                 self._data = ctypes.create_string_buffer(length.value) if code == _NO_ROOM else self._data
             data = ctypes.string_at(self._data, length.value)
-        self._library.check(code, path, name)
-        return Value(_KINDS.get(kind.value, kind.value), data)
+        self._library.check(code, *names)
+        return data
 
     def _edit(self, call: Callable[..., int], names: Sequence[str], *words: object) -> None:
         """Makes a call for a path, and perhaps a name."""
@@ -691,6 +707,26 @@ class Key:
     def time(self) -> int:
         """When it was last written: 100 nanoseconds since 1601."""
         return int(self.hive._info(self.path).time)
+
+    @property
+    def flags(self) -> int:
+        """Its flags as the hive's file has them, such as 8 of a key that is not to be deleted; but for 0x20, of how its name is stored."""
+        return self.hive._flags(self.path)
+
+    @property
+    def class_data(self) -> bytes:
+        """The bytes of its class, none if it has no class."""
+        return self.hive._bytes(self.hive._library.hive_class, [self.path])
+
+    @property
+    def class_name(self) -> str:
+        """Its class as a text, "" if it has none. One that ends in half a unit is a UnicodeDecodeError: `class_data` has its bytes."""
+        return self.class_data.decode("utf-16-le", "surrogatepass")
+
+    @property
+    def descriptor(self) -> bytes:
+        """The bytes of its security descriptor, which is self-relative; none if it has no descriptor."""
+        return self.hive._bytes(self.hive._library.hive_descriptor, [self.path])
 
     @property
     def subkeys(self) -> Subkeys:

@@ -58,6 +58,11 @@ extern "C" {
     fn regtx_hive_new(hive: *mut Handle) -> u32;
     fn regtx_hive_close(hive: *mut Handle);
     fn regtx_hive_info(hive: *mut Handle, path: *const u16, path_len: usize, info: *mut Info) -> u32;
+    fn regtx_hive_flags(hive: *mut Handle, path: *const u16, path_len: usize, flags: *mut u16) -> u32;
+    fn regtx_hive_class(hive: *mut Handle, path: *const u16, path_len: usize,
+                        class: *mut u8, room: usize, len: *mut usize) -> u32;
+    fn regtx_hive_descriptor(hive: *mut Handle, path: *const u16, path_len: usize,
+                             descriptor: *mut u8, room: usize, len: *mut usize) -> u32;
     fn regtx_hive_value(hive: *mut Handle, path: *const u16, path_len: usize,
                         name: *const u16, name_len: usize,
                         kind: *mut u32, data: *mut u8, room: usize, len: *mut usize) -> u32;
@@ -126,6 +131,36 @@ impl OpenHive {
         // SAFETY: as at the head of this module.
         let code = unsafe { regtx_hive_info(&mut self.0, path.as_ptr(), path.len(), &mut info) };
         Error::of(code).map(|()| info)
+    }
+
+    pub fn flags(&mut self, path: &[u16]) -> Result<u16, Error> {
+        let mut flags = 0;
+        // SAFETY: as at the head of this module.
+        let code = unsafe { regtx_hive_flags(&mut self.0, path.as_ptr(), path.len(), &mut flags) };
+        Error::of(code).map(|()| flags)
+    }
+
+    /// The bytes of a class go to the front of `class`, and their length to `len`, also with `NO_ROOM`.
+    pub fn class(&mut self, path: &[u16], class: &mut [u8], len: &mut usize) -> Result<(), Error> {
+        let (to, room) = (class.as_mut_ptr(), class.len());
+        // SAFETY: as at the head of this module.
+        Error::of(unsafe {
+            regtx_hive_class(&mut self.0, path.as_ptr(), path.len(), to, room, len)
+        })
+    }
+
+    /// The same of a security descriptor.
+    pub fn descriptor(
+        &mut self,
+        path: &[u16],
+        descriptor: &mut [u8],
+        len: &mut usize,
+    ) -> Result<(), Error> {
+        let (to, room) = (descriptor.as_mut_ptr(), descriptor.len());
+        // SAFETY: as at the head of this module.
+        Error::of(unsafe {
+            regtx_hive_descriptor(&mut self.0, path.as_ptr(), path.len(), to, room, len)
+        })
     }
 
     /// The type of a value; its data go to the front of `data`, and their length to `len`, also with

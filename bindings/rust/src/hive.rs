@@ -70,6 +70,40 @@ impl Hive {
         }
     }
 
+    /// The flags of a key as the hive's file has them, such as 8 of one that is not to be deleted; but
+    /// for 0x20, which says how its name is stored.
+    pub fn flags(&self, path: impl Units) -> Result<u16, Error> {
+        self.open.borrow_mut().flags(&path.units())
+    }
+
+    /// The bytes of a key's class: as a rule UTF-16 units, the lower byte first. None if it has no class.
+    pub fn class(&self, path: impl Units) -> Result<Vec<u8>, Error> {
+        self.bytes(&path.units(), OpenHive::class)
+    }
+
+    /// The bytes of a key's security descriptor, which is self-relative. None if it has no descriptor.
+    pub fn descriptor(&self, path: impl Units) -> Result<Vec<u8>, Error> {
+        self.bytes(&path.units(), OpenHive::descriptor)
+    }
+
+    fn bytes(
+        &self,
+        path: &[u16],
+        ask: impl Fn(&mut OpenHive, &[u16], &mut [u8], &mut usize) -> Result<(), Error>,
+    ) -> Result<Vec<u8>, Error> {
+        let (mut bytes, mut len) = (vec![0; FIRST_ROOM], 0);
+        loop {
+            match ask(&mut self.open.borrow_mut(), path, &mut bytes, &mut len) {
+                Err(Error::NO_ROOM) => bytes.resize(len, 0),
+                told => {
+                    told?;
+                    bytes.truncate(len);
+                    return Ok(bytes);
+                }
+            }
+        }
+    }
+
     /// What the subkeys of a key have, in the order of names.
     pub fn subkeys(&self, path: impl Units) -> Result<Vec<Key>, Error> {
         let mut cursor = self.cursor(path)?;

@@ -52,6 +52,21 @@ fn keys_and_values_are_found_in_any_spelling() {
 }
 
 #[test]
+fn flags_classes_and_descriptors_are_those_of_a_new_hive() {
+    let mut hive = vendor();
+    let mut shortest = vec![0; 20];
+    (shortest[0], shortest[3]) = (1, 0x80);
+    assert_eq!(hive.flags(""), Ok(0x0c));
+    assert_eq!(hive.flags("software"), Ok(0));
+    assert_eq!(hive.class("b"), Ok(vec![]));
+    assert_eq!(hive.descriptor(r"SOFTWAREendor"), Ok(shortest));
+    hive.delete_key("b").unwrap();
+    assert_eq!(hive.flags("b"), Err(Error::NOT_FOUND));
+    assert_eq!(hive.class("b"), Err(Error::NOT_FOUND));
+    assert_eq!(hive.descriptor(r"\\"), Err(Error::BAD_NAME));
+}
+
+#[test]
 fn subkeys_and_values_are_in_the_order_of_names() {
     let mut hive = vendor();
     for name in ["z", "Y", "x", "_", "1"] {
