@@ -446,6 +446,35 @@ static void check_keys(void)
     regtx_hive_close(&hive);
 }
 
+/* what a new hive's keys have beside names, times and values; a made key has the descriptor of the one above */
+static void check_fields(void)
+{
+    static const uint8_t shortest[20] = {1, 0, 0, 0x80};
+    static const uint8_t untouched[32] = {0};
+    regtx_hive hive = {0};
+    uint8_t bytes[32] = {0};
+    uint16_t flags = 9;
+    size_t len = 9;
+    EXPECT(regtx_hive_flags(&hive, PATH(""), &flags) == REGTX_NOT_OPEN && flags == 9);
+    EXPECT(regtx_hive_class(&hive, PATH(""), bytes, 32, &len) == REGTX_NOT_OPEN && len == 9);
+    EXPECT(regtx_hive_descriptor(&hive, PATH(""), bytes, 32, &len) == REGTX_NOT_OPEN && len == 9);
+    EXPECT(regtx_hive_new(&hive) == REGTX_OK && regtx_hive_create_key(&hive, PATH("A"), 1, &len) == REGTX_OK);
+    struct text before = text_of(&hive);
+    REFUSED(REGTX_NOT_FOUND, regtx_hive_flags(&hive, PATH("None"), &flags));
+    REFUSED(REGTX_BAD_NAME, regtx_hive_class(&hive, PATH("A\\"), bytes, 32, &len));
+    REFUSED(REGTX_NOT_FOUND, regtx_hive_descriptor(&hive, PATH("A\\B"), bytes, 32, &len));
+    drop(&before);
+    EXPECT(flags == 9 && len == 1);
+    EXPECT(regtx_hive_flags(&hive, PATH(""), &flags) == REGTX_OK && flags == 0x0c);
+    EXPECT(regtx_hive_flags(&hive, PATH("a"), &flags) == REGTX_OK && flags == 0);
+    EXPECT(regtx_hive_class(&hive, NULL, 0, NULL, 0, &len) == REGTX_OK && len == 0);
+    EXPECT(regtx_hive_descriptor(&hive, PATH("a"), bytes, 19, &len) == REGTX_NO_ROOM && len == 20);
+    EXPECT(memcmp(bytes, untouched, 32) == 0);
+    EXPECT(regtx_hive_descriptor(&hive, PATH("a"), bytes, 20, &len) == REGTX_OK && len == 20);
+    EXPECT(memcmp(bytes, shortest, 20) == 0);
+    regtx_hive_close(&hive);
+}
+
 static void check_trees(void)
 {
     static const char *const keys[] = {"A\\B\\C\\D", "A\\B\\E", "A\\F", "AA\\B", "G\\A\\B"};
@@ -959,6 +988,12 @@ static uint32_t call_of(int kind, regtx_hive *hive)
         return regtx_hive_delete_tree(hive, PATH("A long name of a key"), 7);
     case 8:
         return walked(hive);
+    case 9:
+        return regtx_hive_flags(hive, PATH("A long name of a key"), &(uint16_t){0});
+    case 10:
+        return regtx_hive_class(hive, PATH("A long name of a key"), data, sizeof data, &len);
+    case 11:
+        return regtx_hive_descriptor(hive, PATH("A long name of a key"), data, sizeof data, &len);
     default:
         return regtx_hive_new(hive);
     }
@@ -971,7 +1006,7 @@ static void check_failing(const char *name)
     long refused = 0;
     given = file_bytes(name, &given_len);
     EXPECT(regtx_hive_new(&hive) == REGTX_OK);
-    for (int kind = 0; kind < 10; kind++)
+    for (int kind = 0; kind < 13; kind++)
         for (long at = 0;; at++) {
             struct text before = text_of(&hive);
             left_until_refusal = at;
@@ -1205,6 +1240,7 @@ int main(int count, char **words)
     } else if (count == 2 && strcmp(words[1], "checks") == 0) {
         check_closed();
         check_keys();
+        check_fields();
         check_trees();
         check_depth();
         check_values();

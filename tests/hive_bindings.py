@@ -5,6 +5,7 @@
 
 - made: hives whose trees are known, with names of all kinds of units: a walk, and each mapping.
 - others: hives that other programs wrote or read: the same as the Python module of hivex, hivexml and reglookup read.
+- fields: flags, classes and security descriptors of a hive that the test made, also as reglookup reads them.
 - values: makers of each type beside the bytes that the registry's rules give; what data of other lengths stand for.
 - edits: what is set, created and deleted, as hivexregedit, hivexml, reglookup and regfinfo read it; times.
 - refusals: the error of each, with its number, name and text; what isn't there is a KeyError.
@@ -187,6 +188,47 @@ def parted(order):
     for above, name in order:
         found.setdefault(above, []).append(name)
     return list(found.values())
+
+
+# ---- flags, classes and descriptors
+
+# a self-relative descriptor: the owner S-1-5-32-544, the group S-1-5-18, and a list by which S-1-1-0 may do all
+DESCRIPTOR = bytes.fromhex("010004801400000024000000000000003000000001020000000000052000000020020000010100000000000512000000"
+                           "02001c000100000000001400ff000f00010100000000000100000000")
+
+
+RIGHTS = "S-1-1-0:ALLOW:QRY_VAL SET_VAL CREATE_KEY ENUM_KEYS NOTIFY CREATE_LNK DELETE R_CONT W_DAC W_OWNER:"
+
+
+def classed_tree():
+    """A tree with keys of flags, classes and descriptors."""
+    keys = [Key("Class", 5, flags=0x10, class_bytes="Shape".encode("utf-16-le"), descriptor=DESCRIPTOR), Key("Half", flags=8, class_bytes=b"abc"),
+            Key("\u20ac", flags=0xff9e, class_bytes=b"\xe4\x00\x34\xd8", descriptor=bytes(range(250)) * 20), Key("Plain")]
+    return Key("root", 3, flags=0x2c, keys=keys, descriptor=DESCRIPTOR)
+
+
+def fields(program):
+    """What keys have, as the test put it into a file."""
+    tree = classed_tree()
+    path = program.at(program.put("fields.hive", hive(tree)[0]))
+    with Hive.open(path) as opened:
+        for title, key in [("", tree), *((each.name, each) for each in tree.keys)]:
+            found = opened[title]
+            yield expect(f"{title!r}", (found.flags, found.class_data, found.descriptor), (key.flags & ~0x20, key.class_bytes, key.descriptor))
+        yield expect("classes", [opened[each].class_name for each in ("Class", "\u20ac", "Plain", "")], ["Shape", "\u00e4\ud834", "", ""])
+        yield expect("half a unit", raised(lambda: opened["Half"].class_name), UnicodeDecodeError)
+        made, gone = opened["Class"].create_key("Below"), opened["Plain"]
+        yield expect("a key that is made", (made.flags, made.class_data, made.descriptor), (0, b"", DESCRIPTOR))
+        gone.delete()
+        missing = (2, "REGTX_NOT_FOUND", "E2 NotFound", False, True)
+        yield expect("a key that is gone", [told(lambda call=call: getattr(gone, call)) for call in ("flags", "class_name", "descriptor")], [missing] * 3)
+        again = Hive.open(opened.to_bytes())
+        yield expect("written and read again", [(each.flags, each.class_data, each.descriptor) for each in again.root.subkeys.values()],
+                     [(each.flags, each.class_data, each.descriptor) for each in opened.root.subkeys.values()])
+    if are_there("fields", "reglookup"):
+        ran = subprocess.run(["reglookup", "-s", "-H", path], stdout=subprocess.PIPE, stderr=subprocess.DEVNULL, check=True)
+        line = next(line for line in ran.stdout.split(b"\n") if line.startswith(b"/Class,")).decode()
+        yield expect("by reglookup", line.split(",")[4:], ["S-1-5-32-544", "S-1-5-18", "", RIGHTS, "Shape"])
 
 
 # ---- values
@@ -614,7 +656,7 @@ def main():
     regtx_hive.load(folder)
 
     trees = {title: (hive(tree)[0], list(of_model(tree))) for title, tree in made_trees().items()}
-    parts = {"made": made, "others": others, "values": values, "edits": edits, "refusals": refusals, "damage": damage, "lives": lives,
+    parts = {"made": made, "others": others, "fields": fields, "values": values, "edits": edits, "refusals": refusals, "damage": damage, "lives": lives,
              "files": files, "loading": lambda program: loading(program, folder), "pages": pages,
              "rust": lambda program: rust(program, folder, trees, list(spoiled_files())[:CRATE_SPOILED])}
     with tempfile.TemporaryDirectory(prefix="hive_bindings-") as home:
