@@ -1,0 +1,4 @@
+pub mod Unread
+pub mod Searches
+pub mod Ways
+pub mod Listed

@@ -1,0 +1,20 @@
+//! One key or value of a hive's image, found by its path without a look at the rest of the image.
+//!
+//! [`find_key`] goes down a path, [`read_value`] reads one value of the key that was found. What they don't read may be
+//! damaged: the records of other keys, and the data of other values. What has to be read and isn't readable is told,
+//! with its offset; that something isn't there is told only if all that could be it was read. `specs/Lookups` says it.
+#![tactic(auto)]
+
+mod errors;
+mod list_kind;
+mod lists;
+mod paths;
+mod records;
+mod search;
+mod values;
+
+pub use crate::errors::{LookupError, PathError};
+pub use crate::list_kind::ListKind;
+pub use crate::paths::find_key;
+pub use crate::search::find_listed;
+pub use crate::values::read_value;
