@@ -12,7 +12,7 @@ use Rattle.hive_records.proofs.RecordReaders.{rule_on, looked_as, looked_out}
 use Rattle.hive_lookup.specs.declared.list_kind.ListKind.{ListKind}
 use Rattle.hive_lookup.specs.declared.list_kind.ListKind.TheVariants.{Subkeys}
 use Rattle.hive_lookup.specs.Records.{record_at, value_offsets_at, list_in_node}
-use Rattle.hive_lookup.specs.Lookups.{IsUnread, KeyLists, ListIsUnread}
+use Rattle.hive_lookup.specs.Lookups.{IsUnreadFor, KeyLists, ListIsUnread}
 
 module _ {A : Type 0} where
   chosen : (b : Bool) (m n : Reader A) → b ≡ true → choice b m n ≡ m
@@ -59,8 +59,8 @@ module _ (count at : ℕ) (cells : Cells) where
 
 -- the list whose count and offset the key's node says
 pub list_of_node : {V : Type 0} (kind : ListKind) (cells : Cells) (key : ℕ) (bytes : List ℕ) → record_at Subkeys cells key ≡ Ok bytes → (m : Reader (List ℕ)) → m ≡ list_in_node kind bytes → (items : V → List ℕ) (r : Result V Refusal) →
-    MatchResult r (λ listed. (m cells).says ≡ Ok (items listed)) (λ why. (why ≡ refusal.NoMemory) ⊎ IsUnread (m cells) why) →
+    MatchResult r (λ listed. (m cells).says ≡ Ok (items listed)) (λ why. (why ≡ refusal.NoMemory) ⊎ IsUnreadFor (m cells) why) →
     MatchResult r (λ listed. KeyLists kind cells key (items listed)) (λ why. (why ≡ refusal.NoMemory) ⊎ ListIsUnread kind cells key why)
 list_of_node kind cells key bytes node m same items (Ok listed) h = (bytes, node, ap (λ (z : Reader (List ℕ)). (z cells).says) (sym same) ∙ h)
 list_of_node kind cells key bytes node m same items (Err why) (inl e) = inl e
-list_of_node kind cells key bytes node m same items (Err why) (inr u) = inr (inr (bytes, node, subst (λ (z : Reader (List ℕ)). IsUnread (z cells) why) same u))
+list_of_node kind cells key bytes node m same items (Err why) (inr u) = inr (inr (bytes, node, subst (λ (z : Reader (List ℕ)). IsUnreadFor (z cells) why) same u))

@@ -15,8 +15,8 @@ use Rattle.hive_lookup.specs.declared.list_kind.ListKind.TheVariants.{Subkeys, V
 use Rattle.hive_lookup.specs.Records.{record_at, AreRecords, offsets_named, list_in_node}
 
 -- something isn't read from cells for this reason: its definition refuses it so, or it would look at a cell twice
-abbrev pub IsUnread : {A : Type 0} → Read A → Refusal → Type 0
-IsUnread read why = (read.says ≡ Err why) ⊎ ((why ≡ hive_damage cause.Shared) × (Once read.own → ⊥))
+abbrev pub IsUnreadFor : {A : Type 0} → Read A → Refusal → Type 0
+IsUnreadFor read why = (read.says ≡ Err why) ⊎ ((why ≡ hive_damage cause.Shared) × (Once read.own → ⊥))
 
 -- the key at an offset is read, and its list has these offsets
 abbrev pub KeyLists : ListKind → Cells → ℕ → List ℕ → Type 0
@@ -24,7 +24,7 @@ KeyLists kind cells key listed = (bytes : List ℕ) × (record_at Subkeys cells 
 
 -- its node isn't read, or its list
 abbrev pub ListIsUnread : ListKind → Cells → ℕ → Refusal → Type 0
-ListIsUnread kind cells key why = (record_at Subkeys cells key ≡ Err why) ⊎ ((bytes : List ℕ) × (record_at Subkeys cells key ≡ Ok bytes) × IsUnread (list_in_node kind bytes cells) why)
+ListIsUnread kind cells key why = (record_at Subkeys cells key ≡ Err why) ⊎ ((bytes : List ℕ) × (record_at Subkeys cells key ≡ Ok bytes) × IsUnreadFor (list_in_node kind bytes cells) why)
 
 -- each record that the key lists is read, and just one has the name: that at this offset
 abbrev pub ListsOne : ListKind → Cells → ℕ → List ℕ → ℕ → Type 0
@@ -48,7 +48,7 @@ SearchBreaks kind cells key name at why =
 
 -- the same of a value, or its data aren't read
 abbrev pub ValueBreaks : Bool → Cells → ℕ → List ℕ → ℕ → Refusal → Type 0
-ValueBreaks split cells key name at why = SearchBreaks Values cells key name at why ⊎ (ListsOne Values cells key name at × IsUnread (value_at split at cells) why)
+ValueBreaks split cells key name at why = SearchBreaks Values cells key name at why ⊎ (ListsOne Values cells key name at × IsUnreadFor (value_at split at cells) why)
 
 -- the error tells what is so: nothing has the name, or this stands at that offset. Of memory nothing is said
 abbrev pub ErrorTells : Type 0 → (ℕ → Refusal → Type 0) → LookupError → Type 0

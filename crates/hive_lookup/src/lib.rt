@@ -6,15 +6,19 @@
 #![tactic(auto)]
 
 mod errors;
+mod keys;
 mod list_kind;
 mod lists;
+mod names;
 mod paths;
 mod records;
 mod search;
 mod values;
 
 pub use crate::errors::{LookupError, PathError};
+pub use crate::keys::read_key;
 pub use crate::list_kind::ListKind;
+pub use crate::names::subkey_names;
 pub use crate::paths::find_key;
 pub use crate::search::find_listed;
 pub use crate::values::read_value;

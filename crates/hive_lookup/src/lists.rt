@@ -6,7 +6,7 @@ ghost use Rattle.hive_records.specs.Lists.{subkeys_at};
 ghost use Rattle.hive_records.specs.Numbers.{words_from};
 ghost use Rattle.hive_load_parts.specs.CellReads.{marks_of};
 ghost use Rattle.hive_lookup.specs.Records.{value_offsets_at};
-ghost use Rattle.hive_lookup.specs.Lookups.{IsUnread, KeyLists, ListIsUnread};
+ghost use Rattle.hive_lookup.specs.Lookups.{IsUnreadFor, KeyLists, ListIsUnread};
 
 use crate::list_kind::ListKind;
 use crate::records::key_node;
@@ -38,7 +38,7 @@ pub(crate) fn no_marks(alloc: Global, image: &Image) -> Result<Flags, AllocError
 fn subkey_offsets(alloc: Global, image: &Image, count: u32, at: u32) -> Result<Vec<u32>, Refusal>
     ensures { (cells : Cells) → Shows image.now.bytes cells → MatchResult result
         (λ listed. (subkeys_at count at cells).says ≡ Ok listed.items)
-        (λ why. (why ≡ NoMemory) ⊎ IsUnread (subkeys_at count at cells) why) }
+        (λ why. (why ≡ NoMemory) ⊎ IsUnreadFor (subkeys_at count at cells) why) }
 {
     let mut seen = no_marks(alloc, image)?;
     let mut looks = Looks::new();
@@ -64,7 +64,7 @@ fn offsets_in(alloc: Global, list: &[u8], count: u32) -> Result<Vec<u32>, AllocE
 fn value_offsets(alloc: Global, image: &Image, count: u32, at: u32) -> Result<Vec<u32>, Refusal>
     ensures { (cells : Cells) → Shows image.now.bytes cells → MatchResult result
         (λ listed. (value_offsets_at count at cells).says ≡ Ok listed.items)
-        (λ why. (why ≡ NoMemory) ⊎ IsUnread (value_offsets_at count at cells) why) }
+        (λ why. (why ≡ NoMemory) ⊎ IsUnreadFor (value_offsets_at count at cells) why) }
 {
     if count == 0 {
         return Ok(Vec::new(alloc));

@@ -52,18 +52,17 @@ fn stored_name<'a>(kind: ListKind, cell: &'a [u8]) -> Result<StoredName<'a>, Ref
     }
 }
 
-/// Whether the record at an offset has a name, in any case of its letters.
+/// The name in the record at an offset, as it is spelled.
 ///
 /// Refused with `BadOffset` if no allocated cell begins there, as the record's own rules refuse it, and with `NoMemory`.
-pub(crate) fn has_name(
+pub(crate) fn record_name(
     alloc: Global,
     image: &Image,
     kind: ListKind,
     at: u32,
-    name: &Name,
-) -> Result<bool, Refusal>
+) -> Result<Name, Refusal>
     ensures { (cells : Cells) → Shows image.now.bytes cells → MatchResult result
-        (λ same. IsOk (record_at kind cells at) × (same ≡ is_named kind cells (folded name.now) at))
+        (λ name. (bytes : List ℕ) × (record_at kind cells at ≡ Ok bytes) × (name ≡ name_in_record kind bytes))
         (λ why. (why ≡ NoMemory) ⊎ (record_at kind cells at ≡ Err why)) }
 {
     let mut looks = Looks::new();
@@ -75,6 +74,23 @@ pub(crate) fn has_name(
         Ok(stored) => stored,
         Err(refusal) => return Err(refusal),
     };
-    let its = name_of(alloc, &stored)?;
-    Ok(its == *name)
+    Ok(name_of(alloc, &stored)?)
+}
+
+/// Whether the record at an offset has a name, in any case of its letters. Refused as [`record_name`] is.
+pub(crate) fn has_name(
+    alloc: Global,
+    image: &Image,
+    kind: ListKind,
+    at: u32,
+    name: &Name,
+) -> Result<bool, Refusal>
+    ensures { (cells : Cells) → Shows image.now.bytes cells → MatchResult result
+        (λ same. IsOk (record_at kind cells at) × (same ≡ is_named kind cells (folded name.now) at))
+        (λ why. (why ≡ NoMemory) ⊎ (record_at kind cells at ≡ Err why)) }
+{
+    match record_name(alloc, image, kind, at) {
+        Ok(its) => Ok(its == *name),
+        Err(refusal) => Err(refusal),
+    }
 }

@@ -6,7 +6,7 @@ ghost use Rattle.hive_cells.specs.Bins.{Cells, Shows};
 ghost use Rattle.hive_records.specs.Images.{splits};
 ghost use Rattle.hive_records.specs.Values.{value_at};
 ghost use Rattle.hive_lookup.specs.declared.list_kind.ListKind.TheVariants.{Values};
-ghost use Rattle.hive_lookup.specs.Lookups.{ErrorTells, IsUnread, ListsNone, ListsOne, ValueBreaks};
+ghost use Rattle.hive_lookup.specs.Lookups.{ErrorTells, IsUnreadFor, ListsNone, ListsOne, ValueBreaks};
 
 use crate::errors::{LookupError, refused_at};
 use crate::list_kind::ListKind;
@@ -24,7 +24,7 @@ use std::alloc::Global;
 fn value_of(alloc: Global, image: &Image, minor: u32, at: u32) -> Result<Value, Refusal>
     ensures { (cells : Cells) → Shows image.now.bytes cells → MatchResult result
         (λ its. (value_at (splits minor) at cells).says ≡ Ok its)
-        (λ why. (why ≡ NoMemory) ⊎ IsUnread (value_at (splits minor) at cells) why) }
+        (λ why. (why ≡ NoMemory) ⊎ IsUnreadFor (value_at (splits minor) at cells) why) }
 {
     let mut seen = no_marks(alloc, image)?;
     let mut looks = Looks::new();

@@ -13,9 +13,11 @@ returns-in-Err-find_listed c = λ cells shows.
     let i = c.loop-depth.depth in
     let name : List ℕ = c.index-names-depth.result in
     let lt : i < length names = subst (λ (l : List (List ℕ)). i < length l) c.names-names.ensures.names c.loop-depth-test.true in
-    let is : name ≡ get_or names i name = c.index-names-depth.is ∙ ap (λ (l : List (List ℕ)). get_or l i name) c.names-names.ensures.names in
-    (c.loop-depth.at, (c.loop-depth.invariant cells shows).0,
-      subst (λ (o : Option (List ℕ)). ErrorTells (LacksNext cells c.loop-depth.at o) (NextBreaks cells c.loop-depth.at o) c.in-Err-find_listed.error) (sym (next_name names i name lt is)) (c.in-Err-find_listed.ensures cells shows))
+    let is : name ≡ get_or names i name = c.index-names-depth.is ∙ ap (λ (l : List (List ℕ)). get_or l i name) c.names-names.ensures.names in (
+      c.loop-depth.at,
+      (c.loop-depth.invariant cells shows).0,
+      subst (λ (o : Option (List ℕ)). ErrorTells (LacksNext cells c.loop-depth.at o) (NextBreaks cells c.loop-depth.at o) c.in-Err-find_listed.error) (sym (next_name names i name lt is)) (c.in-Err-find_listed.ensures cells shows),
+    )
 
 pub loop-depth-preserved : goal.loop-depth-preserved
 loop-depth-preserved c = λ cells shows.
@@ -24,15 +26,17 @@ loop-depth-preserved c = λ cells shows.
     let name : List ℕ = c.index-names-depth.result in
     let lt : i < length names = subst (λ (l : List (List ℕ)). i < length l) c.names-names.ensures.names c.loop-depth-test.true in
     let is : name ≡ get_or names i name = c.index-names-depth.is ∙ ap (λ (l : List (List ℕ)). get_or l i name) c.names-names.ensures.names in
-    let one = c.in-Ok.ensures cells shows in
-    (subst (λ (l : List (List ℕ)). PathLeads cells c.args.root l c.in-Ok.subkey) (sym (one_name_more names i name lt is))
-        (path_more cells (take i (folded_path names)) (folded name) c.args.root c.loop-depth.at c.in-Ok.subkey (c.loop-depth.invariant cells shows).0 one),
-      one_is_read Subkeys cells c.loop-depth.at (folded name) c.in-Ok.subkey one)
+    let one = c.in-Ok.ensures cells shows in (
+      subst (λ (l : List (List ℕ)). PathLeads cells c.args.root l c.in-Ok.subkey) (sym (one_name_more names i name lt is))
+          (path_more cells (take i (folded_path names)) (folded name) c.args.root c.loop-depth.at c.in-Ok.subkey (c.loop-depth.invariant cells shows).0 one),
+      one_is_read Subkeys cells c.loop-depth.at (folded name) c.in-Ok.subkey one,
+    )
 
 pub returns : goal.returns
 returns c = λ cells shows.
     let names : List (List ℕ) = c.args.path.now in
-    let many : length names ≤ c.loop-depth.depth = subst (λ (l : List (List ℕ)). length l ≤ c.loop-depth.depth) c.names-names.ensures.names c.loop-depth-test.false in
-    (subst (λ (l : List (List ℕ)). PathLeads cells c.args.root l c.loop-depth.at)
-        (take_all c.loop-depth.depth (folded_path names) (subst (λ n. n ≤ c.loop-depth.depth) (sym (path_length names)) many)) (c.loop-depth.invariant cells shows).0,
-      (c.loop-depth.invariant cells shows).1)
+    let many : length names ≤ c.loop-depth.depth = subst (λ (l : List (List ℕ)). length l ≤ c.loop-depth.depth) c.names-names.ensures.names c.loop-depth-test.false in (
+      subst (λ (l : List (List ℕ)). PathLeads cells c.args.root l c.loop-depth.at)
+          (take_all c.loop-depth.depth (folded_path names) (subst (λ n. n ≤ c.loop-depth.depth) (sym (path_length names)) many)) (c.loop-depth.invariant cells shows).0,
+      (c.loop-depth.invariant cells shows).1,
+    )

@@ -15,9 +15,12 @@ returns-in-Err c = λ cells shows.
 pub returns-then-is_some : goal.returns-then-is_some
 returns-then-is_some c = λ cells shows.
     tells ⊥ (ListBreaks c.args.kind cells c.args.key (folded c.args.name.now) c.args.listed.now) c.args.key c.from.result c.refused_at-then-is_some.result c.refused_at-then-is_some.ensures
-    (inr (inr (refl, c.from.ensures,
+    (inr (inr (
+      refl,
+      c.from.ensures,
       named_twice c.args.kind cells c.args.listed.now c.loop-at.at-index c.loop-at-test.true (folded c.args.name.now) c.loop-at.found (sym c.is_some.ensures ∙ c.if-is_some.true)
-          (c.loop-at.invariant cells shows).1 (sym (c.in-Ok.ensures cells shows).1 ∙ c.if-same.true))))
+          (c.loop-at.invariant cells shows).1 (sym (c.in-Ok.ensures cells shows).1 ∙ c.if-same.true),
+    )))
 
 pub loop-at-preserved : goal.loop-at-preserved
 loop-at-preserved c = λ cells shows.
