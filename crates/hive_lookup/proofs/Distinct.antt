@@ -1,5 +1,5 @@
 -- Names in order, all of them different.
-use Rattle.std.proofs.Common.{◌≡◌, ◌<◌, ◌+◌, ◌-◌, ℕ, zero, suc, List, length, get_or, refl, ◌∙◌, ap, sym, subst, arith, Bool, true, false}
+use Rattle.std.proofs.Common.{◌≡◌, ◌<◌, ◌+◌, ◌-◌, ℕ, zero, suc, List, length, get_or, refl, ◌∙◌, ap, sym, subst, arith, true, false}
 use Rattle.std.specs.List.{IsDistinct}
 use Rattle.std.specs.List.Sorted.{IsPermutation, IsSorted}
 use Rattle.std.specs.declared.cmp.Ordering.{Ordering}

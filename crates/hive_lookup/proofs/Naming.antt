@@ -1,9 +1,8 @@
 -- The names of keys, one after another.
-use Rattle.std.proofs.Common.{◌≡◌, ◌<◌, ◌+◌, ℕ, List, [], ◌∷◌, ◌++◌, length, take, get_or, map, ◌∙◌, ap, sym, Ok, Err, Result, IsOk, is_ok}
+use Rattle.std.proofs.Common.{◌≡◌, ◌<◌, ◌+◌, ℕ, List, [], ◌∷◌, ◌++◌, length, take, get_or, ◌∙◌, ap, sym, Ok, Result, IsOk, is_ok}
 use Rattle.std.proofs.lemmas.List.{take_more, map-append}
 use Rattle.refusals.specs.declared.refusal.Refusal.{Refusal}
 use Rattle.hive_cells.specs.Bins.{Cells}
-use Rattle.hive_tree_model.proofs.Basics.{never}
 use Rattle.hive_lookup.specs.declared.list_kind.ListKind.TheVariants.{Subkeys}
 use Rattle.hive_lookup.specs.Records.{record_at, name_in_record}
 use Rattle.hive_lookup.specs.Listings.{name_if_read, names_listed}
