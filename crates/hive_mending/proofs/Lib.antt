@@ -1,0 +1,4 @@
+pub mod Steps
+pub mod Mended
+pub mod Laws
+pub mod Opened

@@ -1,0 +1,3 @@
+pub mod Breaks
+pub mod Mending
+pub mod Restarts
