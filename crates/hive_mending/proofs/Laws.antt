@@ -8,7 +8,7 @@ use Rattle.hive_cells.specs.Tiles.{IsBin, bin_size, IsCell, cell_size, is_alloca
 use Rattle.hive_cells.proofs.Region.{words_same, kind_same, range_same}
 use Rattle.hive_mending.specs.declared.gap.Gap.{Gap}
 use Rattle.hive_mending.specs.Breaks.{GoesOnAt}
-use Rattle.hive_mending.specs.Mending.{SameWithin, IsMadePage, IsMadeCell, bad_bin, bad_cell, written_bytes, IsWritten, FollowFrom, IsGap, WasCell, IsMended, Mending, nothing, bin_stays, page_made, cell_stays, cell_made, IsMendedTo}
+use Rattle.hive_mending.specs.Mending.{SameWithin, IsMadePage, IsMadeCell, bad_bin, bad_cell, written_bytes, IsAtGapStart, FollowFrom, IsGap, WasCell, IsMended, Mending, nothing, bin_stays, page_made, cell_stays, cell_made, IsMendedTo}
 use Rattle.hive_mending.proofs.Steps.{cell_again, size_again}
 use Rattle.hive_mending.proofs.Mended.{bin_again}
 
@@ -225,18 +225,18 @@ module _ (old new : List ℕ) (len : length new ≡ length old) where
       rw gaps_is (more.0, omega (arith, more.1, later))
 
   -- which bytes are written
-  written_before : (gaps : List Gap) (gap : Gap) (i : ℕ) → IsWritten gaps i → IsWritten (gaps ++ gap ∷ []) i
+  written_before : (gaps : List Gap) (gap : Gap) (i : ℕ) → IsAtGapStart gaps i → IsAtGapStart (gaps ++ gap ∷ []) i
   written_before [] gap i none = absurd none
   written_before (g ∷ gaps) gap i w = elim w [
     | inl here ↦ inl here
     | inr there ↦ inr (written_before gaps gap i there)
   ]
 
-  written_last : (gaps : List Gap) (gap : Gap) (i : ℕ) → gap.at ≤ i → i < gap.at + written_bytes gap.kind → IsWritten (gaps ++ gap ∷ []) i
+  written_last : (gaps : List Gap) (gap : Gap) (i : ℕ) → gap.at ≤ i → i < gap.at + written_bytes gap.kind → IsAtGapStart (gaps ++ gap ∷ []) i
   written_last [] gap i low high = inl (low, high)
   written_last (g ∷ gaps) gap i low high = inr (written_last gaps gap i low high)
 
-  kept_bytes : (gaps : List Gap) (end at i : ℕ) → Mending old new gaps end at → i < at → IsWritten gaps i ⊎ (slice_index new i ≡ slice_index old i)
+  kept_bytes : (gaps : List Gap) (end at i : ℕ) → Mending old new gaps end at → i < at → IsAtGapStart gaps i ⊎ (slice_index new i ≡ slice_index old i)
   kept_bytes gaps end at i nothing before = absurd (omega (arith, before))
   kept_bytes gaps end at i (bin_stays _ from _ _ so_far bin kept end_is at_is) before = elim (cases_lt i from) [
     | inl low ↦ kept_bytes gaps from from i so_far low
@@ -270,7 +270,7 @@ module _ (old new : List ℕ) (len : length new ≡ length old) where
   -- data without gaps are as they were
   no_gaps : (gaps : List Gap) (end : ℕ) → Mending old new gaps end (length old) → gaps ≡ [] → new ≡ old
   no_gaps gaps end all none = ext_get_or 0 new old len (λ i within. elim (kept_bytes gaps end (length old) i all (omega (arith, within, len))) [
-    | inl w ↦ absurd (subst (λ (gs : List Gap). IsWritten gs i) none w)
+    | inl w ↦ absurd (subst (λ (gs : List Gap). IsAtGapStart gs i) none w)
     | inr same ↦ same
   ])
 

@@ -182,21 +182,6 @@ module _ (bytes : List ℕ) (end first place at : ℕ) (counts next : List ℕ) 
             (at_longest bytes end (first + 8 * place) (slice_index next (place + 1)) (slice_index counts ((behind - first) / 8) + 1) (slice_index counts ((slice_index next (place + 1) - first) / 8)) (omega (arith, first_eight)) (omega (arith, before)) (omega arith) m.0 theirs less goes_on_after);
       }
 
--- a place more is kept
-pub restarts_on : (bytes : List ℕ) (end first place count next : ℕ) (counts nexts : List ℕ) → first + 8 * place < end → AreRestarts bytes end first counts nexts (place + 1) → IsRestart bytes end first place count next → AreRestarts bytes end first (slice_set counts place count) (slice_set nexts place next) place
-restarts_on bytes end first place count next counts nexts before later its =
-    let counts_len : length counts ≡ (end - first) / 8 + 1 = later.counts_len in
-    let next_len : length nexts ≡ (end - first) / 8 + 1 = later.next_len in
-    record {
-      counts_len = length-set counts place count ∙ counts_len;
-      next_len = length-set nexts place next ∙ next_len;
-      each = λ k low within. elim (cases_eq k place) [
-        | inl same ↦ subst (λ (k : ℕ). IsRestart bytes end first k (slice_index (slice_set counts place count) k) (slice_index (slice_set nexts place next) k)) (sym same)
-            (rw (get_or-set_same counts place count 0 (omega (arith, counts_len, before)), get_or-set_same nexts place next 0 (omega (arith, next_len, before))) its)
-        | inr apart ↦ rw (get_or-set_other counts place k count 0 apart, get_or-set_other nexts place k next 0 apart) (later.each k (omega (arith, low, apart)) within)
-      ];
-    }
-
 -- of the bin's end no cell goes on
 end_place : (bytes : List ℕ) (end first place : ℕ) → first + 8 * place ≡ end → end % 8 ≡ 0 → IsRestart bytes end first place 0 end
 end_place bytes end first place is eights =
@@ -225,6 +210,21 @@ restarts_start bytes end first order first_eight end_eight =
       each = λ place low within.
           rw (get_or-replicate {A = ℕ} ((end - first) / 8 + 1) place 0 0 (omega (arith, order, within)), get_or-replicate {A = ℕ} ((end - first) / 8 + 1) place end 0 (omega (arith, order, within)))
           (end_place bytes end first place (omega (arith, order, first_eight, end_eight, low, within)) end_eight);
+    }
+
+-- a place more is kept
+pub restarts_on : (bytes : List ℕ) (end first place count next : ℕ) (counts nexts : List ℕ) → first + 8 * place < end → AreRestarts bytes end first counts nexts (place + 1) → IsRestart bytes end first place count next → AreRestarts bytes end first (slice_set counts place count) (slice_set nexts place next) place
+restarts_on bytes end first place count next counts nexts before later its =
+    let counts_len : length counts ≡ (end - first) / 8 + 1 = later.counts_len in
+    let next_len : length nexts ≡ (end - first) / 8 + 1 = later.next_len in
+    record {
+      counts_len = length-set counts place count ∙ counts_len;
+      next_len = length-set nexts place next ∙ next_len;
+      each = λ k low within. elim (cases_eq k place) [
+        | inl same ↦ subst (λ (k : ℕ). IsRestart bytes end first k (slice_index (slice_set counts place count) k) (slice_index (slice_set nexts place next) k)) (sym same)
+            (rw (get_or-set_same counts place count 0 (omega (arith, counts_len, before)), get_or-set_same nexts place next 0 (omega (arith, next_len, before))) its)
+        | inr apart ↦ rw (get_or-set_other counts place k count 0 apart, get_or-set_other nexts place k next 0 apart) (later.each k (omega (arith, low, apart)) within)
+      ];
     }
 
 -- in the end each place is

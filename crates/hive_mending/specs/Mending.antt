@@ -64,9 +64,9 @@ written_bytes kind.BadBin = 36
 written_bytes kind.BadCell = 4
 
 -- a byte is one of those that are written in a gap of the list
-abbrev pub IsWritten : List Gap → ℕ → Type 0
-IsWritten [] i = ⊥
-IsWritten (gap ∷ gaps) i = ((gap.at ≤ i) × (i < gap.at + written_bytes gap.kind)) ⊎ IsWritten gaps i
+abbrev pub IsAtGapStart : List Gap → ℕ → Type 0
+IsAtGapStart [] i = ⊥
+IsAtGapStart (gap ∷ gaps) i = ((gap.at ≤ i) × (i < gap.at + written_bytes gap.kind)) ⊎ IsAtGapStart gaps i
 
 -- a gap says the truth: no bin stood at this page, and it is a bin now; or no cell stood at this offset of a bin, and
 -- the gap is one free cell now
@@ -93,7 +93,7 @@ pub record WasCell (old new : List ℕ) (at : ℕ) : Type 0 where
 pub record IsMended (old new : List ℕ) (gaps : List Gap) : Type 0 where
   pub tiles : Tiles new
   pub len : length new ≡ length old
-  pub bytes : (i : ℕ) → i < length old → IsWritten gaps i ⊎ (slice_index new i ≡ slice_index old i)
+  pub bytes : (i : ℕ) → i < length old → IsAtGapStart gaps i ⊎ (slice_index new i ≡ slice_index old i)
   pub order : FollowFrom 0 gaps
   pub gaps_are : AllByRecursion (IsGap old new) gaps
   pub whole : Tiles old → (gaps ≡ []) × (new ≡ old)

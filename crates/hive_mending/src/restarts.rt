@@ -9,6 +9,7 @@ use std::alloc::{AllocError, Global};
 
 /// For each 8 bytes of a bin from an offset on: where cells go on from there. Goes over the places once, the last one
 /// first.
+#[tactic(auto, using(crate::proofs::Steps::restarts_done))]
 pub(crate) fn restarts(
     alloc: Global,
     bytes: &[u8],
@@ -30,6 +31,7 @@ pub(crate) fn restarts(
 }
 
 // counts the cells of the chain from each place, and finds where cells go on from there
+#[tactic(auto, using(crate::proofs::Steps::restarts_on))]
 fn fill(bytes: &[u8], counts: &mut [u32], next: &mut [u32], first: usize, end: usize)
     requires order { first ≤ end }
     requires within { end ≤ length bytes.now }
