@@ -1,3 +1,4 @@
 pub mod Lists
 pub mod Ended
 pub mod Kept
+pub mod FileLookups

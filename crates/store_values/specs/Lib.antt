@@ -3,3 +3,5 @@ pub mod Listed
 pub mod Changes
 pub mod Outcomes
 pub mod KeptCommits
+pub mod FileAnswers
+pub mod FileLookups

@@ -32,7 +32,8 @@ pub(crate) fn write_subkeys<W: Write>(
     Ok(())
 }
 
-fn write_subkey<W: Write>(writer: &mut W, name: &Name) -> io::Result<()>
+/// Writes the line of a subkey.
+pub(crate) fn write_subkey<W: Write>(writer: &mut W, name: &Name) -> io::Result<()>
     ensures { OnOk result (Appends (W.contents writer.old) (W.contents writer.new) (subkey_line name.now)) }
 {
     writer.write_all(b"key ")?;
@@ -60,7 +61,8 @@ pub(crate) fn write_values<W: Write>(
     Ok(())
 }
 
-fn write_value<W: Write>(writer: &mut W, value: &Value) -> io::Result<()>
+/// Writes the line of a value.
+pub(crate) fn write_value<W: Write>(writer: &mut W, value: &Value) -> io::Result<()>
     ensures { OnOk result (Appends (W.contents writer.old) (W.contents writer.new)
         (value_line value.now)) }
 {

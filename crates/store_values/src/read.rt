@@ -131,8 +131,8 @@ fn print_value<W: Write>(
     }
 }
 
-// writes a value in a form
-fn write_in<W: Write>(writer: &mut W, form: ValueForm, value: &Value) -> io::Result<()>
+/// Writes a value in a form.
+pub(crate) fn write_in<W: Write>(writer: &mut W, form: ValueForm, value: &Value) -> io::Result<()>
     ensures { OnOk result (Appends (W.contents writer.old) (W.contents writer.new)
         (value_text form value.now)) }
 {
