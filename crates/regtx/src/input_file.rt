@@ -68,6 +68,14 @@ pub fn is_folder<R: Files>(rt: &R, word: &str) -> bool {
     }
 }
 
+/// Whether a word names a file that can be read, such as standard input, and no folder.
+pub fn is_file<R: Files>(rt: &R, word: &str) -> bool {
+    match fs::metadata(rt, word) {
+        Ok(metadata) => !metadata.is_dir() || is_standard_input(word),
+        Err(_) => is_standard_input(word),
+    }
+}
+
 /// The length of the plain file that a word names; of any other file it isn't known.
 pub fn length_of<R: Files>(rt: &R, word: &str) -> Option<u64> {
     let path = if is_standard_input(word) {

@@ -25,6 +25,7 @@ mod kept_command;
 mod key_words;
 mod lock_wait;
 mod made_file;
+mod read_command;
 mod recover_command;
 mod script_commands;
 mod serve_command;
@@ -52,6 +53,7 @@ use crate::hint::Hint;
 use crate::input_file::opened;
 use crate::kept_command::{parse_kept, tell_kept};
 use crate::lock_wait::{Access, LockWait, take_wait};
+use crate::read_command::read_source;
 use crate::recover_command::recover_hive;
 use crate::script_commands::{InMemory, play_script, run_script};
 use crate::serve_command::serve_store;
@@ -59,7 +61,7 @@ use crate::store_commands::{import_store, new_store, upgrade_store};
 use crate::store_disk::StoreDisk;
 use crate::tasks::Task;
 use crate::terminal::TerminalOutput;
-use crate::value_commands::{read_store, write_store};
+use crate::value_commands::write_store;
 use crate::words::parse_task;
 use file_backups::BackupsIn;
 use file_disk::LockError;
@@ -202,7 +204,7 @@ fn run<
             form,
             words,
         } => export(rt, output, reader, source, form, &words),
-        Task::Read { folder, reading } => read_store(rt, output, reader, folder, reading),
+        Task::Read { source, reading } => read_source(rt, output, reader, source, reading),
         Task::Write { folder, writing } => write_store(rt, output, opener, folder, writing),
         Task::Check { source, logs } => check(rt, output, reader, source, &logs),
         Task::Follow { folder, after } => follow(rt, output, reader, folder, after),

@@ -80,10 +80,10 @@ pub enum Task<'a> {
         /// The words after it.
         words: Vec<&'a str>,
     },
-    /// `get`, `get-raw` or `ls`: something is to be read of a store.
+    /// `get`, `get-raw` or `ls`: something is to be read of a store or of a hive's file.
     Read {
-        /// The folder of the store.
-        folder: &'a str,
+        /// The folder of a store, or the path of a hive's file.
+        source: &'a str,
         /// What.
         reading: Reading<'a>,
     },

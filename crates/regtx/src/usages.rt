@@ -61,17 +61,17 @@ pub const USAGES: [Usage; 33] = [
     },
     Usage {
         name: "get",
-        call: "get DIR HIVE:PATH [NAME]",
+        call: "get SOURCE HIVE:PATH [NAME]",
         does: "prints a value's type and data, by default those of `@`",
     },
     Usage {
         name: "get-raw",
-        call: "get-raw DIR HIVE:PATH [NAME]",
+        call: "get-raw SOURCE HIVE:PATH [NAME]",
         does: "prints a value's bytes and nothing else",
     },
     Usage {
         name: "ls",
-        call: "ls DIR HIVE:PATH",
+        call: "ls SOURCE HIVE:PATH",
         does: "prints the subkeys and values of a key, a line each",
     },
     Usage {

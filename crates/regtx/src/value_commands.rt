@@ -25,12 +25,12 @@ use value_syntax::{Datum, parse, type_number};
 use word_syntax::ParseError;
 
 /// The word for the empty name, which the default value has.
-const DEFAULT: &str = "@";
+pub const DEFAULT: &str = "@";
 
-/// What is read of a store.
+/// What is read of a store or of a hive's file.
 #[derive(Clone, Copy)]
 pub enum Reading<'a> {
-    /// `get DIR HIVE:PATH [NAME]`, or `get-raw`: a value, the default one if no name is given.
+    /// `get SOURCE HIVE:PATH [NAME]`, or `get-raw`: a value, the default one if no name is given.
     Value {
         /// The word that names the key.
         key: &'a str,
@@ -39,7 +39,7 @@ pub enum Reading<'a> {
         /// How it is printed.
         form: ValueForm,
     },
-    /// `ls DIR HIVE:PATH`: the subkeys and values of a key.
+    /// `ls SOURCE HIVE:PATH`: the subkeys and values of a key.
     Key {
         /// The word that names the key.
         key: &'a str,

@@ -24,18 +24,18 @@ pub fn parse_value_task<'a>(words: &'a [String]) -> Option<Result<Task<'a>, Comm
     }
 }
 
-// `get DIR KEY [NAME]`, and `get-raw`
+// `get SOURCE KEY [NAME]`, and `get-raw`
 fn get_task<'a>(words: &'a [String], form: ValueForm) -> Result<Task<'a>, CommandError<'a>> {
-    let (folder, key, name) = key_and_name(words)?;
+    let (source, key, name) = key_and_name(words)?;
     let reading = Reading::Value { key, name, form };
-    Ok(Task::Read { folder, reading })
+    Ok(Task::Read { source, reading })
 }
 
-// `ls DIR KEY`
+// `ls SOURCE KEY`
 fn ls_task<'a>(words: &'a [String]) -> Result<Task<'a>, CommandError<'a>> {
-    let (folder, key) = key_alone(words)?;
+    let (source, key) = key_alone(words)?;
     let reading = Reading::Key { key };
-    Ok(Task::Read { folder, reading })
+    Ok(Task::Read { source, reading })
 }
 
 // `set DIR KEY NAME TYPE VALUE`
