@@ -59,7 +59,7 @@ fn flags_classes_and_descriptors_are_those_of_a_new_hive() {
     assert_eq!(hive.flags(""), Ok(0x0c));
     assert_eq!(hive.flags("software"), Ok(0));
     assert_eq!(hive.class("b"), Ok(vec![]));
-    assert_eq!(hive.descriptor(r"SOFTWAREendor"), Ok(shortest));
+    assert_eq!(hive.descriptor(r"SOFTWARE\vendor"), Ok(shortest));
     hive.delete_key("b").unwrap();
     assert_eq!(hive.flags("b"), Err(Error::NOT_FOUND));
     assert_eq!(hive.class("b"), Err(Error::NOT_FOUND));
