@@ -985,15 +985,15 @@ static uint32_t call_of(int kind, regtx_hive *hive)
     case 6:
         return regtx_hive_delete_key(hive, PATH("A long name of a key\\Another\\B"), 6);
     case 7:
-        return regtx_hive_delete_tree(hive, PATH("A long name of a key"), 7);
-    case 8:
-        return walked(hive);
-    case 9:
         return regtx_hive_flags(hive, PATH("A long name of a key"), &(uint16_t){0});
-    case 10:
+    case 8:
         return regtx_hive_class(hive, PATH("A long name of a key"), data, sizeof data, &len);
-    case 11:
+    case 9:
         return regtx_hive_descriptor(hive, PATH("A long name of a key"), data, sizeof data, &len);
+    case 10:
+        return regtx_hive_delete_tree(hive, PATH("A long name of a key"), 7);
+    case 11:
+        return walked(hive);
     default:
         return regtx_hive_new(hive);
     }
