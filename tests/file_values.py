@@ -10,6 +10,8 @@ and the status is 0 if none failed. No run changes a file.
 - missing: keys, values and hives that aren't there.
 - damaged: one record of a hive spoiled in turn: what doesn't need it is read as before, and what needs it is refused with a cause.
 - refused: files that are no clean hives, and what a file can't be.
+- devices: standard input, files that can't be read, and replies that can't be written.
+- memory: each allocation refused in turn: nothing but that is printed.
 - others: `hivexget` reads the same bytes, if it is installed.
 """
 import os
@@ -21,7 +23,7 @@ sys.dont_write_bytecode = True
 sys.path[:0] = [os.path.join(TOP, "tests"), os.path.join(TOP, "runs", "hives")]
 from cases import patched  # noqa: E402
 from maker import NONE, Key, Value, hive, mended, u32  # noqa: E402
-from scratch import are_there, expect, finish, program_at, tell  # noqa: E402
+from scratch import are_there, as_other, expect, finish, program_at, refusal_shim, tell  # noqa: E402
 
 ID = "00112233-4455-6677-8899-aabbccddeeff"
 BINARY, HEAD = 3, 4_096
@@ -164,6 +166,39 @@ def refused(program):
     return tell("refused", results)
 
 
+def devices(program):
+    file = hive(tree())[0]
+    path = program.put("hive.dat", file)
+    words, results = ("get-raw", path, word(("Vendor",)), "small"), []
+    with open(program.at(path), "rb") as source:
+        ended = subprocess.run([program.path, words[0], "-", *words[2:]], stdin=source, capture_output=True)
+    results.append(expect("standard input", (ended.stdout, ended.returncode), (b"\5\0\0\0", 0)))
+    for asked in [words, ("get", path, word(()), "none"), ("ls", path, word(("Vendor",)))]:
+        results.append(expect(f"{asked[0]}, a full device", program.status_to("/dev/full", *asked), 1))
+    os.chmod(program.at(path), 0)
+    results.append(expect("a file of others", program.run(*words, **as_other()), (b"cannot read file\n", 1)))
+    os.chmod(program.at(path), 0o644)
+    return tell("devices", results)
+
+
+def memory(program):
+    path, shim, report, results = program.put("hive.dat", hive(tree())[0]), refusal_shim(), program.at("report"), []
+    for words in [("get", path, word(("Vendor",)), "large"), ("ls", path, word(("Vendor",)))]:
+        wanted = program.run(*words)
+        for number in range(1, 2_000):
+            told = program.run(*words, environment={"LD_PRELOAD": shim, "FAILALLOC_AT": str(number), "FAILALLOC_REPORT": report})
+            with open(report, encoding="ascii") as file:
+                if "refused=0" in file.read():
+                    results.append(expect(f"{words[0]}, no allocation refused", told, wanted))
+                    break
+            # a file of which all can't be reserved is read in smaller parts
+            if told != wanted:
+                results.append(expect(f"{words[0]}, allocation {number}", told, (b"E1 NoMemory\n", 1)))
+        else:
+            results.append(f"{words[0]}: each allocation was refused")
+    return tell("memory", results)
+
+
 def others(program):
     results, root = [], tree()
     file, _ = hive(root)
@@ -177,7 +212,7 @@ def others(program):
     return tell("others", results or [None])
 
 
-PARTS = [whole, missing, damaged, refused, others]
+PARTS = [whole, missing, damaged, refused, devices, memory, others]
 
 
 def main():
