@@ -9,3 +9,4 @@ pub mod Alone
 pub mod Outcomes
 pub mod OpenSessions
 pub mod RoomMade
+pub mod WholeWrites

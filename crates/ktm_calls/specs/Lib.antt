@@ -11,3 +11,4 @@ pub mod Calls
 pub mod Ends
 pub mod Room
 pub mod Snapshots
+pub mod WholeTransactions

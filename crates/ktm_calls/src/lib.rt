@@ -20,6 +20,7 @@ mod store_snapshot;
 mod store_stats;
 mod tx_calls;
 mod waiting;
+mod whole_transaction;
 
 pub use asker::Asker;
 pub use durable_changes::FollowRefusal;
@@ -33,3 +34,4 @@ pub use session::{Session, SessionHandle};
 pub use sight::Sight;
 pub use store_snapshot::StoreSnapshot;
 pub use store_stats::StoreStats;
+pub use whole_transaction::{WholeCommit, WholeDenied};

@@ -382,6 +382,9 @@ impl<E: StoreEngine, O: Start> Locked<E, O> {
         ensures fed { IfOk result (λ t. ¬ (t.reply ≡ reply.Refused NoMemory)) }
         ensures refused { IfErr result (λ why. why ≡ NoMemory) }
         ensures lacked { OnErr result (AsksAtMost O.sole mine.old mine.new event) }
+        ensures grows { IfOk result (λ t. self.new.history ≡ self.old.history ++ entry_of event t.reply
+            (E.state self.new.engine) ∷ []) }
+        ensures lacks { OnErr result (AddsAtMost self.old.history event (E.state self.new.engine) self.new.history) }
         ensures unasked { is_asked_by event ≡ false → SeesSteps O.sole mine.old mine.new }
         ensures call { ((E.state self.old.engine).clock ≤ (E.state self.new.engine).clock)
             × ((E.state self.new.engine).clock ≤ (E.state self.old.engine).clock + 1) }

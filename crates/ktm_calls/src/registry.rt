@@ -460,17 +460,28 @@ impl<E: StoreEngine, O: Start> Registry<E, O> {
         }
     }
 
-    // the lock, for an event. One that may accept a change gets it while less than half of the journal's room is used, and
-    // room is made until then: else those that write without a pause would never let a trim come, and be refused at last.
-    // If no room can be made, the event tells why
+    // the lock, for an event: with room, if it may accept a change
     fn lock_for<'a, R: Wait>(&'a self, rt: &R, event: &Event) -> MutexGuard<'a, Locked<E, O>>
         ensures room { accepts event.now ≡ true → HasMadeRoom O.start result.value.history }
+    {
+        if may_accept(event) {
+            self.lock_with_room(rt)
+        } else {
+            self.lock.lock(rt)
+        }
+    }
+
+    // the lock, for a change that may be accepted. It is got while less than half of the journal's room is used, and room is
+    // made until then: else those that write without a pause would never let a trim come, and be refused at last. If no room
+    // can be made, the change tells why
+    pub(crate) fn lock_with_room<'a, R: Wait>(&'a self, rt: &R) -> MutexGuard<'a, Locked<E, O>>
+        ensures room { HasMadeRoom O.start result.value.history }
     {
         let mut tried = None;
         for _ in rt.forever() {
             let guard = self.lock.lock(rt);
             (&*guard).keeps_history(); // for the prover
-            if !may_accept(event) || (&*guard).engine().room() < BUSY_ROOM {
+            if (&*guard).engine().room() < BUSY_ROOM {
                 return guard;
             }
             if let Some(tried) = &tried {
@@ -551,7 +562,7 @@ impl<E: StoreEngine, O: Start> Registry<E, O> {
     // waits until a change is durable. It begins in the hold whose event asked for it: if another makes the steps, it
     // sleeps there and then
     #[tactic(auto, using(crate::proofs::Seen::steps_trans, crate::proofs::Seen::steps_self))]
-    fn wait_durable<'a, R: Wait>(
+    pub(crate) fn wait_durable<'a, R: Wait>(
         &'a self,
         rt: &R,
         mine: &mut Asker<O>,
@@ -753,8 +764,8 @@ fn open_result<O: Start>(opened: OpenResult<O>) -> Result<(SessionHandle<O>, Tol
     }
 }
 
-// a refusal is a denial
-fn judged(told: Told) -> Result<Told, Denied>
+/// A refusal is a denial.
+pub(crate) fn judged(told: Told) -> Result<Told, Denied>
     ensures ok { IfOk result (λ t. t ≡ told) }
     ensures granted { IfOk result (λ t. ¬ (IsRefusal t.reply)) }
     ensures err { IfErr result (Denies told) }
