@@ -6,7 +6,7 @@ use histories::{Permission, Start};
 use ktm_calls::{Key, Registry, Session};
 use refusals::Refusal;
 use reg_names::{Name, Path};
-use reg_tree::{Data, Value};
+use reg_tree::{Data, Op, Value};
 use std::alloc::Global;
 use std::sync::Wait;
 use store_engine::StoreEngine;
@@ -43,6 +43,21 @@ pub fn key(alloc: Global, hive: u8, text: &[u8]) -> Result<Key, Refusal> {
         units.push(u16::from(*byte))?;
     }
     Ok(Key::new(hive, Path::parse(alloc, units.as_slice())?))
+}
+
+/// The operation that sets a value.
+pub fn set_op(alloc: Global, key: &Key, name: &[u8], data: Data) -> Result<Op, Refusal> {
+    let path = key.path.clone()?;
+    let name = Name::value_in_bytes(alloc, name)?;
+    let hive = key.hive;
+    let kind = KIND;
+    Ok(Op::SetValue {
+        hive,
+        path,
+        name,
+        kind,
+        data,
+    })
 }
 
 impl<'a, E: StoreEngine, O: Start, R: Wait> Calls<'a, E, O, R> {
@@ -88,6 +103,20 @@ impl<'a, E: StoreEngine, O: Start, R: Wait> Calls<'a, E, O, R> {
         match self.registry.close_transaction(self.rt, session, tx) {
             Ok(_told) => Ok(number),
             Err(denied) => Err(Trouble::from(denied)),
+        }
+    }
+
+    /// A whole transaction, once it is durable: the number of its change.
+    pub fn transact(
+        &self,
+        session: &mut Session<O>,
+        ops: Vec<Op>,
+        moment: u64,
+    ) -> Result<u64, Trouble> {
+        let unit = Uuid::nil();
+        match self.registry.transact(self.rt, session, unit, moment, ops) {
+            Ok(made) => Ok(made.receipt.number()),
+            Err(why) => Err(Trouble::Refused(why.refusal().unwrap_or(Refusal::NoMemory))),
         }
     }
 

@@ -1,16 +1,16 @@
 //! Commits of many threads, with a flusher beside.
-use crate::calls::Calls;
+use crate::calls::{Calls, set_op};
 use crate::latencies::{Percentiles, nanos_of};
 use crate::rounds::{LETTERS, TURNS, create_keys, data_of, round_at, thread_key, value_name};
 use crate::store::HIVES;
 use crate::tally::Tally;
 use crate::trouble::Trouble;
 use crate::words::Plan;
-use flusher::{OpenGate, run_beside};
+use flusher::{Gate, OpenGate, run_beside};
 use histories::Start;
 use ktm_calls::{Key, Registry, Session};
 use refusals::Refusal;
-use shared_store::{Worker, run_workers};
+use shared_store::{BusyGate, Worker, run_workers};
 use std::alloc::Global;
 use std::io;
 use std::num::nearest_u64_to_f64;
@@ -23,10 +23,21 @@ use store_engine::StoreEngine;
 /// Whether changes are moved into the hives while threads commit.
 #[derive(Clone, Copy)]
 pub enum Flushing {
-    /// A flusher does so beside.
+    /// A flusher does so beside, at once.
     Beside,
+    /// A flusher does so beside, once much of the journal's room is used.
+    Busy,
     /// They stay in the journal.
     None,
+}
+
+/// By which calls a commit is made.
+#[derive(Clone, Copy)]
+pub enum Form {
+    /// One for each event of its transaction.
+    Calls,
+    /// One for the whole transaction.
+    Whole,
 }
 
 // what is printed while threads commit
@@ -42,6 +53,7 @@ enum Telling {
 struct Committer {
     alloc: Global,
     plan: Plan,
+    form: Form,
     telling: Telling,
     tally: Mutex<Tally>,
 }
@@ -61,13 +73,15 @@ pub fn measure_commits<
 >(
     calls: &Calls<'_, E, O, R>,
     plan: Plan,
+    form: Form,
     flushing: Flushing,
     syncs: &AtomicU64,
 ) -> Result<(), Trouble> {
     create_keys(calls, plan.threads)?;
-    let committer = Committer::new(calls.alloc, plan, Telling::Nothing);
+    let committer = Committer::new(calls.alloc, plan, form, Telling::Nothing);
     let spent = match flushing {
-        Flushing::Beside => commit_beside(calls.rt, calls.registry, &committer, syncs)?,
+        Flushing::Beside => commit_beside(calls.rt, calls.registry, &committer, syncs, &OpenGate)?,
+        Flushing::Busy => commit_beside(calls.rt, calls.registry, &committer, syncs, &BusyGate)?,
         Flushing::None => commit_timed(calls.rt, calls.registry, &committer, syncs)?,
     };
     let mut nanos = committer.into_nanos()?;
@@ -83,9 +97,9 @@ pub fn tell_commits<
     R: Print + Clock + Wait + Threads + Sync,
 >(calls: &Calls<'_, E, O, R>, plan: Plan) -> Result<(), Trouble> {
     create_keys(calls, plan.threads)?;
-    let committer = Committer::new(calls.alloc, plan, Telling::Commits);
+    let committer = Committer::new(calls.alloc, plan, Form::Calls, Telling::Commits);
     let syncs = AtomicU64::new(0);
-    commit_beside(calls.rt, calls.registry, &committer, &syncs)?;
+    commit_beside(calls.rt, calls.registry, &committer, &syncs, &OpenGate)?;
     committer.into_nanos()?;
     Ok(())
 }
@@ -126,14 +140,16 @@ fn micros(nanos: u64) -> f64 {
 fn commit_beside<
     E: StoreEngine + Send,
     O: Start + Send + Sync,
+    G: Gate + Sync,
     R: Print + Clock + Wait + Threads + Sync,
 >(
     rt: &R,
     registry: &Registry<E, O>,
     committer: &Committer,
     syncs: &AtomicU64,
+    gate: &G,
 ) -> Result<Spent, Trouble> {
-    let (spent, flushed) = run_beside(rt, registry, &OpenGate, || {
+    let (spent, flushed) = run_beside(rt, registry, gate, || {
         commit_timed(rt, registry, committer, syncs)
     });
     let spent = spent?;
@@ -180,10 +196,11 @@ impl<E: StoreEngine, O: Start, R: Print + Clock + Wait> Worker<E, O, R> for Comm
 }
 
 impl Committer {
-    fn new(alloc: Global, plan: Plan, telling: Telling) -> Committer {
+    fn new(alloc: Global, plan: Plan, form: Form, telling: Telling) -> Committer {
         Committer {
             alloc,
             plan,
+            form,
             telling,
             tally: Mutex::new(Tally::new(alloc)),
         }
@@ -194,6 +211,7 @@ impl Committer {
         let Committer {
             alloc: _,
             plan: _,
+            form: _,
             telling: _,
             tally,
         } = self;
@@ -216,7 +234,10 @@ impl Committer {
         for number in 1..=u64::from(self.plan.share(thread)) {
             let round = last.saturating_add(number);
             let start = Instant::now(calls.rt)?;
-            let change = commit_round(calls, &mut session, &mut keys, round)?;
+            let change = match self.form {
+                Form::Calls => commit_round(calls, &mut session, &mut keys, round)?,
+                Form::Whole => commit_whole(calls, &mut session, &keys, round)?,
+            };
             nanos.push(nanos_of(start.elapsed(calls.rt)?))?;
             if let Telling::Commits = self.telling {
                 println!(calls.rt; "{thread} {change} {round}")?;
@@ -261,4 +282,22 @@ fn commit_round<E: StoreEngine, O: Start, R: Wait>(
         }
     }
     calls.commit(session, tx, round)
+}
+
+// the same in one call
+fn commit_whole<E: StoreEngine, O: Start, R: Wait>(
+    calls: &Calls<'_, E, O, R>,
+    session: &mut Session<O>,
+    keys: &[Key],
+    round: u64,
+) -> Result<u64, Trouble> {
+    let turn = (round % u64::from(TURNS)) as u8;
+    let mut ops = Vec::new(calls.alloc);
+    for key in keys {
+        for letter in LETTERS {
+            let data = data_of(calls.alloc, round)?;
+            ops.push(set_op(calls.alloc, key, &value_name(letter, turn), data)?)?;
+        }
+    }
+    calls.transact(session, ops, round)
 }

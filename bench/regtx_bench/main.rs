@@ -4,6 +4,8 @@
 //! |---|---|
 //! | `commits DIR THREADS COUNT` | THREADS threads (1 to 32) make COUNT commits in all, with a flusher beside |
 //! | `commits-unflushed DIR THREADS COUNT` | the same, with no flusher beside |
+//! | `commits-busy DIR THREADS COUNT` | the same, with a flusher that begins once much of the journal's room is used |
+//! | `commits-whole DIR THREADS COUNT` | the same with no flusher, each commit by one call |
 //! | `acked DIR THREADS COUNT` | as `commits`; a line `THREAD NUMBER ROUND` is printed after each commit that is acknowledged |
 //! | `reads DIR THREADS COUNT` | THREADS threads read COUNT values in all |
 //! | `reads-beside-a-writer DIR THREADS COUNT` | the same with 1 to 31 threads, while one more writes values |

@@ -2,7 +2,7 @@
 
 use crate::calls::Calls;
 use crate::check::print_rounds;
-use crate::commits::{Flushing, measure_commits, tell_commits};
+use crate::commits::{Flushing, Form, measure_commits, tell_commits};
 use crate::reads::{Writing, measure_reads};
 use crate::store::opened_store;
 use crate::trouble::Trouble;
@@ -84,8 +84,16 @@ fn measure_on<
         registry,
     };
     match work {
-        Work::Commits(plan) => measure_commits(&calls, plan, Flushing::Beside, syncs),
-        Work::CommitsUnflushed(plan) => measure_commits(&calls, plan, Flushing::None, syncs),
+        Work::Commits(plan) => measure_commits(&calls, plan, Form::Calls, Flushing::Beside, syncs),
+        Work::CommitsUnflushed(plan) => {
+            measure_commits(&calls, plan, Form::Calls, Flushing::None, syncs)
+        }
+        Work::CommitsBusy(plan) => {
+            measure_commits(&calls, plan, Form::Calls, Flushing::Busy, syncs)
+        }
+        Work::CommitsWhole(plan) => {
+            measure_commits(&calls, plan, Form::Whole, Flushing::None, syncs)
+        }
         Work::Acked(plan) => tell_commits(&calls, plan),
         Work::Reads(plan) => measure_reads(&calls, plan, Writing::None),
         Work::ReadsBesideAWriter(plan) => measure_reads(&calls, plan, Writing::Beside),

@@ -2,7 +2,7 @@
 
 /// What is printed at other words.
 pub const USAGE: &str =
-    "usage: regtx_bench commits DIR THREADS COUNT | commits-unflushed DIR THREADS COUNT\n       | acked DIR THREADS COUNT\n       | reads DIR THREADS COUNT | reads-beside-a-writer DIR THREADS COUNT | check DIR";
+    "usage: regtx_bench commits DIR THREADS COUNT | commits-unflushed DIR THREADS COUNT\n       | commits-busy DIR THREADS COUNT | commits-whole DIR THREADS COUNT\n       | acked DIR THREADS COUNT\n       | reads DIR THREADS COUNT | reads-beside-a-writer DIR THREADS COUNT | check DIR";
 
 /// The most sessions that may be open at once, and so the most threads.
 pub const MOST_THREADS: usize = 32;
@@ -23,6 +23,10 @@ pub enum Work {
     Commits(Plan),
     /// Commits are measured, without one.
     CommitsUnflushed(Plan),
+    /// Commits are measured, with a flusher beside at its usual pace.
+    CommitsBusy(Plan),
+    /// Whole transactions are measured, without one.
+    CommitsWhole(Plan),
     /// Commits are told as they are acknowledged.
     Acked(Plan),
     /// Reads are measured.
@@ -70,6 +74,8 @@ fn work_of(name: &str, threads: &str, count: &str) -> Option<Work> {
     match name {
         "commits" => Some(Work::Commits(plan_of(threads, count, MOST_THREADS)?)),
         "commits-unflushed" => Some(Work::CommitsUnflushed(plan_of(threads, count, MOST_THREADS)?)),
+        "commits-busy" => Some(Work::CommitsBusy(plan_of(threads, count, MOST_THREADS)?)),
+        "commits-whole" => Some(Work::CommitsWhole(plan_of(threads, count, MOST_THREADS)?)),
         "acked" => Some(Work::Acked(plan_of(threads, count, MOST_THREADS)?)),
         "reads" => Some(Work::Reads(plan_of(threads, count, MOST_THREADS)?)),
         "reads-beside-a-writer" => Some(Work::ReadsBesideAWriter(plan_of(
