@@ -4,12 +4,12 @@
 use disk_model::Progress;
 use histories::{EventCount, Permission, RequestCount, Start};
 use ktm_calls::{
-    Asker, Denied, Disposition, EventKind, Key, Receipt, Registry, Session, Told, Turn,
+    Asker, Denied, Disposition, EventKind, Key, Receipt, Registry, Session, Told, Turn, WholeCommit,
 };
 use published_trees::{ChangeCount, SeenChanges};
 use refusals::Refusal;
 use reg_names::{Name, Path};
-use reg_tree::{Data, Info, Value};
+use reg_tree::{Data, Info, Op, Value};
 use std::alloc::Global;
 use std::sync::Wait;
 use std::sync::ledger::Blank;
@@ -344,6 +344,25 @@ impl<'a, E: StoreEngine, O: Start, R: Wait> Calls<'a, E, O, R> {
         match self.registry.create_transaction(self.rt, session, unit) {
             Ok((tx, _told)) => Ok(tx),
             Err(denied) => Err(refusal_of(denied)),
+        }
+    }
+
+    /// A whole transaction, whose handle is closed.
+    pub fn transact(
+        &self,
+        session: &mut Session<O>,
+        moment: u64,
+        ops: Vec<Op>,
+    ) -> Result<Receipt<O>, Refusal> {
+        let unit = Uuid::nil();
+        match self.registry.transact(self.rt, session, unit, moment, ops) {
+            Ok(WholeCommit {
+                receipt,
+                told: _,
+                handle: None,
+            }) => Ok(receipt),
+            Ok(_) => Err(Refusal::NoSuchHandle),
+            Err(why) => Err(why.refusal().unwrap_or(Refusal::NoMemory)),
         }
     }
 

@@ -8,6 +8,8 @@
 //! - `S on KEY ..`: its call on a key, which is named by its path, in hive 0 if no other is named: `create MOMENT`,
 //!   `delete`, `set NAME BYTE`, `unset NAME`, `get NAME`, `info`, `open`, `key INDEX`, `value INDEX`
 //! - `S in T KEY ..`: the same in transaction T
+//! - `S whole MOMENT ..`: a whole transaction of operations in a row: `create KEY`, `delete KEY`, `set KEY NAME BYTE`,
+//!   `unset KEY NAME`
 //! - `S of T ..`: its call on the transaction: `outcome`, `commit MOMENT`, `rollback`, `close`
 //! - `flusher ..`: `stop` tells it to stop, `run` runs it on this thread until it ends, `turn` is one turn, `hive` are
 //!   turns until one ends the flush of a hive, `checkpoint` are its steps until there is nothing to do, `room` is the
@@ -15,7 +17,7 @@
 //! - `fail`: the device is to fail
 //!
 //! A table is text, so what is proved doesn't grow with its lines.
-use crate::registries::calls::{Answer, Calls, key, value_of};
+use crate::registries::calls::{Answer, Calls, KIND, key, value_of};
 use crate::registries::device::Device;
 use crate::registries::flushing::MOST_TURNS;
 use crate::registries::playing::Left;
@@ -25,6 +27,8 @@ use histories::Start;
 use ktm_calls::{EventKind, Key, Receipt, Session};
 use published_trees::MOST_READERS;
 use refusals::Refusal;
+use reg_names::Name;
+use reg_tree::{Data, Op};
 use std::alloc::Global;
 use std::sync::Wait;
 use std::sync::atomic::{AtomicBool, Ordering};
@@ -192,6 +196,7 @@ impl<O: Start> Left<O> {
             ["on", path, call @ ..] => self.on_key(calls, session, path, call),
             ["in", tx, path, call @ ..] => self.in_tx(calls, session, index(tx), path, call),
             ["of", tx, call @ ..] => self.of_tx(calls, session, index(tx), call),
+            ["whole", moment, ops @ ..] => self.whole(calls, session, number(moment), ops),
             _ => Ok(Answer::Other),
         }
     }
@@ -317,6 +322,23 @@ impl<O: Start> Left<O> {
         }
     }
 
+    // a whole transaction
+    fn whole<E: StoreEngine, R: Wait>(
+        &mut self,
+        calls: &Calls<'_, E, O, R>,
+        session: usize,
+        moment: u64,
+        words: &[&str],
+    ) -> Result<Answer, Refusal> {
+        let mut ops = Vec::new(calls.alloc);
+        add_ops(calls.alloc, words, &mut ops)?;
+        let Some(session) = self.sessions.get_mut(session) else {
+            return Ok(Answer::Other);
+        };
+        let receipt = calls.transact(session, moment, ops)?;
+        self.keep(receipt)
+    }
+
     // a call on a transaction
     fn of_tx<E: StoreEngine, R: Wait>(
         &mut self,
@@ -342,6 +364,50 @@ impl<O: Start> Left<O> {
             _ => Ok(Answer::Other),
         }
     }
+}
+
+// the operations that words name, one after another
+fn add_ops(alloc: Global, words: &[&str], ops: &mut Vec<Op>) -> Result<(), Refusal> {
+    let rest = match words {
+        [] => return Ok(()),
+        ["create", path, rest @ ..] => {
+            let Key { hive, path, tx: _ } = key(alloc, path)?;
+            ops.push(Op::CreateKey { hive, path })?;
+            rest
+        }
+        ["delete", path, rest @ ..] => {
+            let Key { hive, path, tx: _ } = key(alloc, path)?;
+            ops.push(Op::DeleteKey { hive, path })?;
+            rest
+        }
+        ["set", path, name, byte, rest @ ..] => {
+            ops.push(set_of(alloc, path, name, byte_in(byte))?)?;
+            rest
+        }
+        ["unset", path, name, rest @ ..] => {
+            let Key { hive, path, tx: _ } = key(alloc, path)?;
+            let name = Name::value_in_bytes(alloc, name.as_bytes())?;
+            ops.push(Op::DeleteValue { hive, path, name })?;
+            rest
+        }
+        _ => return Err(Refusal::BadName),
+    };
+    add_ops(alloc, rest, ops)
+}
+
+// the write of a value of one byte
+fn set_of(alloc: Global, path: &str, name: &str, byte: u8) -> Result<Op, Refusal> {
+    let Key { hive, path, tx: _ } = key(alloc, path)?;
+    let name = Name::value_in_bytes(alloc, name.as_bytes())?;
+    let data = Data::new(alloc, &[byte])?;
+    let kind = KIND;
+    Ok(Op::SetValue {
+        hive,
+        path,
+        name,
+        kind,
+        data,
+    })
 }
 
 // a call on a key

@@ -79,4 +79,26 @@ start > Session(0)
 0 of 0 commit 5 > Receipt(2)
 0 on K info > Counts(1, 0, 5)
 0 on K\M info > Counts(0, 0, 5)
+
+3 0 a whole transaction is one change, in several hives, or none; its place is free then
+start > Session(0)
+start > Session(1)
+0 whole 7 create K set K v 1 create 1:L set 1:L w 2 set K v 3 > Receipt(1)
+0 on K get v > Byte(3)
+0 on 1:L get w > Byte(2)
+0 on K info > Counts(0, 1, 7)
+0 whole 8 set K v 4 set N v 5 set K v 6 > Refused(NotFound)
+0 on K get v > Byte(3)
+1 begin > Done
+1 in 0 K set x 1 > Added
+0 whole 9 set K x 2 > Refused(Conflict)
+0 whole 9 set K y 2 delete 1:L > Receipt(2)
+1 of 0 commit 9 > Receipt(3)
+0 on K info > Counts(0, 3, 9)
+0 on 1:L info > Refused(NotFound)
+0 whole 9 > Receipt(0)
+0 begin > Done
+0 of 1 outcome > OutcomeIs(Active)
+end > Done
+1 whole 9 set K v 1 > Other
 ";
