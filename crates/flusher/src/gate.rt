@@ -3,12 +3,19 @@
 use disk_model::Progress;
 
 /// What sets a flusher's pace, and is told of its turns, while no lock is held. The flusher goes on when a call returns.
+///
+/// Commits don't need the flusher, and each of its steps keeps them waiting. The flush of a hive takes in all that it lacks
+/// in one step. So the more it lacks, the longer they wait then.
 pub trait Gate {
-    /// How many bytes of the journal's room are used before the flusher takes a turn, unless it is told to stop.
-    ///
-    /// Commits don't need the flusher, and each of its steps keeps them waiting.
+    /// How many bytes of the journal's room are used before the flusher begins, at first and after a trim, unless it is
+    /// told to stop.
     fn room(&self) -> u64 {
         0
+    }
+
+    /// How many are used before it begins the flush of another hive, if `used` are as it has ended that of one.
+    fn room_after(&self, _used: u64) -> u64 {
+        self.room()
     }
 
     /// A turn is about to begin.

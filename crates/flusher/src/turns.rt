@@ -4,8 +4,9 @@ ghost use Rattle.ktm_calls.specs.Denials.{IsTurnDenied};
 ghost use Rattle.ktm_calls.specs.Waiting.{IsDone, IsFailedStep};
 
 use crate::gate::Gate;
+use disk_model::Progress;
 use histories::Start;
-use ktm_calls::{Denied, Registry, Stopped, Told, Turn};
+use ktm_calls::{Denied, EventKind, Registry, Stopped, Told, Turn};
 use std::sync::Wait;
 use store_engine::StoreEngine;
 use store_model::Reply;
@@ -39,15 +40,17 @@ pub fn try_run_flusher<E: StoreEngine, O: Start, G: Gate, R: Wait>(
     ensures stopped { IfOk result (IsDone O.history O.start) }
     ensures denied { IfErr result IsTurnDenied }
 {
+    let mut least = gate.room();
     for _ in rt.forever() {
         gate.before_turn();
-        if gate.room() > 0 {
-            let _ = registry.wait_until_used(rt, gate.room());
+        if least > 0 {
+            let _ = registry.wait_until_used(rt, least);
         }
         match registry.turn(rt) {
             Ok(Turn::Step(told)) => {
                 if let Reply::Stepped { progress } = told.reply() {
                     gate.after_step(*progress);
+                    least = room_before_next(rt, registry, gate, told.kind(), *progress);
                 }
             }
             Ok(Turn::Stopped(stopped)) => return Ok(stopped),
@@ -55,4 +58,22 @@ pub fn try_run_flusher<E: StoreEngine, O: Start, G: Gate, R: Wait>(
         }
     }
     unreachable!()
+}
+
+// how many bytes of the journal's room are used before the turn after a step: what has begun goes on at once
+fn room_before_next<E: StoreEngine, O: Start, G: Gate, R: Wait>(
+    rt: &R,
+    registry: &Registry<E, O>,
+    gate: &G,
+    kind: EventKind,
+    progress: Progress,
+) -> u64 {
+    if progress == Progress::More {
+        return 0;
+    }
+    match kind {
+        EventKind::FlusherStep { hive: _ } => gate.room_after(registry.room(rt).bytes),
+        EventKind::TrimStep => gate.room(),
+        _ => 0,
+    }
 }
