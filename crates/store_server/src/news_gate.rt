@@ -3,11 +3,11 @@
 use client_desks::Desks;
 use disk_model::Progress;
 use flusher::Gate;
+use shared_store::BusyGate;
 use std::sync::Wait;
-use store_driver::BUSY_ROOM;
 
-/// Holds the flusher until half of the journal's room is used, and wakes those who follow after each of its steps: one may
-/// have made changes durable that no session made so.
+/// Sets the flusher's pace as [`BusyGate`] does, and wakes those who follow after each of its steps: one may have made changes
+/// durable that no session made so.
 pub struct NewsGate<'a, R: Wait> {
     rt: &'a R,
     desks: &'a Desks,
@@ -28,7 +28,11 @@ impl<'a, R: Wait> Drop for NewsGate<'a, R> {
 
 impl<'a, R: Wait> Gate for NewsGate<'a, R> {
     fn room(&self) -> u64 {
-        BUSY_ROOM
+        BusyGate.room()
+    }
+
+    fn room_after(&self, used: u64) -> u64 {
+        BusyGate.room_after(used)
     }
 
     fn after_step(&self, _progress: Progress) {
