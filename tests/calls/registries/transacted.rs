@@ -92,9 +92,11 @@ start > Session(1)
 1 begin > Done
 1 in 0 K set x 1 > Added
 0 whole 9 set K x 2 > Refused(Conflict)
-0 whole 9 set K y 2 delete 1:L > Receipt(2)
+0 whole 9 set K y 2 > Refused(Conflict)
+0 whole 9 create M set M y 2 delete 1:L > Receipt(2)
 1 of 0 commit 9 > Receipt(3)
-0 on K info > Counts(0, 3, 9)
+0 on K info > Counts(0, 2, 9)
+0 on M get y > Byte(2)
 0 on 1:L info > Refused(NotFound)
 0 whole 9 > Receipt(0)
 0 begin > Done
