@@ -78,6 +78,9 @@ pub one_is_read : (kind : ListKind) (cells : Cells) (key : ℕ) (name : List ℕ
 one_is_read kind cells key name at one = ok_if_named kind name (record_at kind cells at)
     ((subst (λ (l : List ℕ). All (λ z. is_named kind cells name z ≡ true) l) one.3 (filter_passes (is_named kind cells name) one.0)) 0 0 (omega arith))
 
+pub still_read : (kind : ListKind) (cells : Cells) (key : ℕ) (name : List ℕ) (at : ℕ) (why : Refusal) → ListsOne kind cells key name at → record_at kind cells at ≡ Err why → ⊥
+still_read kind cells key name at why one e = never (subst (λ (r : Result (List ℕ) Refusal). IsOk r) e (one_is_read kind cells key name at one))
+
 -- the record that was found among those that a key lists, or none
 pub found_one : (kind : ListKind) (cells : Cells) (key : ℕ) (name listed : List ℕ) (found : Option ℕ) (at : ℕ) → KeyLists kind cells key listed → AreRecords kind cells listed × (offsets_named kind cells name listed ≡ one_or_none found) → found ≡ Some at → ListsOne kind cells key name at
 found_one kind cells key name listed found at lists its is = (listed, lists, its.0, its.1 ∙ ap one_or_none is)

@@ -12,7 +12,7 @@ use Rattle.hive_lookup.specs.declared.errors.LookupError.TheVariants.{NoMemory, 
 use Rattle.hive_lookup.specs.declared.errors.PathError.{PathError}
 use Rattle.hive_lookup.specs.declared.list_kind.ListKind.{ListKind}
 use Rattle.hive_lookup.specs.declared.list_kind.ListKind.TheVariants.{Subkeys, Values}
-use Rattle.hive_lookup.specs.Records.{record_at, AreRecords, offsets_named, list_in_node}
+use Rattle.hive_lookup.specs.Records.{record_at, AreRecords, name_in_record, offsets_named, list_in_node}
 
 -- something isn't read from cells for this reason: its definition refuses it so, or it would look at a cell twice
 abbrev pub IsUnreadFor : {A : Type 0} → Read A → Refusal → Type 0
@@ -60,6 +60,17 @@ ErrorTells absent breaks (Damaged why at) = breaks at why
 abbrev pub PathLeads : Cells → ℕ → List (List ℕ) → ℕ → Type 0
 PathLeads cells key [] at = key ≡ at
 PathLeads cells key (name ∷ names) at = (subkey : ℕ) × ListsOne Subkeys cells key name subkey × PathLeads cells subkey names at
+
+-- the key at an offset is read, and spells its name so
+abbrev pub IsSpelled : Cells → ℕ → List ℕ → Type 0
+IsSpelled cells at name = (bytes : List ℕ) × (record_at Subkeys cells at ≡ Ok bytes) × (name ≡ name_in_record Subkeys bytes)
+
+-- folded names lead from one key to another as by PathLeads, and the keys on the way spell them so
+abbrev pub WayLeads : Cells → ℕ → List (List ℕ) → List (List ℕ) → ℕ → Type 0
+WayLeads cells key [] [] at = key ≡ at
+WayLeads cells key [] (spelled ∷ names) at = ⊥
+WayLeads cells key (name ∷ path) [] at = ⊥
+WayLeads cells key (name ∷ path) (spelled ∷ names) at = (subkey : ℕ) × ListsOne Subkeys cells key name subkey × IsSpelled cells subkey spelled × WayLeads cells subkey path names at
 
 -- a key has no subkey of the next name, if there is one
 abbrev pub LacksNext : Cells → ℕ → Option (List ℕ) → Type 0

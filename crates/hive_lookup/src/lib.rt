@@ -20,5 +20,5 @@ pub use crate::keys::read_key;
 pub use crate::list_kind::ListKind;
 pub use crate::names::subkey_names;
 pub use crate::paths::find_key;
-pub use crate::search::find_listed;
+pub use crate::search::{find_listed, find_subkey};
 pub use crate::values::read_value;

@@ -1,14 +1,15 @@
 //! The search for a name among what a key lists.
-ghost use Rattle.std.specs.Prelude.{◌≡◌, ℕ, MatchResult, OnOk};
+ghost use Rattle.std.specs.Prelude.{◌≡◌, MatchResult};
 ghost use Rattle.reg_names.specs.Names.{folded};
 ghost use Rattle.hive_cells.specs.Bins.{Cells, Shows};
 ghost use Rattle.hive_lookup.specs.Records.{AreRecords, offsets_named};
-ghost use Rattle.hive_lookup.specs.Lookups.{ErrorTells, ListBreaks, ListsNone, ListsOne, SearchBreaks, one_or_none};
+ghost use Rattle.hive_lookup.specs.declared.list_kind.ListKind.TheVariants.{Subkeys};
+ghost use Rattle.hive_lookup.specs.Lookups.{ErrorTells, IsSpelled, ListBreaks, ListsNone, ListsOne, SearchBreaks, one_or_none};
 
 use crate::errors::{LookupError, refused_at};
 use crate::list_kind::ListKind;
 use crate::lists::offsets_of;
-use crate::records::has_name;
+use crate::records::{has_name, record_name};
 use hive_cells::Image;
 use refusals::{Cause, Refusal};
 use reg_names::Name;
@@ -68,5 +69,28 @@ pub fn find_listed(
         Ok(Some(at)) => Ok(at),
         Ok(None) => Err(LookupError::NotFound),
         Err(error) => Err(error),
+    }
+}
+
+/// The offset of the subkey of a name of the key at an offset, and the name as the subkey spells it.
+///
+/// Refused as [`find_listed`] is.
+pub fn find_subkey(
+    alloc: Global,
+    image: &Image,
+    key: u32,
+    name: &Name,
+) -> Result<(u32, Name), LookupError>
+    ensures { (cells : Cells) → Shows image.now.bytes cells → MatchResult result
+        (λ found. ListsOne Subkeys cells key (folded name.now) found.0 × IsSpelled cells found.0 found.1)
+        (ErrorTells (ListsNone Subkeys cells key (folded name.now)) (SearchBreaks Subkeys cells key (folded name.now))) }
+{
+    let at = match find_listed(alloc, image, ListKind::Subkeys, key, name) {
+        Ok(at) => at,
+        Err(error) => return Err(error),
+    };
+    match record_name(alloc, image, ListKind::Subkeys, at) {
+        Ok(spelled) => Ok((at, spelled)),
+        Err(refusal) => Err(refused_at(refusal, at)),
     }
 }

@@ -1,5 +1,5 @@
 -- A key and the keys below it, judged or refused.
-use Rattle.std.proofs.Common.{◌≡◌, ◌<◌, ◌≢◌, inl, inr, ℕ, suc, Bool, false, T, List, [], ◌∷◌, ◌++◌, length, refl, ◌∙◌, ap, sym, subst, Ok, Err, Some, None, append_assoc, append-nil, Result, MatchResult, OnOk, IfErr}
+use Rattle.std.proofs.Common.{◌≡◌, ◌<◌, ◌≢◌, ◌-◌, inl, inr, ℕ, suc, Bool, false, T, List, [], ◌∷◌, ◌++◌, length, refl, ◌∙◌, ap, sym, subst, Ok, Err, Some, None, IsSome, arith, append_assoc, append-nil, Result, MatchResult, OnOk, IfErr}
 use Rattle.std.specs.FinMap as finite
 use Rattle.std.specs.FinMap.{get-entries, entries_sorted}
 use Rattle.std.specs.FinMap.Entries.{find, is_sorted, below_all}
@@ -16,33 +16,35 @@ use Rattle.std.specs.Ordering.{is_lt}
 use Rattle.std.proofs.lemmas.List.{map-append}
 use Rattle.hive_cells.specs.Bins.{Cells, Shows}
 use Rattle.hive_tree_model.specs.Lists.{IsIn, Once}
-use Rattle.hive_tree_model.specs.Keys.{KeyParts, KeyReader, Keys, lent_cells, names}
+use Rattle.hive_tree_model.specs.Keys.{KeyParts, KeyReader, Keys, none, key, lent_cells, names}
 use Rattle.hive_tree_model.specs.Trees.{tree_of}
-use Rattle.hive_tree_model.specs.Loads.{CellMarks, Loaded}
+use Rattle.hive_tree_model.specs.Loads.{CellMarks, HasFault, Loaded}
 use Rattle.hive_tree_model.specs.Encodings.{Named}
 use Rattle.hive_tree_model.proofs.Basics.{some_same, some_none, in_back}
 use Rattle.hive_tree_model.proofs.Loading.{ends}
 use Rattle.hive_tree_model.proofs.Rows.{row_of_tree}
-use Rattle.hive_records.specs.KeyNodes.{key_at, keys_in, lends_in, parts_if}
+use Rattle.hive_tree_model.proofs.Settled.{settled}
+use Rattle.hive_records.specs.KeyNodes.{key_at, keys_in, lends_in, parts_if, trail_in}
 use Rattle.hive_records.specs.Follows.{Follows}
 use Rattle.hive_records.specs.Images.{splits}
 use Rattle.hive_records.specs.Nodes.{IsNodeOf}
 use Rattle.hive_records.proofs.Keys.{keys_trail}
+use Rattle.hive_load_parts.specs.Descriptors.{descriptor_in}
 use Rattle.hive_load_parts.specs.PartsOfKey.{parts_at}
 use Rattle.hive_load_parts.proofs.KeyTold.{key_parts, key_told}
 use Rattle.hive_load_parts.proofs.Listed.{listed_names}
-use Rattle.hive_load.specs.Answers.{LoadsKey, RefusesKey, LoadsKeys, Faults}
+use Rattle.hive_load.specs.Answers.{IsShallow, LoadsKey, RefusesKey, LoadsKeys, Faults}
 use Rattle.hive_load.specs.Nodes.{names_of}
-use Rattle.hive_load.specs.Roots.{LoadsRoot, RefusesRoot}
+use Rattle.hive_load.specs.Roots.{RefusesRoot}
 use Rattle.hive_load.proofs.Levels.{keeps_joined, keys_begin, keys_on, keys_stop, key_too_deep, subkey_refused, siblings_refused}
-use Rattle.hive_load.proofs.Ends.{root_refused}
 use Rattle.hive_walk.specs.declared.errors.Fault.{Fault}
 use Rattle.hive_walk.specs.declared.errors.ImageError.{ImageError}
 use Rattle.hive_walk.specs.declared.errors.ImageError.TheVariants as image_error
 use Rattle.hive_walk.specs.declared.siblings.Sibling.{Sibling}
 use Rattle.hive_walk.specs.Errors.{IsFaultAt}
 use Rattle.hive_walk.specs.Siblings.{sibling_names, LacksNames}
-use Rattle.hive_walk.specs.Judgements.{IsTrueOfKey, IsTrueWhereMet, ListsSubkey, NamesLeadTo, NamesReach, StandsIn, KeyIsRead, KeyIsUnread, KeyIsJudged, KeyIsRefused, BelowIsRefused, KeysAreJudged, KeysAreRefused, RootIsRefused, ImageRefused}
+use Rattle.hive_walk.specs.Judgements.{IsTrueOfKey, IsTrueWhereMet, ListsSubkey, NamesLeadTo, NamesReach, StandsWithin, KeyIsRead, KeyIsUnread, KeyIsJudged, KeyIsRefused, BelowIsRefused, KeysAreJudged, KeysAreRefused, PartIsRefused, PartRefused, ImageRefused}
+use Rattle.hive_walk.specs.Walks.{PartIsSound}
 
 -- ---- the entries of a tree of keys
 
@@ -196,49 +198,72 @@ module _ (split : Bool) (cells : Cells) (old : CellMarks) (had : List (ℕ × Li
     k.5,
   )
 
--- ---- the root
+-- ---- a part
 
-module _ (split : Bool) (cells : Cells) (old new : CellMarks) (root : ℕ) (unset : (at : ℕ) → old at ≡ false) where
-  stands : (why : Refusal) → (why ≢ refusal.NoMemory) → RefusesRoot split cells root why → StandsIn split cells root why
-  stands why some (inl e) = absurd (some e)
-  stands why some (inr h) = h
+module _ (split : Bool) (cells : Cells) (old new : CellMarks) (at : ℕ) (unset : (cell : ℕ) → old cell ≡ false) where
+  none_yet : old ≡ (λ cell. false)
+  none_yet = λ i cell. unset cell i
 
-  pub root_unread : (error : ImageError) → KeyIsUnread split cells old root [] error → RootIsRefused split cells root error
-  root_unread image_error.NoMemory h = tt
-  root_unread (image_error.Fault fault) h = (
-    stands fault.refusal h.0 (root_refused split cells old new root unset (suc MOST_PATH_NAMES) fault.refusal refl (inr (inr h.1))),
-    subst (λ (names : List (List ℕ)). NamesLeadTo (keys_in split cells) root names fault.at) (sym h.3) (inl (sym h.2)),
-    h.4,
-  )
+  stands_within : (levels most : ℕ) (why : Refusal) → levels ≡ suc most → why ≢ refusal.NoMemory → RefusesKey split cells old levels at why → StandsWithin most split cells at why
+  stands_within levels most why e some (inl h) = absurd (some h)
+  stands_within levels most why e some (inr (inl (g, d))) = inl (g, (d.0, d.1, d.2, d.3, d.4, let far = d.5 in omega (arith, far, e)))
+  stands_within levels most why e some (inr (inr t)) = inr (inl (subst (λ (m : CellMarks). HasFault (trail_in split cells) (keys_in split cells) (refusal.HiveDamaged 0 cause.BadName) (refusal.HiveDamaged 0 cause.Shared) m at why) none_yet t))
 
-  pub root_below : (levels : ℕ) (error : ImageError) → levels ≡ suc MOST_PATH_NAMES → BelowIsRefused split cells old levels root [] error → RootIsRefused split cells root error
-  root_below levels image_error.NoMemory e h = tt
-  root_below levels (image_error.Fault fault) e h = (
-    stands fault.refusal h.0 (root_refused split cells old new root unset levels fault.refusal e h.1),
-    subst (λ (names : List (List ℕ)). NamesLeadTo (keys_in split cells) root names fault.at) (sym h.3) h.4,
-    h.5,
-  )
+  lent_stands : (most : ℕ) (why : Refusal) → why ≡ refusal.HiveDamaged 0 cause.Shared → RefusesRoot split cells at why → StandsWithin most split cells at why
+  lent_stands most why e (inl n) = absurd (let no : ⊥ = cc in no)
+  lent_stands most why e (inr (inl (g, d))) = absurd (let no : ⊥ = cc in no)
+  lent_stands most why e (inr (inr f)) = inr f
 
-  pub root_lent : (why : Refusal) (error : ImageError) → why ≡ refusal.HiveDamaged 0 cause.Shared → RefusesRoot split cells root why → IsFaultAt [] root why error → RootIsRefused split cells root error
-  root_lent why image_error.NoMemory e h is = tt
-  root_lent why (image_error.Fault fault) e h is = (
-    subst (λ (r : Refusal). StandsIn split cells root r) (sym is.1) (stands why is.0 h),
-    subst (λ (names : List (List ℕ)). NamesLeadTo (keys_in split cells) root names fault.at) (sym is.3) (inl (sym is.2)),
-    met_there (keys_in split cells) [] root why fault is.1 is.2 is.3 (inr (inr (inr e))),
-  )
+  module _ (path : List (List ℕ)) (most : ℕ) where
+    pub part_unread : (error : ImageError) → KeyIsUnread split cells old at path error → PartIsRefused split cells most path at error
+    part_unread image_error.NoMemory h = tt
+    part_unread (image_error.Fault fault) h = (stands_within (suc most) most fault.refusal refl h.0 (inr (inr h.1)), [], h.3 ∙ sym (append-nil path), inl (sym h.2), h.4)
+
+    pub part_below : (levels : ℕ) (error : ImageError) → levels ≡ suc most → BelowIsRefused split cells old levels at path error → PartIsRefused split cells most path at error
+    part_below levels image_error.NoMemory e h = tt
+    part_below levels (image_error.Fault fault) e h = (stands_within levels most fault.refusal e h.0 h.1, h.2, h.3, h.4, h.5)
+
+    pub part_lent : (why : Refusal) (error : ImageError) → why ≡ refusal.HiveDamaged 0 cause.Shared → RefusesRoot split cells at why → IsFaultAt path at why error → PartIsRefused split cells most path at error
+    part_lent why image_error.NoMemory e h is = tt
+    part_lent why (image_error.Fault fault) e h is = (
+      subst (λ (r : Refusal). StandsWithin most split cells at r) (sym is.1) (lent_stands most why e h),
+      [],
+      is.3 ∙ sym (append-nil path),
+      inl (sym is.2),
+      met_there (keys_in split cells) path at why fault is.1 is.2 is.3 (inr (inr (inr e))),
+    )
+
+    pub part_sound : (has : List (ℕ × List ℕ)) (levels : ℕ) (node : Entries) → LoadsKey split cells old new [] has levels at node → levels ≡ suc most → ((cell : ℕ) → IsSome (descriptor_in has cell) → new cell ≡ false) → PartIsSound split cells most at
+    part_sound has levels node l e apart =
+        let loaded : Loaded (keys_in split cells) (λ cell. false) new at l.parts l.below = subst (λ (m : CellMarks). Loaded (keys_in split cells) m new at l.parts l.below) none_yet l.loaded in (
+          l.parts,
+          l.below,
+          record {
+            whole = l.loaded.0;
+            apart = settled (keys_in split cells) new at l.parts l.below loaded (λ cell i. apart cell ((l.keeps cell).1 (inr i)));
+            shallow = (subst (λ (n : ℕ). IsShallow n (key at l.parts l.below none)) e l.shallow).0;
+          },
+        )
 
 -- ---- an image
 
-module _ (bytes : List ℕ) (root minor : ℕ) (split : Bool) (is : split ≡ splits minor) where
-  pub image_judged : {X : Type 0} (result : Result X ImageError) → ((cells : Cells) → Shows bytes cells → MatchResult result (λ _. (node : Entries) × LoadsRoot split cells root node) (λ error. RootIsRefused split cells root error)) →
-      OnOk result ((cells : Cells) → Shows bytes cells → (node : Entries) × LoadsRoot (splits minor) cells root node)
-  image_judged (Ok x) h = λ cells shows. subst (λ (b : Bool). (node : Entries) × LoadsRoot b cells root node) is (h cells shows)
+module _ (bytes : List ℕ) (at minor : ℕ) (split : Bool) (is : split ≡ splits minor) (levels : ℕ) (path : List (List ℕ)) where
+  pub image_judged : {X : Type 0} (result : Result X ImageError) → ((cells : Cells) → Shows bytes cells → MatchResult result (λ _. PartIsSound split cells levels at) (λ error. PartIsRefused split cells levels path at error)) →
+      OnOk result ((cells : Cells) → Shows bytes cells → PartIsSound (splits minor) cells levels at)
+  image_judged (Ok x) h = λ cells shows. subst (λ (b : Bool). PartIsSound b cells levels at) is (h cells shows)
   image_judged (Err error) h = tt
 
-  pub image_refused : {X : Type 0} (result : Result X ImageError) → ((cells : Cells) → Shows bytes cells → MatchResult result (λ _. (node : Entries) × LoadsRoot split cells root node) (λ error. RootIsRefused split cells root error)) →
-      (cells : Cells) → Shows bytes cells → IfErr result (ImageRefused bytes root minor)
+  pub image_refused : {X : Type 0} (result : Result X ImageError) → ((cells : Cells) → Shows bytes cells → MatchResult result (λ _. PartIsSound split cells levels at) (λ error. PartIsRefused split cells levels path at error)) →
+      (cells : Cells) → Shows bytes cells → IfErr result (λ error. (cells : Cells) × Shows bytes cells × PartIsRefused (splits minor) cells levels path at error)
   image_refused (Ok x) h cells shows = tt
-  image_refused (Err image_error.NoMemory) h cells shows = tt
-  image_refused (Err (image_error.Fault fault)) h cells shows =
-      let told : StandsIn (splits minor) cells root fault.refusal × NamesLeadTo (keys_in (splits minor) cells) root fault.path.items fault.at × IsTrueWhereMet (keys_in (splits minor) cells) fault = subst (λ (b : Bool). StandsIn b cells root fault.refusal × NamesLeadTo (keys_in b cells) root fault.path.items fault.at × IsTrueWhereMet (keys_in b cells) fault) is (h cells shows) in
-      (cells, shows, told.0, told.1, told.2)
+  image_refused (Err error) h cells shows = (cells, shows, subst (λ (b : Bool). PartIsRefused b cells levels path at error) is (h cells shows))
+
+-- what refuses an image as a part, to which no name leads, refuses it
+pub whole_refused : (bytes : List ℕ) (root minor : ℕ) (error : ImageError) → (cells : Cells) × Shows bytes cells × PartIsRefused (splits minor) cells MOST_PATH_NAMES [] root error → ImageRefused bytes root minor error
+whole_refused bytes root minor image_error.NoMemory h = tt
+whole_refused bytes root minor (image_error.Fault fault) h = (h.0, h.1, h.2.0, subst (λ (names : List (List ℕ)). NamesLeadTo (keys_in (splits minor) h.0) root names fault.at) (sym h.2.2) h.2.3, h.2.4)
+
+-- what refuses a part as one on so many levels as its path has names left refuses it
+pub part_refused : (bytes : List ℕ) (at minor levels : ℕ) (path : List (List ℕ)) (error : ImageError) → levels ≡ MOST_PATH_NAMES - length path → (cells : Cells) × Shows bytes cells × PartIsRefused (splits minor) cells levels path at error → PartRefused bytes at minor path error
+part_refused bytes at minor levels path image_error.NoMemory e h = tt
+part_refused bytes at minor levels path (image_error.Fault fault) e h = (h.0, h.1, subst (λ (n : ℕ). StandsWithin n (splits minor) h.0 at fault.refusal) e h.2.0, h.2.1, h.2.2, h.2.3, h.2.4)

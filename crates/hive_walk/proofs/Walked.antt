@@ -31,7 +31,7 @@ use Rattle.hive_load.specs.Nodes.{names_of}
 use Rattle.hive_load.proofs.Shuffled.{shuffled_found, in_shuffled}
 use Rattle.reg_tree.specs.Maps.{TreeMap}
 use Rattle.hive_records.specs.Images.{BinsEncodeTree}
-use Rattle.key_walk.specs.KeyRows.{node_rows, subkey_rows, tree_rows}
+use Rattle.key_walk.specs.KeyRows.{NamedRow, node_rows, spelled_in, subkey_rows, tree_rows}
 use Rattle.key_walk.proofs.Rows.{node_walk, whole_rows}
 use Rattle.hive_walk.specs.declared.errors.ImageError.{ImageError}
 use Rattle.hive_walk.specs.declared.errors.ImageError.TheVariants as image_error
@@ -39,7 +39,7 @@ use Rattle.hive_walk.specs.declared.errors.WalkError.{WalkError}
 use Rattle.hive_walk.specs.declared.errors.WalkError.TheVariants as walk_error
 use Rattle.hive_walk.specs.declared.siblings.Sibling.{Sibling}
 use Rattle.hive_walk.specs.Siblings.{offsets_by_name, sibling_names, siblings_in}
-use Rattle.hive_walk.specs.Walks.{KeysAreSound, KeyIsSound, entries_of_key, entries_named, cells_named, nodes_of_siblings, AreUnmarked, MarksOnly, IsNoFault, WalkRefused, LeavesSink}
+use Rattle.hive_walk.specs.Walks.{KeysAreSound, KeyIsSound, entries_of_key, entries_named, cells_named, nodes_of_siblings, AreUnmarked, MarksOnly, IsNoFault, WalkRefused, LeavesSink, rows_under}
 use Rattle.hive_walk.proofs.Order.{name_at, name_in}
 use Rattle.hive_walk.proofs.Judged.{first_root, entries_rows}
 
@@ -359,6 +359,14 @@ pub same_rows : (split : Bool) (cells : Cells) (levels at : ℕ) (parts : KeyPar
 same_rows split cells levels at parts below s =
     whole_rows (entries_of_key parts below) (sound_node split cells levels at parts below s)
     ∙ ap tree_rows (tree_of_node parts below (entries_of_key parts below) (entries_sorted (tree_of parts below)) s.whole.named (entries_rows parts below s.whole.named))
+
+-- the same of a part, to whose first key names lead
+under_rows : (names : List (List ℕ)) (all entries : Entries) → map (λ (entry : List (List ℕ) × Row). (names ++ spelled_in all entry.0, entry.1)) entries ≡ rows_under names (map (λ (entry : List (List ℕ) × Row). (spelled_in all entry.0, entry.1)) entries)
+under_rows names all [] = refl
+under_rows names all (entry ∷ entries) = ap (λ (rows : List NamedRow). (names ++ spelled_in all entry.0, entry.1) ∷ rows) (under_rows names all entries)
+
+pub part_rows : (split : Bool) (cells : Cells) (levels at : ℕ) (parts : KeyParts Row) (below : Keys Row) → KeyIsSound split cells levels at parts below → (names : List (List ℕ)) → node_rows names (entries_of_key parts below) ≡ rows_under names (tree_rows (tree_of parts below))
+part_rows split cells levels at parts below s names = under_rows names (entries_of_key parts below) (entries_of_key parts below) ∙ ap (rows_under names) (same_rows split cells levels at parts below s)
 
 pub no_fault : {X E : Type 0} (bytes : List ℕ) (root minor : ℕ) (result : Result X (WalkError E)) → IfErr result IsNoFault → IfErr result (λ _. (tree : TreeMap) × BinsEncodeTree bytes root minor tree) → IfErr result (WalkRefused bytes root minor)
 no_fault bytes root minor (Ok x) h tree = tt

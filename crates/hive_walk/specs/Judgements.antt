@@ -1,5 +1,5 @@
 -- What is answered while the keys of an image are judged.
-use Rattle.std.specs.Prelude.{◌≡◌, ◌≢◌, ◌⊎◌, ◌<◌, ℕ, Bool, List, [], ◌∷◌, ◌++◌, length, Ok, Err}
+use Rattle.std.specs.Prelude.{◌≡◌, ◌≢◌, ◌⊎◌, ◌<◌, ◌-◌, ℕ, Bool, List, [], ◌∷◌, ◌++◌, length, Ok, Err}
 use Rattle.refusals.specs.declared.refusal.Refusal.{Refusal}
 use Rattle.refusals.specs.declared.refusal.Refusal.TheVariants as refusals
 use Rattle.refusals.specs.declared.refusal.Cause.TheVariants as causes
@@ -56,15 +56,27 @@ IsTrueOfKey reads path at why =
 abbrev pub IsTrueWhereMet : KeyReader Row Refusal → Fault → Type 0
 IsTrueWhereMet reads fault = IsTrueOfKey reads fault.path.items fault.at fault.refusal
 
--- a fault stands in the image: a key lies too deep, or a rule of records or of keys is broken
+-- a fault stands in a key or below it: a key lies on more levels below it than a number, or a rule of records or of keys
+-- is broken
+abbrev pub StandsWithin : ℕ → Bool → Cells → ℕ → Refusal → Type 0
+StandsWithin levels split cells at why = ((why ≡ refusals.TooLarge) × HasDeeperKey (keys_in split cells) at levels) ⊎ FaultIn split cells at why
+
+-- a fault stands in the image
 abbrev pub StandsIn : Bool → Cells → ℕ → Refusal → Type 0
-StandsIn split cells root why = ((why ≡ refusals.TooLarge) × HasDeeperKey (keys_in split cells) root MOST_PATH_NAMES) ⊎ FaultIn split cells root why
+StandsIn split cells root why = StandsWithin MOST_PATH_NAMES split cells root why
 
 -- why an image gives no tree within the limit of depth: memory was not given, or a fault stands in it. The fault names
 -- the key at which it was met, and the names that lead there
 abbrev pub ImageRefused : List ℕ → ℕ → ℕ → ImageError → Type 0
 ImageRefused bytes root minor image_error.NoMemory = Unit {0}
 ImageRefused bytes root minor (image_error.Fault fault) = (cells : Cells) × Shows bytes cells × StandsIn (splits minor) cells root fault.refusal × NamesLeadTo (keys_in (splits minor) cells) root fault.path.items fault.at × IsTrueWhereMet (keys_in (splits minor) cells) fault
+
+-- the same of a part: of the key at an offset and all below it, if the names of a path lead to it. Within the limit its
+-- keys lie on as many levels as the path has names left
+abbrev pub PartRefused : List ℕ → ℕ → ℕ → List (List ℕ) → ImageError → Type 0
+PartRefused bytes at minor path image_error.NoMemory = Unit {0}
+PartRefused bytes at minor path (image_error.Fault fault) = (cells : Cells) × Shows bytes cells × StandsWithin (MOST_PATH_NAMES - length path) (splits minor) cells at fault.refusal
+    × (names : List (List ℕ)) × (fault.path.items ≡ path ++ names) × NamesLeadTo (keys_in (splits minor) cells) at names fault.at × IsTrueWhereMet (keys_in (splits minor) cells) fault
 
 -- ---- one key, and the keys below it
 
@@ -107,7 +119,8 @@ abbrev pub KeyIsUnread : Bool → Cells → CellMarks → ℕ → List (List ℕ
 KeyIsUnread split cells old at above image_error.NoMemory = Unit {0}
 KeyIsUnread split cells old at above (image_error.Fault fault) = (fault.refusal ≢ refusals.NoMemory) × Faults split cells old at fault.refusal × (fault.at ≡ at) × (fault.path.items ≡ above) × IsTrueWhereMet (keys_in split cells) fault
 
--- why a root is refused
-abbrev pub RootIsRefused : Bool → Cells → ℕ → ImageError → Type 0
-RootIsRefused split cells root image_error.NoMemory = Unit {0}
-RootIsRefused split cells root (image_error.Fault fault) = StandsIn split cells root fault.refusal × NamesLeadTo (keys_in split cells) root fault.path.items fault.at × IsTrueWhereMet (keys_in split cells) fault
+-- why a key and those below it, to which names lead, are refused if they may lie on a number of levels below it
+abbrev pub PartIsRefused : Bool → Cells → ℕ → List (List ℕ) → ℕ → ImageError → Type 0
+PartIsRefused split cells levels path at image_error.NoMemory = Unit {0}
+PartIsRefused split cells levels path at (image_error.Fault fault) = StandsWithin levels split cells at fault.refusal
+    × (names : List (List ℕ)) × (fault.path.items ≡ path ++ names) × NamesLeadTo (keys_in split cells) at names fault.at × IsTrueWhereMet (keys_in split cells) fault

@@ -1,11 +1,12 @@
 -- What is known of keys that were judged, and what a walk hands to its sink.
-use Rattle.std.specs.Prelude.{◌≡◌, ◌⊎◌, ◌≤◌, ℕ, Bool, true, false, List, [], ◌++◌, length, map, if◌then◌else◌, Some}
+use Rattle.std.specs.Prelude.{◌≡◌, ◌⊎◌, ◌≤◌, ◌+◌, ℕ, Bool, true, false, List, [], ◌++◌, length, map, if◌then◌else◌, Some}
 use Rattle.std.specs.FinMap as finite
 use Rattle.refusals.specs.declared.limits.TheConstants.{MOST_PATH_NAMES}
 use Rattle.reg_names.specs.Names.{folded}
 use Rattle.reg_tree_parts.specs.Rows.{Row}
 use Rattle.reg_tree_parts.specs.Nodes.{Entries}
 use Rattle.reg_tree.specs.Maps.{TreeMap, row}
+use Rattle.key_walk.specs.KeyRows.{NamedRow}
 use Rattle.hive_cells.specs.Bins.{Cells, Shows}
 use Rattle.hive_tree_model.specs.Lists.{IsIn, Once}
 use Rattle.hive_tree_model.specs.Keys.{KeyParts, Keys, none, key, own_cells, lent_cells}
@@ -35,6 +36,10 @@ pub record KeyIsSound (split : Bool) (cells : Cells) (levels at : ℕ) (parts : 
   pub whole : Whole (keys_in split cells) at parts below
   pub apart : LentApart parts below
   pub shallow : IsShallow levels below
+
+-- the cells say a key at an offset, with keys below it on at most a number of levels
+abbrev pub PartIsSound : Bool → Cells → ℕ → ℕ → Type 0
+PartIsSound split cells levels at = (parts : KeyParts Row) × (below : Keys Row) × KeyIsSound split cells levels at parts below
 
 -- an image's keys from the root at an offset on are what its cells say, and it encodes a tree of these keys
 abbrev pub IsSoundImage : List ℕ → ℕ → ℕ → Type 0
@@ -69,6 +74,14 @@ nodes_of_siblings keys siblings = map (λ (sibling : Sibling). (folded sibling.n
 -- no key of the tree lies deeper than a path may have names
 abbrev pub HasShortPaths : TreeMap → Type 0
 HasShortPaths tree = (path : List (List ℕ)) (key : Row) → row tree path ≡ Some key → length path ≤ MOST_PATH_NAMES
+
+-- the same of the tree of a part, if the names of a path lead to its first key
+abbrev pub HasShortPathsBelow : List (List ℕ) → TreeMap → Type 0
+HasShortPathsBelow names tree = (path : List (List ℕ)) (key : Row) → row tree path ≡ Some key → length names + length path ≤ MOST_PATH_NAMES
+
+-- keys of a part as keys of the hive: the names of a path lead to its first
+abbrev pub rows_under : List (List ℕ) → List NamedRow → List NamedRow
+rows_under names rows = map (λ row. (names ++ row.0, row.1)) rows
 
 -- a walk ended for want of memory, or since its sink refused a key
 abbrev pub IsNoFault : {E : Type 0} → WalkError E → Type 0

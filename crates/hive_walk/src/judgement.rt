@@ -1,14 +1,13 @@
 //! The keys of an image, read one by one and judged.
 ghost use Rattle.std.specs.Prelude.{◌≡◌, ◌≤◌, ◌+◌, ◌*◌, false, ℕ, List, length, IfOk, IfErr, MatchResult, OnOk};
-ghost use Rattle.reg_tree_parts.specs.Nodes.{Entries};
 ghost use Rattle.hive_cells.specs.Bins.{Cells, Shows};
 ghost use Rattle.hive_tree_model.specs.Loads.{CellMarks};
 ghost use Rattle.hive_records.specs.Images.{splits};
 ghost use Rattle.hive_load_parts.specs.CellReads.{marks_of};
 ghost use Rattle.hive_load_parts.specs.Descriptors.{AreDescriptors};
-ghost use Rattle.hive_load.specs.Roots.{LoadsRoot};
 ghost use Rattle.key_walk.specs.KeyPaths.{names_on};
-ghost use Rattle.hive_walk.specs.Judgements.{KeyIsRead, KeyIsUnread, KeyIsJudged, KeyIsRefused, BelowIsRefused, KeysAreJudged, KeysAreRefused, RootIsRefused, ImageRefused};
+ghost use Rattle.hive_walk.specs.Judgements.{KeyIsRead, KeyIsUnread, KeyIsJudged, KeyIsRefused, BelowIsRefused, KeysAreJudged, KeysAreRefused, PartIsRefused};
+ghost use Rattle.hive_walk.specs.Walks.{PartIsSound};
 
 use crate::errors::{ImageError, refused_at};
 use crate::siblings::{Sibling, are_named};
@@ -179,29 +178,39 @@ fn judge_keys(
     Ok(siblings)
 }
 
-// judges the root with all keys below it, if no cell is marked yet
-fn judge_root(
+// judges the key at an offset with all keys below it, which may lie on so many levels, if no cell is marked yet; `path`
+// leads to it
+fn judge_part(
     alloc: Global,
     image: &Image,
     seen: &mut Flags,
     split: bool,
-    root: u32,
+    path: &KeyPath<'_>,
+    levels: usize,
+    at: u32,
 ) -> Result<(), ImageError>
     requires covers { length image.now.bytes ≤ 8 * length seen.old }
     requires unset { (at : ℕ) → marks_of seen.old at ≡ false }
+    requires depth { length (names_on path.now) + levels ≡ MOST_PATH_NAMES }
     ensures { (cells : Cells) → Shows image.now.bytes cells → MatchResult result
-        (λ _. (node : Entries) × LoadsRoot split cells root node)
-        (λ error. RootIsRefused split cells root error) }
+        (λ _. PartIsSound split cells levels at)
+        (λ error. PartIsRefused split cells levels (names_on path.now) at error) }
 {
     let mut known = Descriptors::new(alloc);
-    let path = KeyPath::Root;
-    let (_, offsets) = match read_key(alloc, image, seen, &mut known, split, &path, root) {
+    let (_, offsets) = match read_key(alloc, image, seen, &mut known, split, path, at) {
         Ok(read) => read,
         Err(error) => return Err(error),
     };
-    let levels = MOST_PATH_NAMES + 1;
     match judge_below(
-        alloc, image, seen, &mut known, split, &path, levels, root, &offsets,
+        alloc,
+        image,
+        seen,
+        &mut known,
+        split,
+        path,
+        levels + 1,
+        at,
+        &offsets,
     ) {
         Ok(()) => {}
         Err(error) => return Err(error),
@@ -209,17 +218,35 @@ fn judge_root(
     if known.are_apart(seen) {
         Ok(())
     } else {
-        Err(refused_at(alloc, &path, root, Refusal::from(Cause::Shared)))
+        Err(refused_at(alloc, path, at, Refusal::from(Cause::Shared)))
     }
 }
 
-/// Judges an image from the root at an offset on, as [`hive_load::load`] does, but for the weight of a tree.
-pub(crate) fn judge(alloc: Global, image: &Image, root: u32, minor: u32) -> Result<(), ImageError>
+/// Judges an image from the key at an offset on, to which a path leads, as [`hive_load::load`] does from the root on, but
+/// for the weight of a tree. Its keys may lie on so many levels below it.
+pub(crate) fn judge(
+    alloc: Global,
+    image: &Image,
+    at: u32,
+    minor: u32,
+    path: &KeyPath<'_>,
+    levels: usize,
+) -> Result<(), ImageError>
+    requires depth { length (names_on path.now) + levels ≡ MOST_PATH_NAMES }
     ensures stands { OnOk result ((cells : Cells) → Shows image.now.bytes cells →
-        (node : Entries) × LoadsRoot (splits minor) cells root node) }
-    ensures refused { IfErr result (ImageRefused image.now.bytes root minor) }
+        PartIsSound (splits minor) cells levels at) }
+    ensures refused { IfErr result (λ error. (cells : Cells) × Shows image.now.bytes cells
+        × PartIsRefused (splits minor) cells levels (names_on path.now) at error) }
 {
     image.tiles(0); // for the prover
     let mut seen = flags_for(alloc, image.len())?;
-    judge_root(alloc, image, &mut seen, has_segments(minor), root)
+    judge_part(
+        alloc,
+        image,
+        &mut seen,
+        has_segments(minor),
+        path,
+        levels,
+        at,
+    )
 }

@@ -1,20 +1,23 @@
 //! An image whose keys were judged.
-ghost use Rattle.std.specs.Prelude.{◌≡◌, OnOk, IfOk, IfErr};
+ghost use Rattle.std.specs.Prelude.{◌≡◌, ◌≤◌, length, OnOk, IfOk, IfErr};
 ghost use Rattle.reg_tree.specs.Maps.{TreeMap};
 ghost use Rattle.hive_records.specs.Images.{BinsEncodeTree};
 ghost use Rattle.key_walk.specs.KeyRows.{tree_rows};
-ghost use Rattle.hive_walk.specs.Judgements.{ImageRefused};
-ghost use Rattle.hive_walk.specs.Walks.{HasShortPaths, IsNoFault, WalkRefused, LeavesSink};
+ghost use Rattle.key_walk.specs.KeyPaths.{names_on};
+ghost use Rattle.hive_walk.specs.Judgements.{ImageRefused, PartRefused};
+ghost use Rattle.hive_walk.specs.Walks.{HasShortPaths, HasShortPathsBelow, IsNoFault, WalkRefused, LeavesSink, rows_under};
 
 use crate::errors::{ImageError, WalkError};
 use crate::judgement::judge;
 use crate::walk::walk_judged;
 use hive_cells::Image;
-use key_walk::KeySink;
+use key_walk::{KeyPath, KeySink};
+use refusals::limits::MOST_PATH_NAMES;
 use std::alloc::Global;
 use std::marker::Model;
 
-/// An image that encodes a tree, no path of which has more than 512 names. It may be walked again and again.
+/// An image that encodes a tree from the key at an offset on, no path of which has more than 512 names. It may be walked
+/// again and again.
 #[derive(Drop)]
 pub struct SoundImage<'a> {
     image: &'a Image,
@@ -50,8 +53,40 @@ impl<'a> SoundImage<'a> {
         ensures refused { IfErr result (ImageRefused image.now.bytes root minor) }
     {
         image.tiles(0); // for the prover
-        judge(alloc, image, root, minor)?;
-        Ok(SoundImage { image, root, minor })
+        match judge(alloc, image, root, minor, &KeyPath::Root, MOST_PATH_NAMES) {
+            Ok(()) => Ok(SoundImage { image, root, minor }),
+            Err(error) => Err(error),
+        }
+    }
+
+    /// Judges a part of an image as an image of its own: the key at an offset, to which a path leads from the root of the
+    /// hive, and all keys below it. Nothing else of the image is read.
+    ///
+    /// A fault comes only if the part encodes no tree, or a key in it lies too deep in the hive. Its path begins with that
+    /// of the part.
+    pub fn part_judged(
+        alloc: Global,
+        image: &'a Image,
+        at: u32,
+        minor: u32,
+        path: &KeyPath<'_>,
+    ) -> Result<SoundImage<'a>, ImageError>
+        requires depth { length (names_on path.now) ≤ MOST_PATH_NAMES }
+        ensures judged { IfOk result (λ part. part ≡ (image.now.bytes, (at, minor))) }
+        ensures encodes { IfOk result (λ _. (tree : TreeMap)
+            × BinsEncodeTree image.now.bytes at minor tree × HasShortPathsBelow (names_on path.now) tree) }
+        ensures refused { IfErr result (PartRefused image.now.bytes at minor (names_on path.now)) }
+    {
+        image.tiles(0); // for the prover
+        let levels = MOST_PATH_NAMES - depth_of(path);
+        match judge(alloc, image, at, minor, path, levels) {
+            Ok(()) => Ok(SoundImage {
+                image,
+                root: at,
+                minor,
+            }),
+            Err(error) => Err(error),
+        }
     }
 
     /// Hands a sink each key of the tree, in the order of folded paths, the root first. The first refusal of the sink
@@ -64,7 +99,41 @@ impl<'a> SoundImage<'a> {
         ensures encodes { IfErr result (λ _. (tree : TreeMap)
             × BinsEncodeTree self.now.0 self.now.1.0 self.now.1.1 tree) }
     {
-        walk_judged(alloc, self.image, self.root, self.minor, sink)
+        walk_judged(
+            alloc,
+            self.image,
+            self.root,
+            self.minor,
+            &KeyPath::Root,
+            sink,
+        )
+    }
+
+    /// The same of a part, to whose first key a path leads from the root of the hive: each key is handed on with its path
+    /// in the hive.
+    pub fn walk_below<S: KeySink>(
+        &self,
+        alloc: Global,
+        path: &KeyPath<'_>,
+        sink: &mut S,
+    ) -> Result<(), WalkError<S::Error>>
+        ensures took { OnOk result ((tree : TreeMap)
+            × BinsEncodeTree self.now.0 self.now.1.0 self.now.1.1 tree
+            × S.Took sink.old sink.new (rows_under (names_on path.now) (tree_rows tree))) }
+        ensures refused { IfErr result IsNoFault }
+    {
+        walk_judged(alloc, self.image, self.root, self.minor, path, sink)
+    }
+}
+
+// how many names are on a path
+fn depth_of(path: &KeyPath<'_>) -> usize
+    requires { length (names_on path.now) ≤ MOST_PATH_NAMES }
+    ensures { result ≡ length (names_on path.now) }
+{
+    match path {
+        KeyPath::Root => 0,
+        KeyPath::Below(above, _) => depth_of(above) + 1,
     }
 }
 

@@ -1,23 +1,22 @@
 //! The walk over an image that was judged.
-ghost use Rattle.std.specs.Prelude.{◌≡◌, ◌≤◌, ◌*◌, ◌∷◌, ◌++◌, [], ℕ, Ok, Bool, T, length, IfErr, MatchResult, OnOk};
+ghost use Rattle.std.specs.Prelude.{◌≡◌, ◌≤◌, ◌*◌, ◌∷◌, ◌++◌, [], ℕ, Ok, Bool, T, length, MatchResult};
 ghost use Rattle.std.specs.List.{flat_map};
 ghost use Rattle.std.specs.List.Sorted.{IsPermutation};
 ghost use Rattle.std.specs.FinMap.Entries.{is_sorted};
 ghost use Rattle.reg_tree_parts.specs.Orders.{name_order};
 ghost use Rattle.reg_tree_parts.specs.Rows.{Row};
-ghost use Rattle.reg_tree.specs.Maps.{TreeMap};
 ghost use Rattle.hive_cells.specs.Bins.{Cells, Shows};
 ghost use Rattle.hive_tree_model.specs.Keys.{KeyParts, Keys, own_cells, offsets as offsets_of};
 ghost use Rattle.hive_tree_model.specs.Lists.{Once};
 ghost use Rattle.hive_tree_model.specs.Encodings.{CellsMatchKeys};
 ghost use Rattle.hive_records.specs.KeyNodes.{keys_in};
-ghost use Rattle.hive_records.specs.Images.{splits, BinsEncodeTree};
+ghost use Rattle.hive_records.specs.Images.{splits};
 ghost use Rattle.hive_load_parts.specs.CellReads.{marks_of};
 ghost use Rattle.hive_load_parts.specs.Descriptors.{AreDescriptors};
 ghost use Rattle.key_walk.specs.KeyPaths.{names_on};
-ghost use Rattle.key_walk.specs.KeyRows.{node_rows, subkey_rows, tree_rows};
+ghost use Rattle.key_walk.specs.KeyRows.{node_rows, subkey_rows};
 ghost use Rattle.hive_walk.specs.Siblings.{offsets_by_name, siblings_in};
-ghost use Rattle.hive_walk.specs.Walks.{KeysAreSound, KeyIsSound, AreUnmarked, MarksOnly, entries_of_key, nodes_of_siblings, IsNoFault, WalkRefused, LeavesSink};
+ghost use Rattle.hive_walk.specs.Walks.{KeysAreSound, KeyIsSound, AreUnmarked, MarksOnly, entries_of_key, nodes_of_siblings, IsNoFault};
 
 use crate::errors::{ImageError, WalkError, refused_at};
 use crate::fields::key_name;
@@ -191,17 +190,18 @@ fn walk_keys<S: KeySink>(
     Ok(())
 }
 
-/// Walks an image that was judged.
+/// Walks an image that was judged from the key at an offset on, to which a path leads.
 pub(crate) fn walk_judged<S: KeySink>(
     alloc: Global,
     image: &Image,
-    root: u32,
+    at: u32,
     minor: u32,
+    path: &KeyPath<'_>,
     sink: &mut S,
 ) -> Result<(), WalkError<S::Error>>
     ensures { (cells : Cells) → Shows image.now.bytes cells → (parts : KeyParts Row) (below : Keys Row) →
-        KeyIsSound (splits minor) cells MOST_PATH_NAMES root parts below → MatchResult result
-        (λ _. S.Took sink.old sink.new (node_rows [] (entries_of_key parts below))) IsNoFault }
+        KeyIsSound (splits minor) cells MOST_PATH_NAMES at parts below → MatchResult result
+        (λ _. S.Took sink.old sink.new (node_rows (names_on path.now) (entries_of_key parts below))) IsNoFault }
 {
     let mut seen = match flags_for(alloc, image.len()) {
         Ok(seen) => seen,
@@ -209,7 +209,6 @@ pub(crate) fn walk_judged<S: KeySink>(
     };
     let mut known = Descriptors::new(alloc);
     let split = has_segments(minor);
-    let path = KeyPath::Root;
     walk_key(
         alloc,
         image,
@@ -217,8 +216,8 @@ pub(crate) fn walk_judged<S: KeySink>(
         &mut known,
         split,
         sink,
-        &path,
+        path,
         MOST_PATH_NAMES,
-        root,
+        at,
     )
 }

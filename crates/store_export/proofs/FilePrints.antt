@@ -1,5 +1,5 @@
 -- What is answered of keys that a sink took.
-use Rattle.std.proofs.Common.{◌≡◌, ◌⊎◌, inl, inr, ℕ, Bool, true, false, ◌&&◌, if◌then◌else◌, List, [], ◌∷◌, ◌++◌, Option, Some, None, Result, Ok, Err, MatchResult, IfSome, refl, sym, subst, ◌∙◌, ap}
+use Rattle.std.proofs.Common.{◌≡◌, ◌⊎◌, inl, inr, ℕ, Bool, false, ◌&&◌, List, [], ◌∷◌, ◌++◌, Option, Some, None, Result, Ok, Err, OnOk, IfErr, MatchResult, IfSome, refl, sym, subst, ◌∙◌, ap, append_assoc}
 use Rattle.std.specs.List.{flat_map, list_all}
 use Rattle.std.specs.Io.KnownBytes.{Appends, Keeps}
 use Rattle.std.specs.declared.io.Error.{Error}
@@ -14,10 +14,15 @@ use Rattle.hive_records.specs.Images.{BinsEncodeTree}
 use Rattle.hive_file_reader.specs.Hives.{FileHasBins}
 use Rattle.hive_walk.specs.declared.errors.ImageError.{ImageError}
 use Rattle.hive_walk.specs.declared.errors.ImageError.TheVariants as image_error
-use Rattle.hive_walk.specs.Judgements.{ImageRefused}
+use Rattle.hive_walk.specs.Judgements.{PartRefused}
 use Rattle.hive_walk.specs.declared.errors.WalkError.{WalkError}
 use Rattle.hive_walk.specs.declared.errors.WalkError.TheVariants as walk_error
-use Rattle.hive_walk.specs.Walks.{IsNoFault}
+use Rattle.hive_walk.specs.Walks.{HasShortPathsBelow, IsNoFault, rows_under}
+use Rattle.hive_lookup.specs.declared.errors.LookupError.{LookupError}
+use Rattle.hive_lookup.specs.declared.list_kind.ListKind.TheVariants.{Subkeys}
+use Rattle.hive_lookup.specs.Lookups.{ErrorTells, IsSpelled, ListsNone, ListsOne, SearchBreaks}
+use Rattle.hive_cells.specs.Bins.{Cells, Shows}
+use Rattle.reg_names.specs.Names.{folded_path}
 use Rattle.reg_prefixes.specs.declared.prefix.Prefix.{Prefix}
 use Rattle.reg_export.specs.declared.encoding.Encoding.{Encoding}
 use Rattle.reg_export.specs.declared.name_scan.NameScan.{NameScan}
@@ -36,8 +41,8 @@ use Rattle.store_export.specs.declared.report.ExportError.TheVariants as error
 use Rattle.store_export.specs.Exports.{IsExportText, RowsRefused, ShowsRows, prefix_of}
 use Rattle.store_export.specs.Reports.{IsTold}
 use Rattle.store_export.proofs.Told.{kept_appends, rows_kept}
-use Rattle.store_export.specs.HiveExports.{HiveRefused, KeepsOrLacks, RefusalIsLast, ReportsFile, are_some, found_keys, keys_asked, keys_at, part_of, path_asked}
-use Rattle.store_export.specs.HivePrints.{AnswersAsked, AnswersFile, AnswersKeys, AnswersScanned, AnswersWalk, BinsStopped, IsKeysText, IsPrinted, KeysRefused, ScanRefused, ShowsKeys, image_refusal}
+use Rattle.store_export.specs.HiveExports.{AskedRefused, AskedShown, HasPart, HiveRefused, KeepsOrLacks, LacksPart, RefusalIsLast, ReportsFile, as_hive, lookup_refusal, path_asked}
+use Rattle.store_export.specs.HivePrints.{AnswersAsked, AnswersFile, AnswersPart, AnswersScanned, AnswersWalk, BinsStopped, HasBadName, IsKeysText, IsPrinted, ShowsKeys, image_refusal}
 use Rattle.reply_lines.specs.declared.status.Status.{Status}
 
 -- the refusal of an error that is one
@@ -47,7 +52,7 @@ why_of error.CannotRead = NoMemory
 why_of (error.Write fault) = NoMemory
 
 -- keys that were taken are printed, and else the answer says why they aren't
-pub printed_by : {T P : Type 0} {Q : Bool → Type 0} (walked : Result Bool (WalkError Error)) (answer : Result T ExportError) → ((there : Bool) → Q there → P) → MatchResult walked Q IsNoFault → AnswersWalk walked answer → IsPrinted P answer
+pub printed_by : {T U P : Type 0} {Q : U → Type 0} (walked : Result U (WalkError Error)) (answer : Result T ExportError) → ((there : U) → Q there → P) → MatchResult walked Q IsNoFault → AnswersWalk walked answer → IsPrinted P answer
 printed_by (Ok there) (Ok done) f took so = f there took
 printed_by (Ok there) (Err stopped) f took so = absurd so
 printed_by (Err (walk_error.Image image)) (Ok done) f took so = absurd so
@@ -67,12 +72,13 @@ printed_so (Err error.CannotRead) f p = p
 printed_so (Err (error.Write fault)) f p = tt
 
 -- what a sink took of the keys of a tree, it took of those of the same tree
-pub of_tree : {S : Type 0} (Took : S → S → List NamedRow → Type 0) (before after : S) (found : Bool) (path : List (List ℕ)) (t tree : TreeMap) → t ≡ tree
-    → Took before after (part_of path (tree_rows t)) → found ≡ are_some (part_of path (tree_rows t)) → Took before after (part_of path (tree_rows tree)) × (found ≡ are_some (part_of path (tree_rows tree)))
-of_tree Took before after found path t tree same took there = (
-  subst (λ (it : TreeMap). Took before after (part_of path (tree_rows it))) same took,
-  there ∙ ap (λ (it : TreeMap). are_some (part_of path (tree_rows it))) same,
-)
+pub took_rows : {S X E : Type 0} (Took : S → S → List NamedRow → Type 0) (refused : E → Type 0) (before after : S) (walked : Result X E) (bins : List ℕ) (at minor : ℕ) (names : List (List ℕ)) (tree : TreeMap)
+    → ((bytes : List ℕ) (root version : ℕ) (one other : TreeMap) → BinsEncodeTree bytes root version one → BinsEncodeTree bytes root version other → one ≡ other)
+    → BinsEncodeTree bins at minor tree → OnOk walked ((t : TreeMap) × BinsEncodeTree bins at minor t × Took before after (rows_under names (tree_rows t))) → IfErr walked refused
+    → MatchResult walked (λ _. Took before after (rows_under names (tree_rows tree))) refused
+took_rows Took refused before after (Ok x) bins at minor names tree same encodes took stopped =
+    subst (λ (t : TreeMap). Took before after (rows_under names (tree_rows t))) (same bins at minor took.0 tree took.1 encodes) took.2
+took_rows Took refused before after (Err e) bins at minor names tree same encodes took stopped = stopped
 
 -- nothing was printed
 pub keeps_same : (known : Option (List ℕ)) → Keeps known known
@@ -112,20 +118,11 @@ tsv_shown prefix keys before after written = (flat_map (tsv_key_lines 0) keys, r
 pub in_form : {T : Type 0} (answer : Result T ExportError) (form other : Form) (prefix : List ℕ) (keys : List NamedRow) (before after : Option (List ℕ)) → form ≡ other → AnswersScanned other prefix keys before after answer → AnswersScanned form prefix keys before after answer
 in_form answer form other prefix keys before after same answers = subst (λ (it : Form). AnswersScanned it prefix keys before after answer) (sym same) answers
 
--- keys are not looked at, and nothing is printed
-pub unscanned : (T : Type 0) (form : Form) (prefix : List ℕ) (keys : List NamedRow) (known : Option (List ℕ)) (stopped : ExportError) → ScanRefused keys stopped → AnswersKeys {T = T} form prefix keys known known (Err stopped)
-unscanned T form prefix keys known (error.Refused why) (inl lacking) = inl lacking
-unscanned T form prefix keys known (error.Refused why) (inr none) = inr (inl none, keeps_same known)
-unscanned T form prefix keys known error.CannotRead refused = refused
-unscanned T form prefix keys known (error.Write fault) refused = absurd refused
-
--- keys that were looked at are there
-pub scanned_keys : {T : Type 0} (answer : Result T ExportError) (form : Form) (prefix : List ℕ) (keys : List NamedRow) (before after : Option (List ℕ)) → are_some keys ≡ true → AnswersScanned form prefix keys before after answer → AnswersKeys form prefix keys before after answer
-scanned_keys (Ok done) form prefix keys before after some shown = (some, shown)
-scanned_keys (Err (error.Refused why)) form prefix keys before after some (inl lacking) = inl lacking
-scanned_keys (Err (error.Refused why)) form prefix keys before after some (inr bad) = inr (inr (bad.0, some, bad.1), bad.2)
-scanned_keys (Err error.CannotRead) form prefix keys before after some p = p
-scanned_keys (Err (error.Write fault)) form prefix keys before after some p = tt
+-- keys are not looked at for want of memory
+pub unscanned : (T : Type 0) (form : Form) (prefix : List ℕ) (keys : List NamedRow) (before after : Option (List ℕ)) (stopped : ExportError) → stopped ≡ error.Refused NoMemory → AnswersScanned {T = T} form prefix keys before after (Err stopped)
+unscanned T form prefix keys before after (error.Refused why) lacking = inl (ap why_of lacking)
+unscanned T form prefix keys before after error.CannotRead lacking = let no : ⊥ = cc in no
+unscanned T form prefix keys before after (error.Write fault) lacking = tt
 
 -- ---- the keys that are asked for
 
@@ -135,28 +132,93 @@ text_of_hives (Reg encoding) prefixes keys text is = is
 text_of_hives Json prefixes keys text is = (text, [], is, refl, sym (append-nil text))
 text_of_hives Tsv prefixes keys text is = is ∙ sym (append-nil (flat_map (tsv_key_lines 0) keys))
 
-found_is : (keys : List NamedRow) → are_some keys ≡ true → found_keys keys ≡ Some ((0, keys) ∷ [])
-found_is keys some = ap (λ b. if b then Some ((0, keys) ∷ []) else None) some
+rows_shown : (request : ExportRequest) (keys : List NamedRow) (before after : Option (List ℕ)) → ShowsKeys request.form (prefix_of request.prefixes.now 0) keys before after → ShowsRows request (as_hive keys) before after
+rows_shown request keys before after shown = (shown.0, text_of_hives request.form request.prefixes.now keys shown.0 shown.1, shown.2)
 
-none_found : (keys : List NamedRow) → are_some keys ≡ false → found_keys keys ≡ None
-none_found keys none = ap (λ b. if b then Some ((0, keys) ∷ []) else None) none
+rows_refused : (request : ExportRequest) (keys : List NamedRow) (why : Refusal) → why ≡ BadName → HasBadName request.form (prefix_of request.prefixes.now 0) keys → RowsRefused request (as_hive keys) why
+rows_refused request keys why is bad = inr (is, bad)
 
--- the keys of a path that is there are answered
-shows_rows : (request : ExportRequest) (keys : List NamedRow) (before after : Option (List ℕ)) → (are_some keys ≡ true) × ShowsKeys request.form (prefix_of request.prefixes.now 0) keys before after → ShowsRows request (found_keys keys) before after
-shows_rows request keys before after shown =
-    subst (λ rows. ShowsRows request rows before after) (sym (found_is keys shown.0)) (shown.1.0, text_of_hives request.form request.prefixes.now keys shown.1.0 shown.1.1, shown.1.2)
+-- ---- a part
 
-rows_refused : (request : ExportRequest) (keys : List NamedRow) (why : Refusal) → KeysRefused request.form (prefix_of request.prefixes.now 0) keys why → RowsRefused request (found_keys keys) why
-rows_refused request keys why (inl none) = subst (λ rows. RowsRefused request rows why) (sym (none_found keys none.1)) none.0
-rows_refused request keys why (inr bad) = subst (λ rows. RowsRefused request rows why) (sym (found_is keys bad.1)) (inr (bad.0, bad.2))
+module _ (request : ExportRequest) (bins : List ℕ) (minor : ℕ) (before after : Option (List ℕ)) where
+  -- the key itself is a part, to which no name leads
+  here_is : (at : ℕ) (above : List (List ℕ)) (tree : TreeMap) → BinsEncodeTree bins at minor tree → HasShortPathsBelow above tree → HasPart bins minor at above [] (rows_under above (tree_rows tree))
+  here_is at above tree encodes short = (
+    [],
+    at,
+    tree,
+    (λ cells shows. refl),
+    encodes,
+    subst (λ (names : List (List ℕ)). HasShortPathsBelow names tree) (sym (append-nil above)) short,
+    ap (λ (names : List (List ℕ)). rows_under names (tree_rows tree)) (sym (append-nil above)),
+  )
 
-pub asked_some : {T : Type 0} (request : ExportRequest) (asked : Option (List (List ℕ))) (path : List (List ℕ)) (prefix : List ℕ) (tree : TreeMap) (before after : Option (List ℕ)) (answer : Result T ExportError) → Some path ≡ asked → prefix ≡ prefix_of request.prefixes.now 0
-    → AnswersKeys request.form prefix (part_of path (tree_rows tree)) before after answer → AnswersAsked request asked tree before after answer
-asked_some request asked path prefix tree before after answer is same answers =
-    subst (λ (it : Option (List (List ℕ))). AnswersAsked request it tree before after answer) is (subst (λ p. AnswersKeys request.form p (part_of path (tree_rows tree)) before after answer) same answers)
+  pub part_printed : {T : Type 0} (at : ℕ) (above : List (List ℕ)) (tree : TreeMap) (prefix : List ℕ) (answer : Result T ExportError) → BinsEncodeTree bins at minor tree → HasShortPathsBelow above tree → prefix ≡ prefix_of request.prefixes.now 0
+      → AnswersScanned request.form prefix (rows_under above (tree_rows tree)) before after answer → AnswersPart request bins minor at above [] before after answer
+  part_printed at above tree prefix (Ok done) encodes short same shown =
+      (rows_under above (tree_rows tree), here_is at above tree encodes short, subst (λ p. ShowsKeys request.form p (rows_under above (tree_rows tree)) before after) same shown)
+  part_printed at above tree prefix (Err (error.Refused why)) encodes short same (inl lacking) = inl lacking
+  part_printed at above tree prefix (Err (error.Refused why)) encodes short same (inr bad) =
+      inr (inr (rows_under above (tree_rows tree), here_is at above tree encodes short, bad.0, subst (λ p. HasBadName request.form p (rows_under above (tree_rows tree))) same bad.1), bad.2)
+  part_printed at above tree prefix (Err error.CannotRead) encodes short same never = never
+  part_printed at above tree prefix (Err (error.Write fault)) encodes short same never = tt
 
-pub asked_none : (T : Type 0) (request : ExportRequest) (asked : Option (List (List ℕ))) (tree : TreeMap) (known : Option (List ℕ)) → None ≡ asked → AnswersAsked {T = T} request asked tree known known (Err (error.Refused NotFound))
-asked_none T request asked tree known is = subst (λ (it : Option (List (List ℕ))). AnswersAsked {T = T} request it tree known known (Err (error.Refused NotFound))) is (refl, keeps_same known)
+  -- what is below a subkey is below its parent, under its name
+  has_below : (key : ℕ) (above : List (List ℕ)) (name : List ℕ) (path : List (List ℕ)) (subkey : ℕ) (spelled : List ℕ) → ((cells : Cells) → Shows bins cells → ListsOne Subkeys cells key name subkey × IsSpelled cells subkey spelled)
+      → (rows : List NamedRow) → HasPart bins minor subkey (above ++ spelled ∷ []) path rows → HasPart bins minor key above (name ∷ path) rows
+  has_below key above name path subkey spelled step rows part =
+      let (names, at, tree, way, encodes, short, are) = part in (
+        spelled ∷ names,
+        at,
+        tree,
+        (λ cells shows. let one = step cells shows in (subkey, one.0, one.1, way cells shows)),
+        encodes,
+        subst (λ (all : List (List ℕ)). HasShortPathsBelow all tree) (append_assoc above (spelled ∷ []) names) short,
+        are ∙ ap (λ (all : List (List ℕ)). rows_under all (tree_rows tree)) (append_assoc above (spelled ∷ []) names),
+      )
+
+  lacks_below : (key : ℕ) (above : List (List ℕ)) (name : List ℕ) (path : List (List ℕ)) (subkey : ℕ) (spelled : List ℕ) → ((cells : Cells) → Shows bins cells → ListsOne Subkeys cells key name subkey × IsSpelled cells subkey spelled)
+      → (why : Refusal) → LacksPart bins minor subkey (above ++ spelled ∷ []) path why → LacksPart bins minor key above (name ∷ path) why
+  lacks_below key above name path subkey spelled step why (inl breaks) = inl (λ cells shows. inr (subkey, (step cells shows).0, breaks cells shows))
+  lacks_below key above name path subkey spelled step why (inr fault) =
+      let (names, at, its, way, refused, is) = fault in inr (
+        spelled ∷ names,
+        at,
+        its,
+        (λ cells shows. let one = step cells shows in (subkey, one.0, one.1, way cells shows)),
+        subst (λ (all : List (List ℕ)). PartRefused bins at minor all (image_error.Fault its)) (append_assoc above (spelled ∷ []) names) refused,
+        is,
+      )
+
+  pub printed_below : {T : Type 0} (key : ℕ) (above : List (List ℕ)) (name : List ℕ) (path : List (List ℕ)) (subkey : ℕ) (spelled : List ℕ) (answer : Result T ExportError) → ((cells : Cells) → Shows bins cells → ListsOne Subkeys cells key name subkey × IsSpelled cells subkey spelled)
+      → AnswersPart request bins minor subkey (above ++ spelled ∷ []) path before after answer → AnswersPart request bins minor key above (name ∷ path) before after answer
+  printed_below key above name path subkey spelled (Ok done) step shown = (shown.0, has_below key above name path subkey spelled step shown.0 shown.1, shown.2)
+  printed_below key above name path subkey spelled (Err (error.Refused why)) step (inl lacking) = inl lacking
+  printed_below key above name path subkey spelled (Err (error.Refused why)) step (inr (inl lacks, kept)) = inr (inl (lacks_below key above name path subkey spelled step why lacks), kept)
+  printed_below key above name path subkey spelled (Err (error.Refused why)) step (inr (inr bad, kept)) = inr (inr (bad.0, has_below key above name path subkey spelled step bad.0 bad.1, bad.2, bad.3), kept)
+  printed_below key above name path subkey spelled (Err error.CannotRead) step never = never
+  printed_below key above name path subkey spelled (Err (error.Write fault)) step never = tt
+
+module _ (request : ExportRequest) (bins : List ℕ) (minor : ℕ) (known : Option (List ℕ)) (key : ℕ) (above : List (List ℕ)) where
+  -- a name leads nowhere
+  pub step_refused : (T : Type 0) (name : List ℕ) (path : List (List ℕ)) (looked : LookupError) (stopped : ExportError) → ((cells : Cells) → Shows bins cells → ErrorTells (ListsNone Subkeys cells key name) (SearchBreaks Subkeys cells key name) looked) → stopped ≡ error.Refused (lookup_refusal looked)
+      → AnswersPart {T = T} request bins minor key above (name ∷ path) known known (Err stopped)
+  step_refused T name path looked stopped tells is =
+      subst (λ (it : ExportError). AnswersPart {T = T} request bins minor key above (name ∷ path) known known (Err it)) (sym is) (inr (inl (inl (λ cells shows. inl (looked, tells cells shows, refl))), keeps_same known))
+
+  -- a fault stands in the part
+  pub part_refused : (T : Type 0) (image : ImageError) (stopped : ExportError) → PartRefused bins key minor above image → stopped ≡ image_refusal image → AnswersPart {T = T} request bins minor key above [] known known (Err stopped)
+  part_refused T image_error.NoMemory stopped refused is = subst (λ (it : ExportError). AnswersPart {T = T} request bins minor key above [] known known (Err it)) (sym is) (inl refl)
+  part_refused T (image_error.Fault fault) stopped refused is =
+      subst (λ (it : ExportError). AnswersPart {T = T} request bins minor key above [] known known (Err it)) (sym is)
+      (inr (inl (inr ([], key, fault, (λ cells shows. refl), subst (λ (names : List (List ℕ)). PartRefused bins key minor names (image_error.Fault fault)) (sym (append-nil above)) refused, refl)), keeps_same known))
+
+pub asked_some : {T : Type 0} (request : ExportRequest) (asked : Option (List (List ℕ))) (path : List (List ℕ)) (bins : List ℕ) (minor root : ℕ) (before after : Option (List ℕ)) (answer : Result T ExportError) → Some path ≡ asked
+    → AnswersPart request bins minor root [] (folded_path path) before after answer → AnswersAsked request asked bins minor root before after answer
+asked_some request asked path bins minor root before after answer is answers = subst (λ (it : Option (List (List ℕ))). AnswersAsked request it bins minor root before after answer) is answers
+
+pub asked_none : (T : Type 0) (request : ExportRequest) (asked : Option (List (List ℕ))) (bins : List ℕ) (minor root : ℕ) (known : Option (List ℕ)) → None ≡ asked → AnswersAsked {T = T} request asked bins minor root known known (Err (error.Refused NotFound))
+asked_none T request asked bins minor root known is = subst (λ (it : Option (List (List ℕ))). AnswersAsked {T = T} request it bins minor root known known (Err (error.Refused NotFound))) is (refl, keeps_same known)
 
 -- ---- a file
 
@@ -169,49 +231,51 @@ file_unread T known request before (error.Refused why) refused = if_some_all kno
 file_unread T known request before error.CannotRead refused = if_some_all known (λ file why_not. keeps_same before) refused
 file_unread T known request before (error.Write fault) refused = if_some_all known (λ file why_not. absurd why_not) refused
 
-pub file_unsound : (T : Type 0) (known : Option (List ℕ)) (request : ExportRequest) (before : Option (List ℕ)) (block : BaseBlock) (bins : List ℕ) (image : ImageError) → IfSome known (λ file. FileHasBins file block bins) → ImageRefused bins block.root block.minor image
-    → AnswersFile {T = T} known request before before (Err (image_refusal image))
-file_unsound T known request before block bins image_error.NoMemory has refused = if_some_all known (λ file its. (inl refl, inl refl)) has
-file_unsound T known request before block bins (image_error.Fault fault) has refused = if_some_all known (λ file its. (inr (inr (inl (block, bins, fault, its, refused, refl))), inr (keeps_same before))) has
+abbrev why_in : {T : Type 0} → Result T ExportError → Refusal
+why_in (Ok done) = NotFound
+why_in (Err stopped) = why_of stopped
 
-asked_shown : {T : Type 0} (request : ExportRequest) (asked : Option (List (List ℕ))) (tree : TreeMap) (before after : Option (List ℕ)) (done : T) → AnswersAsked {T = T} request asked tree before after (Ok done) → ShowsRows request (keys_at asked tree) before after
-asked_shown request None tree before after done answers = absurd (let no : Ok done ≡ Err (error.Refused NotFound) = answers.0 in let it : ⊥ = cc in it)
-asked_shown request (Some path) tree before after done answers = shows_rows request (part_of path (tree_rows tree)) before after answers
+module _ (request : ExportRequest) (before after : Option (List ℕ)) (block : BaseBlock) (bins file : List ℕ) (its : FileHasBins file block bins) where
+  asked_shown : {T : Type 0} (asked : Option (List (List ℕ))) (done : T) → AnswersAsked {T = T} request asked bins block.minor block.root before after (Ok done) → AskedShown request asked file before after
+  asked_shown None done answers = absurd (let no : Ok done ≡ Err (error.Refused NotFound) = answers.0 in let it : ⊥ = cc in it)
+  asked_shown (Some path) done answers = (answers.0, (block, bins, its, answers.1), rows_shown request answers.0 before after answers.2)
 
-asked_stopped : (T : Type 0) (request : ExportRequest) (asked : Option (List (List ℕ))) (tree : TreeMap) (before after : Option (List ℕ)) (why : Refusal) → AnswersAsked {T = T} request asked tree before after (Err (error.Refused why))
-    → ((why ≡ NoMemory) ⊎ RowsRefused request (keys_at asked tree) why) × KeepsOrLacks before after why
-asked_stopped T request None tree before after why answers =
-    (inr (ap why_in answers.0), inr answers.1)
-  where
-    why_in : Result T ExportError → Refusal
-    why_in (Ok done) = NotFound
-    why_in (Err stopped) = why_of stopped
-asked_stopped T request (Some path) tree before after why (inl lacking) = (inl lacking, inl lacking)
-asked_stopped T request (Some path) tree before after why (inr refused) = (inr (rows_refused request (part_of path (tree_rows tree)) why refused.0), inr refused.1)
+  asked_stopped : (T : Type 0) (asked : Option (List (List ℕ))) (why : Refusal) → AnswersAsked {T = T} request asked bins block.minor block.root before after (Err (error.Refused why))
+      → ((why ≡ NoMemory) ⊎ AskedRefused request asked file why) × KeepsOrLacks before after why
+  asked_stopped T None why answers = (inr (block, bins, its, ap why_in answers.0), inr answers.1)
+  asked_stopped T (Some path) why (inl lacking) = (inl lacking, inl lacking)
+  asked_stopped T (Some path) why (inr (inl lacks, kept)) = (inr (inl (block, bins, its, lacks)), inr kept)
+  asked_stopped T (Some path) why (inr (inr bad, kept)) = (inr (inr (bad.0, (block, bins, its, bad.1), rows_refused request bad.0 why bad.2 bad.3)), inr kept)
 
-asked_read : (T : Type 0) (request : ExportRequest) (asked : Option (List (List ℕ))) (tree : TreeMap) (before after : Option (List ℕ)) → AnswersAsked {T = T} request asked tree before after (Err error.CannotRead) → ⊥
-asked_read T request None tree before after answers = let no = answers.0 in let it : ⊥ = cc in it
-asked_read T request (Some path) tree before after answers = answers
+  asked_read : (T : Type 0) (asked : Option (List (List ℕ))) → AnswersAsked {T = T} request asked bins block.minor block.root before after (Err error.CannotRead) → ⊥
+  asked_read T None answers = let no = answers.0 in let it : ⊥ = cc in it
+  asked_read T (Some path) answers = answers
 
-pub file_asked : {T : Type 0} (known : Option (List ℕ)) (request : ExportRequest) (before after : Option (List ℕ)) (block : BaseBlock) (bins : List ℕ) (tree : TreeMap) (answer : Result T ExportError) → IfSome known (λ file. FileHasBins file block bins)
-    → BinsEncodeTree bins block.root block.minor tree → AnswersAsked request (path_asked request.selection) tree before after answer → AnswersFile known request before after answer
-file_asked known request before after block bins tree (Ok done) has encodes answers =
-    if_some_all known (λ file its. (tree, (block, bins, its, encodes), asked_shown request (path_asked request.selection) tree before after done answers)) has
-file_asked {T} known request before after block bins tree (Err (error.Refused why)) has encodes answers =
-    let stopped = asked_stopped T request (path_asked request.selection) tree before after why answers in
-    if_some_all known (λ file its. (refused file its stopped.0, stopped.1)) has
-  where
-    refused : (file : List ℕ) → FileHasBins file block bins → (why ≡ NoMemory) ⊎ RowsRefused request (keys_at (path_asked request.selection) tree) why → HiveRefused request file why
-    refused file its (inl lacking) = inl lacking
-    refused file its (inr rows) = inr (inr (inr (tree, (block, bins, its, encodes), rows)))
-file_asked {T} known request before after block bins tree (Err error.CannotRead) has encodes answers = absurd (asked_read T request (path_asked request.selection) tree before after answers)
-file_asked known request before after block bins tree (Err (error.Write fault)) has encodes answers = if_some_all known (λ file its. tt) has
+  refused_for : (why : Refusal) → (why ≡ NoMemory) ⊎ AskedRefused request (path_asked request.selection) file why → HiveRefused request file why
+  refused_for why (inl lacking) = inl lacking
+  refused_for why (inr refused) = inr (inr refused)
+
+  answers_in : {T : Type 0} (answer : Result T ExportError) → AnswersAsked request (path_asked request.selection) bins block.minor block.root before after answer → AnswersFile (Some file) request before after answer
+  answers_in (Ok done) answers = asked_shown (path_asked request.selection) done answers
+  answers_in {T} (Err (error.Refused why)) answers = let stopped = asked_stopped T (path_asked request.selection) why answers in (refused_for why stopped.0, stopped.1)
+  answers_in {T} (Err error.CannotRead) answers = absurd (asked_read T (path_asked request.selection) answers)
+  answers_in (Err (error.Write fault)) answers = tt
+
+pub file_asked : {T : Type 0} (known : Option (List ℕ)) (request : ExportRequest) (before after : Option (List ℕ)) (block : BaseBlock) (bins : List ℕ) (answer : Result T ExportError) → IfSome known (λ file. FileHasBins file block bins)
+    → AnswersAsked request (path_asked request.selection) bins block.minor block.root before after answer → AnswersFile known request before after answer
+file_asked None request before after block bins (Ok done) has answers = tt
+file_asked None request before after block bins (Err stopped) has answers = tt
+file_asked (Some file) request before after block bins answer has answers = answers_in request before after block bins file has answer answers
 
 -- what was printed of a file, and told, is a report of it
 pub file_reported : {T : Type 0} (known : Option (List ℕ)) (request : ExportRequest) (printed : Result T ExportError) (old mid new : Option (List ℕ)) (its_status : Status) → AnswersFile known request old mid printed → IsTold printed mid new its_status
     → IfSome known (λ file. ReportsFile request file old new its_status)
 file_reported known request (Ok done) old mid new its_status answers told =
-    if_some_all known (λ file shown. inl ((shown.0, shown.1, rows_kept request (keys_asked request.selection shown.0) old mid new shown.2 told.0), told.1)) answers
+    if_some_all known (λ file shown. inl (still_shown (path_asked request.selection) file shown, told.1)) answers
+  where
+    still_shown : (asked : Option (List (List ℕ))) (file : List ℕ) → AskedShown request asked file old mid → AskedShown request asked file old new
+    still_shown None file shown = shown
+    still_shown (Some path) file shown = (shown.0, shown.1, rows_kept request (as_hive shown.0) old mid new shown.2 told.0)
 file_reported known request (Err (error.Refused why)) old mid new its_status answers told =
     if_some_all known (λ file stopped. inr (why, stopped.0, last stopped.1)) answers
   where

@@ -1,4 +1,3 @@
 mod Hives
 mod Told
-pub mod Parts
 mod FilePrints

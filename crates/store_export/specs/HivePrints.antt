@@ -1,5 +1,5 @@
 -- Steps of an export of a hive's file.
-use Rattle.std.specs.Prelude.{◌≡◌, ◌⊎◌, ℕ, true, false, Bool, List, [], ◌∷◌, Option, Some, None, IfSome, Result, Ok, Err}
+use Rattle.std.specs.Prelude.{◌≡◌, ◌⊎◌, ℕ, false, List, [], ◌∷◌, Option, Some, None, IfSome, Result, Ok, Err}
 use Rattle.std.specs.List.{flat_map}
 use Rattle.std.specs.Io.KnownBytes.{Appends, Keeps}
 use Rattle.std.specs.declared.io.Error.{Error}
@@ -10,8 +10,8 @@ use Rattle.hive_walk.specs.declared.errors.WalkError.TheVariants as walk_error
 use Rattle.hive_walk.specs.declared.errors.ImageError.{ImageError}
 use Rattle.hive_walk.specs.declared.errors.ImageError.TheVariants as image_error
 use Rattle.hive_file_reader.specs.Readings.{FileBinsRefusedAs}
-use Rattle.reg_tree.specs.Maps.{TreeMap}
-use Rattle.key_walk.specs.KeyRows.{NamedRow, tree_rows}
+use Rattle.reg_names.specs.Names.{folded_path}
+use Rattle.key_walk.specs.KeyRows.{NamedRow}
 use Rattle.reg_export.specs.declared.encoding.Encoding.{Encoding}
 use Rattle.reg_export.specs.NameTests.{can_show}
 use Rattle.reg_export.specs.RegFiles.{file_names, reg_text}
@@ -23,7 +23,7 @@ use Rattle.store_export.specs.declared.request.ExportRequest.{ExportRequest}
 use Rattle.store_export.specs.declared.report.ExportError.{ExportError}
 use Rattle.store_export.specs.declared.report.ExportError.TheVariants as error
 use Rattle.store_export.specs.Exports.{prefix_of}
-use Rattle.store_export.specs.HiveExports.{HiveRefused, ShowsFile, StopsFile, are_some, part_of}
+use Rattle.store_export.specs.HiveExports.{HasPart, HiveRefused, LacksPart, ShowsFile, StopsFile}
 
 -- it is printed; or memory is lacking, or a write failed
 abbrev pub IsPrinted : {T : Type 0} → Type 0 → Result T ExportError → Type 0
@@ -33,19 +33,13 @@ IsPrinted printed (Err error.CannotRead) = ⊥
 IsPrinted printed (Err (error.Write fault)) = Unit {0}
 
 -- how a walk ended, as the answer of an export
-abbrev pub AnswersWalk : {T : Type 0} → Result Bool (WalkError Error) → Result T ExportError → Type 0
+abbrev pub AnswersWalk : {T U : Type 0} → Result U (WalkError Error) → Result T ExportError → Type 0
 AnswersWalk (Ok walked) (Ok done) = Unit {0}
 AnswersWalk (Ok walked) (Err stopped) = ⊥
 AnswersWalk (Err (walk_error.Image image)) (Ok done) = ⊥
 AnswersWalk (Err (walk_error.Image image)) (Err stopped) = stopped ≡ error.Refused NoMemory
 AnswersWalk (Err (walk_error.Sink fault)) (Ok done) = ⊥
 AnswersWalk (Err (walk_error.Sink fault)) (Err stopped) = stopped ≡ error.Write fault
-
--- why keys are not looked at: memory is lacking, or there are none
-abbrev pub ScanRefused : List NamedRow → ExportError → Type 0
-ScanRefused keys (error.Refused why) = (why ≡ NoMemory) ⊎ ((why ≡ NotFound) × (are_some keys ≡ false))
-ScanRefused keys error.CannotRead = ⊥
-ScanRefused keys (error.Write fault) = ⊥
 
 -- a text shows keys of hive 0 in a form, behind this prefix
 abbrev pub IsKeysText : Form → List ℕ → List NamedRow → List ℕ → Type 0
@@ -61,20 +55,7 @@ ShowsKeys form prefix keys before after = (text : List ℕ) × IsKeysText form p
 abbrev pub HasBadName : Form → List ℕ → List NamedRow → Type 0
 HasBadName form prefix keys = (encoding : Encoding) × (form ≡ Reg encoding) × (can_show encoding (file_names ((prefix, keys) ∷ [])) ≡ false)
 
--- why keys are not shown: there are none; or a registration file can't show a name
-abbrev pub KeysRefused : Form → List ℕ → List NamedRow → Refusal → Type 0
-KeysRefused form prefix keys why =
-    ((why ≡ NotFound) × (are_some keys ≡ false))
-    ⊎ ((why ≡ BadName) × (are_some keys ≡ true) × HasBadName form prefix keys)
-
--- there are keys, and they are shown; or why not, before which nothing was printed unless memory is lacking
-abbrev pub AnswersKeys : {T : Type 0} → Form → List ℕ → List NamedRow → Option (List ℕ) → Option (List ℕ) → Result T ExportError → Type 0
-AnswersKeys form prefix keys before after (Ok done) = (are_some keys ≡ true) × ShowsKeys form prefix keys before after
-AnswersKeys form prefix keys before after (Err (error.Refused why)) = (why ≡ NoMemory) ⊎ (KeysRefused form prefix keys why × Keeps before after)
-AnswersKeys form prefix keys before after (Err error.CannotRead) = ⊥
-AnswersKeys form prefix keys before after (Err (error.Write fault)) = Unit {0}
-
--- keys that are there are shown; or why not, before which nothing was printed unless memory is lacking
+-- keys are shown; or why not, before which nothing was printed unless memory is lacking
 abbrev pub AnswersScanned : {T : Type 0} → Form → List ℕ → List NamedRow → Option (List ℕ) → Option (List ℕ) → Result T ExportError → Type 0
 AnswersScanned form prefix keys before after (Ok done) = ShowsKeys form prefix keys before after
 AnswersScanned form prefix keys before after (Err (error.Refused why)) =
@@ -82,10 +63,24 @@ AnswersScanned form prefix keys before after (Err (error.Refused why)) =
 AnswersScanned form prefix keys before after (Err error.CannotRead) = ⊥
 AnswersScanned form prefix keys before after (Err (error.Write fault)) = Unit {0}
 
--- the keys at the path that is asked for are answered; no path is one that isn't there
-abbrev pub AnswersAsked : {T : Type 0} → ExportRequest → Option (List (List ℕ)) → TreeMap → Option (List ℕ) → Option (List ℕ) → Result T ExportError → Type 0
-AnswersAsked request None tree before after answer = (answer ≡ Err (error.Refused NotFound)) × Keeps before after
-AnswersAsked request (Some path) tree before after answer = AnswersKeys request.form (prefix_of request.prefixes.now 0) (part_of path (tree_rows tree)) before after answer
+-- why keys of a part are not shown: there is no such part; or a registration file can't show a name
+abbrev pub PartUnshown : ExportRequest → List ℕ → ℕ → ℕ → List (List ℕ) → List (List ℕ) → Refusal → Type 0
+PartUnshown request bins minor key above path why =
+    LacksPart bins minor key above path why
+    ⊎ ((rows : List NamedRow) × HasPart bins minor key above path rows × (why ≡ BadName) × HasBadName request.form (prefix_of request.prefixes.now 0) rows)
+
+-- bins data have a part, whose keys are shown; or why not, before which nothing was printed unless memory is lacking
+abbrev pub AnswersPart : {T : Type 0} → ExportRequest → List ℕ → ℕ → ℕ → List (List ℕ) → List (List ℕ) → Option (List ℕ) → Option (List ℕ) → Result T ExportError → Type 0
+AnswersPart request bins minor key above path before after (Ok done) =
+    (rows : List NamedRow) × HasPart bins minor key above path rows × ShowsKeys request.form (prefix_of request.prefixes.now 0) rows before after
+AnswersPart request bins minor key above path before after (Err (error.Refused why)) = (why ≡ NoMemory) ⊎ (PartUnshown request bins minor key above path why × Keeps before after)
+AnswersPart request bins minor key above path before after (Err error.CannotRead) = ⊥
+AnswersPart request bins minor key above path before after (Err (error.Write fault)) = Unit {0}
+
+-- the part at the path that is asked for is answered; no path is one that isn't there
+abbrev pub AnswersAsked : {T : Type 0} → ExportRequest → Option (List (List ℕ)) → List ℕ → ℕ → ℕ → Option (List ℕ) → Option (List ℕ) → Result T ExportError → Type 0
+AnswersAsked request None bins minor root before after answer = (answer ≡ Err (error.Refused NotFound)) × Keeps before after
+AnswersAsked request (Some path) bins minor root before after answer = AnswersPart request bins minor root [] (folded_path path) before after answer
 
 -- why a file's bins data are not there
 abbrev pub BinsStopped : List ℕ → ExportError → Type 0

@@ -1,5 +1,4 @@
 pub mod Exports
 pub mod Reports
 pub mod HiveExports
-pub mod PartLaws
 pub mod HivePrints

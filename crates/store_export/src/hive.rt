@@ -1,19 +1,18 @@
 //! The export of a hive's file.
-ghost use Rattle.std.specs.Prelude.{◌≡◌, IfOk, IfErr, IfSome};
+ghost use Rattle.std.specs.Prelude.{◌≡◌, ◌≤◌, length, IfOk, IfErr, IfSome};
 ghost use Rattle.std.specs.Option.{option_map};
-ghost use Rattle.reg_tree.specs.Maps.{TreeMap};
-ghost use Rattle.hive_records.specs.Images.{BinsEncodeTree};
+ghost use Rattle.refusals.specs.declared.limits.TheConstants.{MOST_PATH_NAMES};
 ghost use Rattle.hive_file_reader.specs.Hives.{FileHasBins};
 ghost use Rattle.store_export.specs.HiveExports.{ReportsFile, path_asked};
 ghost use Rattle.store_export.specs.HivePrints.{AnswersAsked, AnswersFile, BinsStopped};
 
-use crate::hive_part::print_keys;
+use crate::hive_part::print_below;
 use crate::report::{ExportError, reported};
 use crate::request::ExportRequest;
 use base_block::BaseBlock;
 use hive_cells::Image;
 use hive_file_reader::{ReadError, read_image};
-use hive_walk::SoundImage;
+use key_walk::KeyPath;
 use refusals::Refusal;
 use reg_names::Name;
 use reply_lines::Status;
@@ -26,12 +25,14 @@ pub(crate) const HIVE: u8 = 0;
 const _: () = prove!(HIVE == 0);
 
 /// Prints the keys of a clean hive's file as hive 0, or a key of it with all below it. Beside the file's image it takes
-/// memory for a key at a time.
+/// memory for a key at a time. Of the keys beside the one that is asked for, and beside the way to it, only the names on
+/// the way are read.
 ///
-/// Refused, in a line, if the file is no clean hive, as `read_image` and `SoundImage::judged` are; with `NotFound` if the
-/// key isn't there; with `BadName` if a registration file can't show a name; and with `NoMemory`. The line stands alone,
-/// unless memory is wanting: then some of the keys may be printed before it. `Err` says that a write failed, or that the
-/// file can't be read, or read on; nothing was printed then.
+/// Refused, in a line, if the file is no clean hive, as `read_image` is; as `find_subkey` of `hive_lookup` is on the way,
+/// with `NotFound` if no key has the name; as `SoundImage::part_judged` is of the key and all below it; with `BadName` if
+/// a registration file can't show a name; and with `NoMemory`. The line stands alone, unless memory is wanting: then some
+/// of the keys may be printed before it. `Err` says that a write failed, or that the file can't be read, or read on;
+/// nothing was printed then.
 pub fn export_hive<R: Read, W: Write>(
     alloc: Global,
     reader: &mut R,
@@ -57,10 +58,7 @@ fn print_file<R: Read, W: Write>(
 {
     let read = read_bins(alloc, reader)?;
     let (block, image) = read;
-    match SoundImage::judged(alloc, &image, block.root, block.minor) {
-        Ok(sound) => print_image(alloc, &sound, request, writer),
-        Err(error) => Err(ExportError::of_image(error)),
-    }
+    print_asked(alloc, &image, block.root, block.minor, request, writer)
 }
 
 // the base block and the image of a file
@@ -77,27 +75,37 @@ fn read_bins<R: Read>(alloc: Global, reader: &mut R) -> Result<(BaseBlock, Image
     }
 }
 
-// prints the keys that are asked for of an image
-fn print_image<W: Write>(
+// prints the keys that are asked for of an image of a minor version
+fn print_asked<W: Write>(
     alloc: Global,
-    sound: &SoundImage<'_>,
+    image: &Image,
+    root: u32,
+    minor: u32,
     request: &ExportRequest<'_>,
     writer: &mut W,
 ) -> Result<(), ExportError>
-    ensures { (tree : TreeMap) → BinsEncodeTree sound.now.0 sound.now.1.0 sound.now.1.1 tree →
-        AnswersAsked request.now (path_asked request.now.selection) tree (W.contents writer.old)
-        (W.contents writer.new) result }
+    ensures { AnswersAsked request.now (path_asked request.now.selection) image.now.bytes minor root
+        (W.contents writer.old) (W.contents writer.new) result }
 {
-    let prefix = request.prefix(HIVE);
     match asked_path(request) {
-        Some(path) => print_keys(alloc, sound, request.form, prefix, path, writer),
+        Some(path) => print_below(
+            alloc,
+            image,
+            minor,
+            request,
+            &KeyPath::Root,
+            root,
+            path,
+            writer,
+        ),
         None => Err(ExportError::Refused(Refusal::NotFound)),
     }
 }
 
 // the path of the key that is asked for, or the root's if all keys are; none if it is of another hive
 fn asked_path<'a>(request: &ExportRequest<'a>) -> Option<&'a [Name]>
-    ensures { option_map (λ path. path.now) result ≡ path_asked request.now.selection }
+    ensures asked { option_map (λ path. path.now) result ≡ path_asked request.now.selection }
+    ensures short { IfSome result (λ path. length path.now ≤ MOST_PATH_NAMES) }
 {
     match request.selection {
         None => Some(&[]),

@@ -1,8 +1,11 @@
 //! What is refused of an export, and how it is told.
 ghost use Rattle.std.specs.Prelude.{◌≡◌, IfOk};
 ghost use Rattle.store_export.specs.Reports.{IsTold};
+ghost use Rattle.store_export.specs.declared.report.ExportError.TheVariants.{Refused};
+ghost use Rattle.store_export.specs.HiveExports.{lookup_refusal};
 ghost use Rattle.store_export.specs.HivePrints.{image_refusal};
 
+use hive_lookup::LookupError;
 use hive_walk::ImageError;
 use refusals::Refusal;
 use reply_lines::Status;
@@ -59,6 +62,17 @@ impl<T: Drop> From<AllocFailed<T>> for ExportError {
 }
 
 impl ExportError {
+    // why what has a name isn't found
+    pub(crate) fn of_lookup(error: LookupError) -> ExportError
+        ensures { result ≡ Refused (lookup_refusal error) }
+    {
+        match error {
+            LookupError::NoMemory => ExportError::Refused(Refusal::NoMemory),
+            LookupError::NotFound => ExportError::Refused(Refusal::NotFound),
+            LookupError::Damaged { refusal, .. } => ExportError::Refused(refusal),
+        }
+    }
+
     // why an image is refused
     pub(crate) fn of_image(error: ImageError) -> ExportError
         ensures { result ≡ image_refusal error }
