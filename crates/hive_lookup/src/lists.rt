@@ -27,7 +27,7 @@ const OFFSET: usize = 4;
 const _: () = prove!(OFFSET == 4);
 
 /// A flag for each cell that may be in an image, none of them set.
-pub(crate) fn no_marks(alloc: Global, image: &Image) -> Result<Flags, AllocError>
+pub fn no_marks(alloc: Global, image: &Image) -> Result<Flags, AllocError>
     ensures covers { IfOk result (λ seen. length image.now.bytes ≤ 8 * length seen) }
     ensures unset { IfOk result (λ seen. (at : ℕ) → marks_of seen at ≡ false) }
 {

@@ -18,7 +18,7 @@ use std::alloc::Global;
 
 /// The key node at an offset. Refused with `BadOffset` if no allocated cell begins there, and as [`KeyNode::read`] refuses
 /// its data.
-pub(crate) fn key_node<'a>(image: &'a Image, at: u32) -> Result<KeyNode<'a>, Refusal>
+pub fn key_node<'a>(image: &'a Image, at: u32) -> Result<KeyNode<'a>, Refusal>
     ensures { (cells : Cells) → Shows image.now.bytes cells → MatchResult result
         (λ node. (bytes : List ℕ) × (record_at Subkeys cells at ≡ Ok bytes) × IsKeyNode node bytes)
         (λ why. record_at Subkeys cells at ≡ Err why) }
@@ -55,7 +55,7 @@ fn stored_name<'a>(kind: ListKind, cell: &'a [u8]) -> Result<StoredName<'a>, Ref
 /// The name in the record at an offset, as it is spelled.
 ///
 /// Refused with `BadOffset` if no allocated cell begins there, as the record's own rules refuse it, and with `NoMemory`.
-pub(crate) fn record_name(
+pub fn record_name(
     alloc: Global,
     image: &Image,
     kind: ListKind,

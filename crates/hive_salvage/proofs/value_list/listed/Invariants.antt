@@ -1,0 +1,13 @@
+use Rattle.std.proofs.Common.{◌≡◌, length}
+use Rattle.std.specs.FinMap as finite
+use Rattle.hive_load_parts.specs.CellReads.{marks_of}
+use Rattle.key_walk.specs.KeyPaths.{names_on}
+use Rattle.hive_salvage.specs.Events.{Tells}
+use Rattle.hive_salvage.specs.Readings.{ValuesAre}
+use Rattle.hive_salvage.proofs.value_list.listed.Given as goal
+
+abbrev pub invariant-loop-place : goal.invariant-loop-place
+invariant-loop-place g l = record {
+  covers : length l.seen ≡ length l.fn.seen;
+  steps : Tells g.S.SalvageSink.Took l.fn.sink l.sink l.image.bytes (λ cells told. ValuesAre l.split cells (names_on l.path) l.list l.place (marks_of l.fn.seen, finite.empty) (marks_of l.seen, l.values) told);
+}
