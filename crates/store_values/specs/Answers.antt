@@ -1,19 +1,20 @@
 -- What is printed of a value and of a key.
-use Rattle.std.specs.Prelude.{◌≡◌, ◌⊎◌, ℕ, List, ◌++◌, slice_get, take, codes, Option, Some, None}
-use Rattle.std.specs.Option.{option_map, option_and_then}
+use Rattle.std.specs.Prelude.{◌≡◌, ◌⊎◌, ℕ, ◌<◌, List, ◌++◌, codes, Option, Some, None}
+use Rattle.std.specs.Option.{option_map}
 use Rattle.std.specs.List.{flat_map}
 use Rattle.std.specs.FinMap as finite
 use Rattle.std.specs.Io.KnownBytes.{Appends}
 use Rattle.refusals.specs.declared.refusal.Refusal.{Refusal}
-use Rattle.refusals.specs.declared.refusal.Refusal.TheVariants.{NoMemory, NotFound}
+use Rattle.refusals.specs.declared.refusal.Refusal.TheVariants.{NotFound}
 use Rattle.reg_names.specs.Names.{folded_path}
 use Rattle.reg_tree_parts.specs.declared.value.Value.{Value}
 use Rattle.reg_tree_parts.specs.Rows.{Row}
 use Rattle.reg_tree.specs.Maps.{TreeMap, row, subkeys}
-use Rattle.reg_tree.specs.TreeLists.{value_in}
+use Rattle.reg_tree.specs.Reads.{value_at}
 use Rattle.hive_files.specs.Frames.{RefusalHasCause}
 use Rattle.commit_journal.specs.Store.{Store}
-use Rattle.recovery.specs.Recovered.{IsNoStore, IsRecovered}
+use Rattle.store_hive.specs.RecoveredHives.{RecoversHive}
+use Rattle.store_hive.specs.RefusedHives.{RecoversNoNamedTree}
 use Rattle.reply_lines.specs.declared.status.Status.{Status}
 use Rattle.reply_lines.specs.declared.status.Status.TheVariants as status
 use Rattle.reply_lines.specs.PrintedRefusals.{PrintsRefusal}
@@ -31,9 +32,9 @@ abbrev pub value_text : ValueForm → Value → List ℕ
 value_text Line value = datum_line value
 value_text Data value = value.«data»
 
--- the value of a name in a form, if it is there
-abbrev pub value_answer : ValueForm → ℕ → List (List ℕ) → List ℕ → List TreeMap → Option (List ℕ)
-value_answer form hive path name trees = option_map (value_text form) (value_in trees hive (folded_path path) name)
+-- the value of a name in a form, if the tree has it
+abbrev pub value_answer : ValueForm → List (List ℕ) → List ℕ → TreeMap → Option (List ℕ)
+value_answer form path name tree = option_map (value_text form) (value_at tree (folded_path path) name)
 
 -- the line of a subkey in the list of a key, and that of a value
 abbrev pub subkey_line : List ℕ → List ℕ
@@ -49,25 +50,18 @@ key_lines names values = flat_map subkey_line names ++ flat_map value_line value
 abbrev pub row_lines : TreeMap → List (List ℕ) → Row → List ℕ
 row_lines tree path key = key_lines (subkeys tree path) (finite.values key.values)
 
--- the lines of a key, if it is there
-abbrev pub tree_answer : List (List ℕ) → TreeMap → Option (List ℕ)
-tree_answer path tree = option_map (row_lines tree path) (row tree path)
-
-abbrev pub key_answer : ℕ → List (List ℕ) → List TreeMap → Option (List ℕ)
-key_answer hive path trees = option_and_then (tree_answer (folded_path path)) (slice_get trees hive)
+-- the lines of a key, if the tree has it
+abbrev pub key_answer : List (List ℕ) → TreeMap → Option (List ℕ)
+key_answer path tree = option_map (row_lines tree (folded_path path)) (row tree (folded_path path))
 
 -- a text was printed; or, if there is none, that nothing is there
 abbrev pub PrintsAnswer : Option (List ℕ) → Option (List ℕ) → Option (List ℕ) → Status → Type 0
 PrintsAnswer None before after its_status = PrintsRefusal before after NotFound its_status
 PrintsAnswer (Some text) before after its_status = Appends before after text × (its_status ≡ status.Clean)
 
--- an answer is printed; or, for want of memory, its refusal
-abbrev pub AnswersOrNot : Option (List ℕ) → Option (List ℕ) → Option (List ℕ) → Status → Type 0
-AnswersOrNot answer before after its_status = PrintsAnswer answer before after its_status ⊎ PrintsRefusal before after NoMemory its_status
-
--- The files recover trees, if the disk is faithful, and the answer of those of the hives that calls name is printed; or
--- they are refused, and that is.
-abbrev pub ReportsAnswer : Type 0 → Type 0 → (ℕ → List ℕ) → (List TreeMap → Option (List ℕ)) → Option (List ℕ) → Option (List ℕ) → Status → Type 0
-ReportsAnswer failed faithful files answer before after its_status =
-    ((store : Store) × (number : ℕ) × (trees : List TreeMap) × (faithful → IsRecovered files store number trees) × PrintsAnswer (answer (take store.hives trees)) before after its_status)
-    ⊎ ((why : Refusal) × RefusalHasCause failed (IsNoStore faithful files) why × PrintsRefusal before after why its_status)
+-- The files recover a tree of a hive that calls name, if the disk is faithful, and its answer is printed; or they recover
+-- none, and a refusal that says why is.
+abbrev pub ReportsAnswer : Type 0 → Type 0 → (ℕ → List ℕ) → ℕ → (TreeMap → Option (List ℕ)) → Option (List ℕ) → Option (List ℕ) → Status → Type 0
+ReportsAnswer failed faithful files hive answer before after its_status =
+    ((store : Store) × (tree : TreeMap) × (hive < store.hives) × (faithful → RecoversHive files store hive tree) × PrintsAnswer (answer tree) before after its_status)
+    ⊎ ((why : Refusal) × RefusalHasCause failed (RecoversNoNamedTree faithful files hive) why × PrintsRefusal before after why its_status)

@@ -1,9 +1,9 @@
 //! The commit of a unit of work that a store keeps.
-ghost use Rattle.std.specs.Prelude.{◌≡◌, ◌⊎◌, ◌<◌, Ok, Err, IfOk, IfErr};
+ghost use Rattle.std.specs.Prelude.{◌≡◌, ◌⊎◌, ◌<◌, List, Ok, Err, IfOk, IfErr};
 ghost use Rattle.refusals.specs.declared.refusal.Refusal.TheVariants.{NoMemory};
 ghost use Rattle.disk_model.specs.ReadOnly.{OnlySyncs};
-ghost use Rattle.commit_journal.specs.Journals.{store_of};
-ghost use Rattle.recovery.specs.Invariant.{InvariantHolds};
+ghost use Rattle.commit_outcomes.specs.Commits.{Commit};
+ghost use Rattle.commit_outcomes.specs.Trees.{HasCommits};
 ghost use Rattle.recovery.specs.Recovered.{seen_in};
 ghost use Rattle.store_values.specs.KeptCommits.{ReportsCommit, commit_answer};
 
@@ -11,17 +11,18 @@ use crate::change_result::ChangeResult;
 use crate::reply::print_outcome;
 use commit_outcomes::number_in;
 use disk_model::Disk;
-use recovery::{Opened, RecoveredStore, open};
 use refusals::Refusal;
+use reg_tree::Tree;
 use std::alloc::Global;
 use std::io::{self, Write};
+use store_hive::outcome_tree;
 use uuid::Uuid;
 
-/// Prints the number of the last commit of a unit of work, in a line. The disk is read and synced, and not written; it is
-/// handed back.
+/// Prints the number of the last commit of a unit of work, in a line. The journal and the two files of the hive of outcomes
+/// are read and synced, and not written. No file of another hive is touched. The disk is handed back.
 ///
-/// Refused, in a line that alone is printed, as an opening is; with `NotFound` exactly if the store keeps no commit of
-/// this unit; and with `Unsupported` if it keeps no outcomes of commits.
+/// Refused, in a line that alone is printed, as [`outcome_tree`] is, also with `Unsupported` if the store keeps no
+/// outcomes of commits; and with `NotFound` exactly if it keeps no commit of this unit.
 pub fn find_commit<D: Disk, W: Write>(
     alloc: Global,
     disk: D,
@@ -34,29 +35,25 @@ pub fn find_commit<D: Disk, W: Write>(
     ensures synced { D.faithful result.0 → OnlySyncs (D.state_at disk) (D.state_at result.0)
         (D.clock disk) (D.clock result.0) }
 {
-    match open(alloc, disk) {
-        Ok(opened) => {
-            let (disk, found) = opened.into_parts();
-            let outcome = commit_of(alloc, &found, unit);
-            // dropped as a whole: the prover would take the parts apart here
-            let opened = Opened::from_parts(disk, found);
-            (opened.into_disk(), print_outcome(outcome, writer))
+    let mut disk = disk;
+    match outcome_tree(alloc, &mut disk) {
+        Ok(tree) => {
+            let told = print_outcome(commit_of(alloc, &tree, unit), writer);
+            (disk, told)
         }
-        Err((refusal, disk)) => (disk, print_outcome(Err(refusal), writer)),
+        Err(refusal) => {
+            let told = print_outcome(Err(refusal), writer);
+            (disk, told)
+        }
     }
 }
 
-// the number of the commit of a unit of work that recovered trees keep
-fn commit_of(alloc: Global, found: &RecoveredStore, unit: &Uuid) -> Result<u64, Refusal>
-    requires kept { InvariantHolds found.now }
-    ensures kept { IfOk result (λ number.
-        commit_answer (store_of found.now.journal) found.now.trees unit.now ≡ Ok number) }
-    ensures refused { IfErr result (λ why. (why ≡ NoMemory)
-        ⊎ (commit_answer (store_of found.now.journal) found.now.trees unit.now ≡ Err why)) }
+// the number of the commit of a unit of work that a tree of outcomes has
+fn commit_of(alloc: Global, tree: &Tree, unit: &Uuid) -> Result<u64, Refusal>
+    requires commits { (commits : List Commit) × HasCommits commits tree.now }
+    ensures kept { IfOk result (λ number. commit_answer tree.now unit.now ≡ Ok number) }
+    ensures refused { IfErr result (λ why. (why ≡ NoMemory) ⊎ (commit_answer tree.now unit.now ≡ Err why)) }
 {
-    let Some(tree) = found.trees.tree(found.journal.hives()) else {
-        return Err(Refusal::Unsupported);
-    };
     match number_in(alloc, tree, unit)? {
         Some(number) => Ok(number),
         None => Err(Refusal::NotFound),

@@ -1,28 +1,30 @@
-//! What is read of a store.
-ghost use Rattle.std.specs.Prelude.{◌<◌, IfOk, OnOk, take};
+//! What is read of a store: of one hive, without the others.
+ghost use Rattle.std.specs.Prelude.{◌<◌, IfOk, OnOk};
 ghost use Rattle.std.specs.Io.KnownBytes.{Appends};
 ghost use Rattle.disk_model.specs.ReadOnly.{OnlySyncs};
 ghost use Rattle.recovery.specs.Recovered.{seen_in};
-ghost use Rattle.recovery.specs.Shown.{store_of};
-ghost use Rattle.store_values.specs.Answers.{AnswersOrNot, PrintsAnswer, ReportsAnswer, key_answer, value_answer, value_text};
+ghost use Rattle.store_values.specs.Answers.{PrintsAnswer, ReportsAnswer, key_answer, value_answer, value_text};
 
 use crate::key_lines::{write_datum_line, write_subkeys, write_values};
 use crate::reply::print_refusal;
 use crate::value_form::ValueForm;
 use disk_model::Disk;
-use recovery::{Opened, open};
 use refusals::Refusal;
 use reg_names::{Path, ValueName};
-use reg_tree::{Trees, Value};
+use reg_tree::{Tree, Value};
 use reply_lines::Status;
 use std::alloc::Global;
 use std::io::{self, Write};
+use std::mem::forget;
+use store_hive::named_tree;
 
-/// Prints a value in a form: its type and data in a line, or its data alone. The disk is read and synced, and not
-/// written; it is handed back.
+/// Prints a value in a form: its type and data in a line, or its data alone. The journal and the hive's own two files are
+/// read and synced, and not written. No file of another hive is touched. The disk is handed back.
 ///
-/// Refused, in a line that alone is printed, as an opening is; and with `NotFound` if there is no such hive, key or
-/// value.
+/// The memory of the hive's tree isn't given back. A program that prints one value ends then, and taking the tree apart
+/// would take it a tenth more time.
+///
+/// Refused, in a line that alone is printed, as [`named_tree`] is; and with `NotFound` if there is no such key or value.
 pub fn get_value<D: Disk, W: Write>(
     alloc: Global,
     disk: D,
@@ -33,24 +35,29 @@ pub fn get_value<D: Disk, W: Write>(
     writer: &mut W,
 ) -> (D, io::Result<Status>)
     ensures reports { IfOk result.1 (ReportsAnswer (D.failures disk < D.failures result.0)
-        (D.faithful result.0) (seen_in (D.state_at disk (D.clock disk)))
-        (value_answer form hive path.now name.now) (W.contents writer.old) (W.contents writer.new)) }
+        (D.faithful result.0) (seen_in (D.state_at disk (D.clock disk))) hive
+        (value_answer form path.now name.now) (W.contents writer.old) (W.contents writer.new)) }
     ensures synced { D.faithful result.0 → OnlySyncs (D.state_at disk) (D.state_at result.0)
         (D.clock disk) (D.clock result.0) }
 {
-    match open(alloc, disk) {
-        Ok(opened) => {
-            let status = print_named_value(alloc, writer, &opened, hive, path, name, form);
-            (opened.into_disk(), status)
+    let mut disk = disk;
+    match named_tree(alloc, &mut disk, hive) {
+        Ok(tree) => {
+            let status = print_value(writer, &tree, path, name, form);
+            forget(tree);
+            (disk, status)
         }
-        Err((refusal, disk)) => (disk, print_refusal(writer, refusal)),
+        Err(refusal) => {
+            let status = print_refusal(writer, refusal);
+            (disk, status)
+        }
     }
 }
 
-/// Prints a line for each subkey of a key and then for each of its values, in their orders. The disk is read and synced,
-/// and not written; it is handed back.
+/// Prints a line for each subkey of a key and then for each of its values, in their orders. Files are read and synced,
+/// and memory isn't given back, as by [`get_value`]. The disk is handed back.
 ///
-/// Refused, in a line that alone is printed, as an opening is; and with `NotFound` if there is no such hive or key.
+/// Refused, in a line that alone is printed, as [`named_tree`] is; and with `NotFound` if there is no such key.
 pub fn list_key<D: Disk, W: Write>(
     alloc: Global,
     disk: D,
@@ -59,69 +66,37 @@ pub fn list_key<D: Disk, W: Write>(
     writer: &mut W,
 ) -> (D, io::Result<Status>)
     ensures reports { IfOk result.1 (ReportsAnswer (D.failures disk < D.failures result.0)
-        (D.faithful result.0) (seen_in (D.state_at disk (D.clock disk)))
-        (key_answer hive path.now) (W.contents writer.old) (W.contents writer.new)) }
+        (D.faithful result.0) (seen_in (D.state_at disk (D.clock disk))) hive
+        (key_answer path.now) (W.contents writer.old) (W.contents writer.new)) }
     ensures synced { D.faithful result.0 → OnlySyncs (D.state_at disk) (D.state_at result.0)
         (D.clock disk) (D.clock result.0) }
 {
-    match open(alloc, disk) {
-        Ok(opened) => {
-            let status = print_named_key(alloc, writer, &opened, hive, path);
-            (opened.into_disk(), status)
+    let mut disk = disk;
+    match named_tree(alloc, &mut disk, hive) {
+        Ok(tree) => {
+            let status = print_key(writer, &tree, path);
+            forget(tree);
+            (disk, status)
         }
-        Err((refusal, disk)) => (disk, print_refusal(writer, refusal)),
+        Err(refusal) => {
+            let status = print_refusal(writer, refusal);
+            (disk, status)
+        }
     }
 }
 
-// the same of an opened store, whose calls name its first hives
-fn print_named_value<D: Disk, W: Write>(
-    alloc: Global,
-    writer: &mut W,
-    opened: &Opened<D>,
-    hive: u8,
-    path: &Path,
-    name: &ValueName,
-    form: ValueForm,
-) -> io::Result<Status>
-    ensures { IfOk result (AnswersOrNot (value_answer form hive path.now name.now
-        (take (store_of opened.now).hives opened.now.found.trees))
-        (W.contents writer.old) (W.contents writer.new)) }
-{
-    match opened.named_trees(alloc) {
-        Ok(trees) => print_value(writer, &trees, hive, path, name, form),
-        Err(_) => print_refusal(writer, Refusal::NoMemory),
-    }
-}
-
-fn print_named_key<D: Disk, W: Write>(
-    alloc: Global,
-    writer: &mut W,
-    opened: &Opened<D>,
-    hive: u8,
-    path: &Path,
-) -> io::Result<Status>
-    ensures { IfOk result (AnswersOrNot (key_answer hive path.now
-        (take (store_of opened.now).hives opened.now.found.trees))
-        (W.contents writer.old) (W.contents writer.new)) }
-{
-    match opened.named_trees(alloc) {
-        Ok(trees) => print_key(writer, &trees, hive, path),
-        Err(_) => print_refusal(writer, Refusal::NoMemory),
-    }
-}
-
+// prints a value of a tree
 fn print_value<W: Write>(
     writer: &mut W,
-    trees: &Trees,
-    hive: u8,
+    tree: &Tree,
     path: &Path,
     name: &ValueName,
     form: ValueForm,
 ) -> io::Result<Status>
-    ensures { IfOk result (PrintsAnswer (value_answer form hive path.now name.now trees.now)
+    ensures { IfOk result (PrintsAnswer (value_answer form path.now name.now tree.now)
         (W.contents writer.old) (W.contents writer.new)) }
 {
-    match trees.get_value(hive, path, name.name()) {
+    match tree.get_value(path, name.name()) {
         Ok(value) => {
             write_in(writer, form, value)?;
             writer.flush()?;
@@ -142,13 +117,11 @@ pub(crate) fn write_in<W: Write>(writer: &mut W, form: ValueForm, value: &Value)
     }
 }
 
-fn print_key<W: Write>(writer: &mut W, trees: &Trees, hive: u8, path: &Path) -> io::Result<Status>
-    ensures { IfOk result (PrintsAnswer (key_answer hive path.now trees.now)
+// prints the lines of a key of a tree
+fn print_key<W: Write>(writer: &mut W, tree: &Tree, path: &Path) -> io::Result<Status>
+    ensures { IfOk result (PrintsAnswer (key_answer path.now tree.now)
         (W.contents writer.old) (W.contents writer.new)) }
 {
-    let Some(tree) = trees.tree(hive) else {
-        return print_refusal(writer, Refusal::NotFound);
-    };
     let Ok(info) = tree.query_info(path) else {
         return print_refusal(writer, Refusal::NotFound);
     };

@@ -1,14 +1,11 @@
-use Rattle.std.proofs.Common.{inl, inr, refl, subst}
-use Rattle.refusals.specs.declared.refusal.Refusal.TheVariants.{NoMemory}
-use Rattle.recovery.specs.Shown.{store_of}
+use Rattle.std.proofs.Common.{inl, inr}
 use Rattle.std.proofs.lemmas.Result.{IfOk-weaker}
 use Rattle.store_values.proofs.read.get_value.Goals as goal
 
 pub returns-in-Ok-clause-reports : goal.returns-in-Ok-clause-reports
 returns-in-Ok-clause-reports g c =
-    let D = g.D.Disk in
-    let opened = c.in-Ok.opened in
-    IfOk-weaker c.print_named_value-status.result _ _ (λ status told. elim (told) [
-      | inl answer ↦ inl (store_of opened, opened.found.number, opened.found.trees, (λ f. c.in-Ok.ensures.recovered (subst D.faithful c.into_disk.ensures f)), answer)
-      | inr refused ↦ inr (NoMemory, inl refl, refused)
-    ]) c.print_named_value-status.ensures
+    let found = c.in-Ok.ensures.recovers in
+    IfOk-weaker c.print_value-status.result _ _ (λ status told. inl (found.0, c.in-Ok.tree, found.1, found.2, told)) c.print_value-status.ensures
+
+pub returns-in-Err-clause-reports : goal.returns-in-Err-clause-reports
+returns-in-Err-clause-reports g c = IfOk-weaker c.print_refusal-status.result _ _ (λ status told. inr (c.in-Err.refusal, c.in-Err.ensures.fails, told)) c.print_refusal-status.ensures
