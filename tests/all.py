@@ -55,6 +55,7 @@ TESTS = [
     Test("oom_from", 'FAILALLOC_MODE=from FAILALLOC_ACCEPT="0 1 3" tools/failalloc.py each $trials oom', 60),
     Test("launcher", "tests/launcher.py", 250),
     Test("edits", "tests/edits.py $regtx", 60),
+    Test("store_reads", "tests/store_reads.py $regtx", 60),
     Test("pages", "tests/pages.py", 160),
     Test("damage", "tests/damage.py $regtx", 150),
     Test("store_runs", "tests/store_runs.py $regtx", 140),

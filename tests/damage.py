@@ -311,15 +311,23 @@ def damages():
         yield {f"hive0{at}.dat": mended(GOOD[:24] + u32(6) + GOOD[28:])}, b"E17 Unsupported\n"
 
 
+# the words that read hive 0 alone
+READS_OF_ONE = ("get", "get-raw", "ls")
+
+
 def commands(stores, pool):
-    """What is wrong with each command on a damaged store, which is refused by an opening."""
+    """What is wrong with each command on a damaged store, which is refused by an opening; and with a read of a sound hive of it."""
     sound = {"journal": journal(), "hive00.dat": GOOD, "hive01.dat": GOOD}
     stores.program.put("file.reg", b"Windows Registry Editor Version 5.00\r\n\r\n[HKEY_LOCAL_MACHINE\\B]\r\n")
     results = []
     for words in COMMANDS:
-        results.append(expect(f"{words} on a sound store", stores.ask(sound, *words)[1], 0))
+        told = stores.ask(sound, *words)
+        results.append(expect(f"{words} on a sound store", told[1], 0))
         for files, refusal in damages():
             printed, status, is_same = stores.ask({**sound, **files}, *words)
+            if words[0] in READS_OF_ONE and "hive01.dat" in files:
+                results.append(expect(f"{words} beside {list(files)}", (printed, status, is_same), told))
+                continue
             first, _, rest = printed.partition(b"\n")
             is_alone = not rest or words[0] == "check"
             results.append(expect(f"{words} on {list(files)}", (first + b"\n", is_alone, status, is_same), (refusal, True, 1, True)))
