@@ -84,6 +84,7 @@ TESTS = [
     Test("values", "tests/values.py $regtx", 20),
     Test("file_values", "tests/file_values.py $regtx", 15),
     Test("damaged_parts", "tests/damaged_parts.py $regtx", 40),
+    Test("damaged_readers", "tests/damaged_readers.py $regtx", 20),
     Test("log_machines", "tests/log_machines.py $recoveries", 20),
     Test("recovered_hives", "tests/recovered_hives.py $regtx", 25),
     Test("retries", "$trials retries && tools/failalloc.py each $trials retries", 5),

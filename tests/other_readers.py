@@ -28,7 +28,11 @@ def model(root):
 
 def hivexml(path):
     """The same, as hivexml prints them."""
-    ended = subprocess.run(["hivexml", path], stdout=subprocess.PIPE, check=True)
+    return of_hivexml(subprocess.run(["hivexml", path], stdout=subprocess.PIPE, check=True).stdout)
+
+
+def of_hivexml(printed):
+    """The same of what it printed."""
     keys, values = set(), {}
 
     def walk(node, names):
@@ -43,16 +47,20 @@ def hivexml(path):
         for key in node.findall("node"):
             walk(key, (*names, key.get("name")))
 
-    text = NO_XML.sub("?", ended.stdout.decode(errors="replace"))
+    text = NO_XML.sub("?", printed.decode(errors="replace"))
     walk(xml.etree.ElementTree.fromstring(text).find("node"), ())
     return keys, values
 
 
 def reglookup(path):
     """The same, as reglookup prints them."""
-    ended = subprocess.run(["reglookup", "-H", path], stdout=subprocess.PIPE, stderr=subprocess.DEVNULL, check=True)
+    return of_reglookup(subprocess.run(["reglookup", "-H", path], stdout=subprocess.PIPE, stderr=subprocess.DEVNULL, check=True).stdout)
+
+
+def of_reglookup(printed):
+    """The same of what it printed."""
     keys, values = set(), {}
-    for line in ended.stdout.split(b"\n")[:-1]:
+    for line in printed.split(b"\n")[:-1]:
         where, kind, data = line.split(b",")[:3]
         names = tuple(unquote_to_bytes(name).decode("latin-1") for name in where.split(b"/")[1:])
         names = names[1:] if not names[0] else names  # the root's own name is empty in paths
