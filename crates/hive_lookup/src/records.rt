@@ -55,12 +55,7 @@ fn stored_name<'a>(kind: ListKind, cell: &'a [u8]) -> Result<StoredName<'a>, Ref
 /// The name in the record at an offset, as it is spelled.
 ///
 /// Refused with `BadOffset` if no allocated cell begins there, as the record's own rules refuse it, and with `NoMemory`.
-pub fn record_name(
-    alloc: Global,
-    image: &Image,
-    kind: ListKind,
-    at: u32,
-) -> Result<Name, Refusal>
+pub fn record_name(alloc: Global, image: &Image, kind: ListKind, at: u32) -> Result<Name, Refusal>
     ensures { (cells : Cells) → Shows image.now.bytes cells → MatchResult result
         (λ name. (bytes : List ℕ) × (record_at kind cells at ≡ Ok bytes) × (name ≡ name_in_record kind bytes))
         (λ why. (why ≡ NoMemory) ⊎ (record_at kind cells at ≡ Err why)) }
