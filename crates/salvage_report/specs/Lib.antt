@@ -1,0 +1,4 @@
+pub mod LossTexts
+pub mod Told
+pub mod SinkLaws
+pub mod Reports
