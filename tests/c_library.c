@@ -612,6 +612,12 @@ static void check_files(void)
     bytes[4]++;
     REFUSED(REGTX_NOT_CLEAN, regtx_hive_open(bytes, len, &hive));
     bytes[4]--;
+    /* a hive that was closed is opened, whatever its logs are; bytes that are none are refused */
+    regtx_log logs[2] = {{bytes, len}, {again, 3}};
+    REFUSED(REGTX_TRUNCATED, regtx_hive_recover(bytes, 4, logs, 2, &hive));
+    REFUSED(REGTX_BAD_BASE, regtx_hive_recover(again, len, logs, 2, &hive));
+    EXPECT(regtx_hive_recover(bytes, len, logs, 2, &other) == REGTX_OK);
+    EXPECT(regtx_hive_recover(bytes, len, NULL, 0, &other) == REGTX_OK);
     EXPECT(regtx_hive_open(bytes, len, &other) == REGTX_OK);
     regtx_hive_close(&hive);
     struct text opened = text_of(&other);
@@ -664,6 +670,7 @@ static void check_null(void)
     uint32_t type = 9;
     size_t len = 9;
     EXPECT(regtx_hive_open(NULL, 0, &hive) == REGTX_TRUNCATED);
+    EXPECT(regtx_hive_recover(NULL, 0, NULL, 0, &hive) == REGTX_TRUNCATED);
     EXPECT(regtx_hive_new(&hive) == REGTX_OK);
     EXPECT(regtx_hive_info(&hive, NULL, 0, &info) == REGTX_OK && info.subkeys == 0);
     EXPECT(regtx_hive_create_key(&hive, NULL, 0, 1, &len) == REGTX_OK && len == 0);
@@ -944,8 +951,9 @@ static void check_stack(void)
 
 /* ---- allocations refused in turn */
 
-static uint8_t *given;
-static size_t given_len;
+static uint8_t *given, *unclean;
+static size_t given_len, unclean_len;
+static regtx_log given_log;
 
 /* a cursor goes to the first key without subkeys; a step that is refused leaves it where it is */
 static uint32_t walked(regtx_hive *hive)
@@ -994,19 +1002,23 @@ static uint32_t call_of(int kind, regtx_hive *hive)
         return regtx_hive_delete_tree(hive, PATH("A long name of a key"), 7);
     case 11:
         return walked(hive);
+    case 12:
+        return regtx_hive_recover(unclean, unclean_len, &given_log, 1, hive);
     default:
         return regtx_hive_new(hive);
     }
 }
 
 /* each call with each of its allocations refused in turn: it is refused and changes nothing, until it has all it asks for */
-static void check_failing(const char *name)
+static void check_failing(const char *name, const char *unclean_name, const char *log_name)
 {
     regtx_hive hive = {0};
     long refused = 0;
     given = file_bytes(name, &given_len);
+    unclean = file_bytes(unclean_name, &unclean_len);
+    given_log.bytes = file_bytes(log_name, &given_log.len);
     EXPECT(regtx_hive_new(&hive) == REGTX_OK);
-    for (int kind = 0; kind < 13; kind++)
+    for (int kind = 0; kind < 14; kind++)
         for (long at = 0;; at++) {
             struct text before = text_of(&hive);
             left_until_refusal = at;
@@ -1023,6 +1035,8 @@ static void check_failing(const char *name)
         }
     regtx_hive_close(&hive);
     free(given);
+    free(unclean);
+    free((void *)(uintptr_t)given_log.bytes);
     printf("%ld allocations refused\n", refused);
 }
 
@@ -1219,18 +1233,46 @@ static int with_file(const char *name, const char *copy)
     return code != REGTX_OK || wrong;
 }
 
+/* what a hive's file and its logs make together: its text, or that of the refusal, after which what was open stays */
+static int with_logs(const char *name, int count, char **names)
+{
+    regtx_hive hive = {0};
+    regtx_log logs[9];
+    size_t len;
+    uint8_t *bytes = file_bytes(name, &len);
+    EXPECT(count <= 9 && regtx_hive_new(&hive) == REGTX_OK);
+    struct text before = text_of(&hive);
+    for (int at = 0; at < count; at++)
+        logs[at].bytes = file_bytes(names[at], &logs[at].len);
+    uint32_t code = regtx_hive_recover(bytes, len, logs, (size_t)count, &hive);
+    free(bytes);
+    for (int at = 0; at < count; at++)
+        free((void *)(uintptr_t)logs[at].bytes);
+    struct text after = text_of(&hive);
+    EXPECT(code == REGTX_OK || is_same(&before, &after));
+    struct text told = code == REGTX_OK ? text_of(&hive) : text_of_code(code);
+    printf("%s%s", told.at, code == REGTX_OK ? "" : "\n");
+    drop(&told);
+    drop(&after);
+    drop(&before);
+    regtx_hive_close(&hive);
+    return code != REGTX_OK || wrong;
+}
+
 int main(int count, char **words)
 {
     if (count == 3 && strcmp(words[1], "dump") == 0)
         return with_file(words[2], NULL);
     if (count == 4 && strcmp(words[1], "rewrite") == 0)
         return with_file(words[2], words[3]);
+    if (count >= 3 && strcmp(words[1], "recover") == 0)
+        return with_logs(words[2], count - 3, words + 3);
     if (count == 4 && strcmp(words[1], "heavy") == 0)
         check_heavy(words[2], words[3]);
     else if (count == 4 && strcmp(words[1], "trees") == 0)
         prune(words[2], words[3]);
-    else if (count == 3 && strcmp(words[1], "failing") == 0)
-        check_failing(words[2]);
+    else if (count == 5 && strcmp(words[1], "failing") == 0)
+        check_failing(words[2], words[3], words[4]);
     else if (count == 6 && strcmp(words[1], "mutate") == 0) {
         seed = strtoull(words[3], NULL, 10);
         mutate(words[2], strtol(words[4], NULL, 10), words[5]);

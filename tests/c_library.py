@@ -9,6 +9,7 @@ Each part tells what passed. The last line is 'N passed, N failed', and the stat
   The example of the crate's page, whose hive libregf reads too if regfinfo is there; the header as C++, if there is a compiler, and beside that of the client.
 - races: threads read one hive at once, each by its cursor, while it is edited, under ThreadSanitizer; the library for that is built
   here, without proofs, if the toolchain is there.
+- recoveries: hives that were not closed cleanly, opened by logs of tests/value_machine.py; what is wanted comes of the states.
 - memory: calls with each of their allocations refused in turn.
 - hives: hives that the program wrote, and those of other programs: the library tells the tree that `regtx dump` prints. What it
   writes of them is a hive of the same tree, also for libhivex if hivexml is there.
@@ -30,8 +31,10 @@ TOP = os.path.dirname(os.path.dirname(os.path.abspath(__file__)))
 sys.dont_write_bytecode = True
 sys.path[:0] = [os.path.join(TOP, "tests"), os.path.join(TOP, "runs", "hives")]
 from maker import Key, Value, hive as hive_file  # noqa: E402
+from marvin import PAGE, entry  # noqa: E402
 from other_readers import hivexml  # noqa: E402
 from scratch import are_there, expect, finish, program_at, shown, tell  # noqa: E402
+from value_machine import ValueMachine  # noqa: E402
 
 ID = "00112233-4455-6677-8899-aabbccddeeff"
 SPOILED, SEED, SECONDS = 10_000, 20_250_101, 600
@@ -177,6 +180,30 @@ def trees(program, made):
     yield expect("a pruned hive", program.run("dump", new), (dumped, 0))
 
 
+def unclean_files(program):
+    """A hive that was not closed cleanly, and its log."""
+    machine = ValueMachine()
+    return program.put("unclean.hive", machine.primary(0)), program.put("log", machine.log(machine.entries))
+
+
+def recoveries(program, made):
+    """What the library makes of hives and their logs."""
+    machine = ValueMachine()
+    entries, cut = machine.entries, machine.log(machine.entries)[:-1]
+    torn = b"gerf" + machine.primary(1)[4:]
+    not_clean, bad_log, bad_base = machine.primary(0), b"E15 HiveDamaged 0 BadLog\n", b"E15 HiveDamaged 0 BadBase\n"
+    spoilt = machine.log([entry(100, len(machine.states[1]), [(0, b"x" * PAGE)])])
+    for title, primary, logs, wanted in [
+            ("a log", not_clean, [machine.log(entries)], machine.text(4)), ("from a later state", machine.primary(2), [machine.log(entries)], machine.text(4)),
+            ("two logs", not_clean, [machine.log(entries[2:]), machine.log(entries[:2])], machine.text(4)), ("a log that is cut", not_clean, [cut], machine.text(3)),
+            ("a log of no bytes", not_clean, [b"", machine.log(entries)], machine.text(4)), ("a log of pages", not_clean, [machine.pages(1)], machine.text(1)),
+            ("a torn first sector", torn, [machine.log(entries)], machine.text(4)), ("a closed hive", machine.primary(2, True), [machine.log(entries)], machine.text(2)),
+            ("no log", not_clean, [], bad_log), ("a missing entry", not_clean, [machine.log(entries[1:])], bad_log), ("no hive", b"x" * 5_000, [machine.log([])], bad_base),
+            ("nine logs", not_clean, [b""] * 8 + [machine.log(entries)], machine.text(4)), ("no whole hive", not_clean, [spoilt], b"E15 HiveDamaged 0 BadBin\n")]:
+        names = [program.at(program.put(f"log{at}", log)) for at, log in enumerate(logs)]
+        yield expect(title, told(made, "recover", program.at(program.put("unclean.hive", primary)), *names), (wanted, wanted[:1] == b"E", b""))
+
+
 def spoiled(program, made, hive):
     """All spoiled copies, and each of the sample."""
     os.mkdir(program.at("sample"))
@@ -198,7 +225,8 @@ def main():
         finish([
             tell("calls", list(calls(program, made, folder))),
             *([tell("races", list(races(program)))] if are_there("races", "rt") else []),
-            tell("memory", [wrong_run("failing", told(made, "failing", hive))]),
+            tell("recoveries", list(recoveries(program, made))),
+            tell("memory", [wrong_run("failing", told(made, "failing", hive, *map(program.at, unclean_files(program))))]),
             tell("hives", [wrong_hive(program, made, readers, path) for path in files]),
             tell("heavy", list(heavy(program, made))),
             tell("trees", list(trees(program, made))),

@@ -9,6 +9,7 @@
 - values: makers of each type beside the bytes that the registry's rules give; what data of other lengths stand for.
 - edits: what is set, created and deleted, as hivexregedit, hivexml, reglookup and regfinfo read it; times.
 - refusals: the error of each, with its number, name and text; what isn't there is a KeyError.
+- recoveries: hives that were not closed cleanly, opened by logs that are bytes or files.
 - damage: spoiled copies of hives: each is refused, or read to its end and written.
 - lives: closed hives, and what goes on after them; threads; the memory of 10,000 openings.
 - files: a written file takes the place of the old one, synced; what is left if a write is refused, or ended at each of its calls.
@@ -45,6 +46,7 @@ from maker import Value as Made  # noqa: E402
 from other_readers import READERS  # noqa: E402
 from regtx_hive import Cursor, Hive, HiveError, Kind, NotFound, Value  # noqa: E402
 from scratch import Program, are_there, expect, finish, limited, noting_library, skip, tell  # noqa: E402
+from value_machine import ValueMachine  # noqa: E402
 
 MOST_SECONDS, SEED, TREES, SPOILED, CRATE_SPOILED, OPENINGS, MOST_KEYS = 900, 20_261, 12, 1_500, 40, 10_000, 200
 SOFTWARE = os.path.join(TOP, "examples", "software.dat")
@@ -407,6 +409,24 @@ def caught(call):
     return None
 
 
+def recoveries(program):
+    machine = ValueMachine()
+    unclean, log = machine.primary(0), machine.log(machine.entries)
+    with Hive.recover(unclean, machine.log(machine.entries[2:]), machine.log(machine.entries[:2])) as opened:
+        yield expect("two logs", opened["k"].values["v"].data, machine.data(4))
+    for name, content in (("unclean", unclean), ("log", log)):
+        with open(program.at(name), "wb") as file:
+            file.write(content)
+    with Hive.recover(program.at("unclean"), program.at("log")) as opened:
+        yield expect("files", opened["k"].values["v"].data, machine.data(4))
+    with Hive.recover(machine.primary(2, True), log) as opened:
+        yield expect("a closed hive", opened["k"].values["v"].data, machine.data(2))
+    bad_log = (1510, "REGTX_BAD_LOG", "E15 HiveDamaged 0 BadLog", True, False)
+    for title, logs in (("no log", []), ("a log of no bytes", [b""]), ("a missing entry", [machine.log(machine.entries[1:])])):
+        yield expect(title, told(lambda: Hive.recover(unclean, *logs)), bad_log)  # pylint: disable=cell-var-from-loop
+    yield expect("what an error says", str(caught(lambda: Hive.recover(program.at("unclean")))), f"{program.at('unclean')}: E15 HiveDamaged 0 BadLog")
+
+
 def spoiled_files():
     """Copies of hives with a few bytes of other numbers, some of them cut."""
     chance = random.Random(SEED)
@@ -656,8 +676,8 @@ def main():
     regtx_hive.load(folder)
 
     trees = {title: (hive(tree)[0], list(of_model(tree))) for title, tree in made_trees().items()}
-    parts = {"made": made, "others": others, "fields": fields, "values": values, "edits": edits, "refusals": refusals, "damage": damage, "lives": lives,
-             "files": files, "loading": lambda program: loading(program, folder), "pages": pages,
+    parts = {"made": made, "others": others, "fields": fields, "values": values, "edits": edits, "refusals": refusals, "recoveries": recoveries, "damage": damage,
+             "lives": lives, "files": files, "loading": lambda program: loading(program, folder), "pages": pages,
              "rust": lambda program: rust(program, folder, trees, list(spoiled_files())[:CRATE_SPOILED])}
     with tempfile.TemporaryDirectory(prefix="hive_bindings-") as home:
         finish([tell(name, list(results(part, os.path.join(home, name)))) for name, part in parts.items()])

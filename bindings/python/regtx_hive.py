@@ -66,6 +66,11 @@ class _About(ctypes.Structure):
     _fields_ = [("kind", ctypes.c_uint32), ("name_len", ctypes.c_size_t), ("len", ctypes.c_size_t)]
 
 
+class _Log(ctypes.Structure):
+    """`regtx_log` of C."""
+    _fields_ = [("bytes", ctypes.c_char_p), ("len", ctypes.c_size_t)]
+
+
 _read_about = struct.Struct("@INN").unpack_from
 # a handle or another place; bytes that are read with their length; a room with its size and the length of what there is
 _AT, _READ, _ROOM = [ctypes.c_void_p], [ctypes.c_char_p, ctypes.c_size_t], [ctypes.c_void_p, ctypes.c_size_t, ctypes.c_void_p]
@@ -73,6 +78,7 @@ _U32, _U64, _CODE = [ctypes.c_uint32], [ctypes.c_uint64], ctypes.c_uint32
 # calls that may take long, while other threads of Python run
 _LONG: Dict[str, Tuple[Any, Any]] = {
     "hive_open": (_CODE, [*_READ, *_AT]),
+    "hive_recover": (_CODE, [*_READ, ctypes.POINTER(_Log), ctypes.c_size_t, *_AT]),
     "hive_new": (_CODE, _AT),
     "hive_close": (None, _AT),
     "hive_create_key": (_CODE, [*_AT, *_READ, *_U64, *_AT]),
@@ -351,6 +357,14 @@ def datetime_of(moment: int) -> datetime:
 
 # ---- hives
 
+def _content_of(source: Union[Content, FilePath]) -> Tuple[bytes, str]:
+    """The bytes that are given, or those of a file and its path."""
+    if isinstance(source, (bytes, bytearray, memoryview)):
+        return bytes(source), ""
+    with open(source, "rb") as file:
+        return file.read(), os.fspath(source)
+
+
 class Hive:
     r"""A hive in memory: `Hive.open` reads one, `Hive.new` makes one. In a `with` it is closed at the end.
 
@@ -358,14 +372,22 @@ class Hive:
     keys is refused with the code 100; cursors and walks go on.
     """
 
-    def __init__(self, content: Optional[bytes] = None, about: str = "") -> None:
-        """`Hive.open` of bytes, or `Hive.new`. What it is about stands in an error."""
+    def __init__(self, content: Optional[bytes] = None, about: str = "", logs: Optional[Sequence[bytes]] = None) -> None:
+        """`Hive.open` of bytes, `Hive.recover` of bytes, or `Hive.new`. What it is about stands in an error."""
         self._library, self._lock, self._handle = _loaded(), threading.Lock(), _Handle()
         self._at, self._data = ctypes.byref(self._handle), ctypes.create_string_buffer(_DATA_ROOM)
         self._moment: Optional[int] = None
         self._size = 0 if content is None else len(content)
-        opened = self._library.hive_new(self._at) if content is None else self._library.hive_open(content, len(content), self._at)
-        self._library.check(opened, *([about] if about else []))
+        self._library.check(self._opened(content, logs), *([about] if about else []))
+
+    def _opened(self, content: Optional[bytes], logs: Optional[Sequence[bytes]]) -> int:
+        """The number that an opening answers."""
+        if content is None:
+            return self._library.hive_new(self._at)
+        if logs is None:
+            return self._library.hive_open(content, len(content), self._at)
+        given = (_Log * max(len(logs), 1))(*[(log, len(log)) for log in logs])
+        return self._library.hive_recover(content, len(content), given, len(logs), self._at)
 
     @classmethod
     def new(cls) -> Hive:
@@ -379,10 +401,16 @@ class Hive:
         It is read as it is, without a log. Raises HiveError, whose `is_damage` is true if the bytes are no whole hive; and OSError if the
         file can't be read.
         """
-        if isinstance(source, (bytes, bytearray, memoryview)):
-            return cls(bytes(source))
-        with open(source, "rb") as file:
-            return cls(file.read(), os.fspath(source))
+        return cls(*_content_of(source))
+
+    @classmethod
+    def recover(cls, source: Union[Content, FilePath], *logs: Union[Content, FilePath]) -> Hive:
+        """Opens the hive that a file and its logs make together: what Windows finds at its next start. The logs are in any order.
+
+        A hive that was closed cleanly is opened as it is. Raises as `Hive.open` does, with the code 1510 if no log fits.
+        """
+        content, about = _content_of(source)
+        return cls(content, about, [_content_of(log)[0] for log in logs])
 
     def __enter__(self) -> Hive:
         return self

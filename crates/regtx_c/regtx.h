@@ -14,8 +14,9 @@
  * there is. With REGTX_NO_ROOM the room is too small, and the buffer is as it was; call again with `*len` of room. With
  * any other number but REGTX_OK neither buffer nor `*len` is written. What lies in a buffer behind `*len` stays.
  *
- * Null. A pointer to units or bytes may be null if their number is 0, and a buffer if its room is 0. That is so of the
- * calls as this header declares them. The library's own symbols, which other languages load, want a pointer there too.
+ * Null. A pointer to units, bytes or logs may be null if their number is 0, and a buffer if its room is 0. That is so of
+ * the calls as this header declares them. The library's own symbols, which other languages load, want a pointer there too,
+ * and so does a log of no bytes.
  *
  * Weight. A key weighs 192 and the bytes of its name, its class and its security descriptor, a value 128 and the bytes of
  * its name and its data; a name has two bytes a unit. A hive of any weight is opened and read. One that weighs more than
@@ -97,9 +98,9 @@ enum {
     REGTX_BAD_LIST = 1507,   /* a list of subkeys is wrong */
     REGTX_BAD_STORED_NAME = 1508, /* a name is wrong, or is there twice below one key */
     REGTX_SHARED = 1509,     /* a cell is reached twice */
-    REGTX_BAD_LOG = 1510,    /* no call here answers this one, 1512 and 1513 */
+    REGTX_BAD_LOG = 1510,    /* the hive was not closed cleanly, and no log fits, or bytes are in none */
     REGTX_NOT_CLEAN = 1511,  /* the hive was not closed cleanly */
-    REGTX_BAD_STORE = 1512,
+    REGTX_BAD_STORE = 1512,  /* no call here answers this one and 1513 */
     REGTX_HIVE_TOO_LARGE = 1513
 };
 
@@ -110,6 +111,12 @@ typedef struct {
         void *at;
     } held;
 } regtx_hive;
+
+/* The `len` bytes of a log that Windows wrote beside a hive file, such as those of SYSTEM.LOG1. */
+typedef struct {
+    const uint8_t *bytes;
+    size_t len;
+} regtx_log;
 
 /* An open cursor, or none. Set it to zero before its first use: `regtx_cursor cursor = {0};`. */
 typedef struct {
@@ -139,6 +146,18 @@ uint32_t regtx_version(bool *is_proved);
  * Refused, whichever is found first: any number from 1501 on, REGTX_UNSUPPORTED, REGTX_TOO_LARGE (of bins data over 64
  * MiB, and of a path of more than 512 names). */
 uint32_t regtx_hive_open(const uint8_t *file, size_t len, regtx_hive *hive);
+
+/* Opens the hive that the `len` bytes of a hive file and `count` logs make together: what Windows finds at its next start,
+ * if the hive was not closed cleanly. The logs are in any order, of one kind or of both. They are the hive's own: nothing
+ * in a log says whose it is. If the hive was closed cleanly, no log counts, and it is opened as by regtx_hive_open.
+ * Otherwise each byte of it is of the file or of a log, and entries of logs are applied strictly in turn; a log that is
+ * torn gives an earlier state, whole. The bytes are copied and may go. What was open by the handle before is closed; if
+ * the call is refused, it stays open. The call takes four times the bins data of memory for a while.
+ * Refused, whichever is found first: REGTX_BAD_LOG if no log fits, or bytes of the hive are in none of them;
+ * REGTX_TRUNCATED and REGTX_BAD_BASE of a file that is none, if no log fits; REGTX_UNSUPPORTED; REGTX_TOO_LARGE. Then as
+ * regtx_hive_open refuses the file that the logs make: any number from 1501 on, and REGTX_TOO_LARGE of a path of more
+ * than 512 names. */
+uint32_t regtx_hive_recover(const uint8_t *file, size_t len, const regtx_log *logs, size_t count, regtx_hive *hive);
 
 /* Opens a new hive: a root with the name ROOT, without time, subkeys and values, that is not to be deleted. What was open
  * by the handle before is closed. */
@@ -295,6 +314,14 @@ static inline uint32_t regtx_hive_open_or_null(const uint8_t *file, size_t len, 
     return regtx_hive_open(regtx_hive_bytes(file, len), len, hive);
 }
 
+static inline uint32_t regtx_hive_recover_or_null(const uint8_t *file, size_t len, const regtx_log *logs, size_t count,
+                                                  regtx_hive *hive)
+{
+    static const uint8_t none = 0;
+    static const regtx_log no_log = {&none, 0};
+    return regtx_hive_recover(regtx_hive_bytes(file, len), len, count ? logs : &no_log, count, hive);
+}
+
 static inline uint32_t regtx_hive_flags_or_null(regtx_hive *hive, const uint16_t *path, size_t path_len,
                                                 uint16_t *flags)
 {
@@ -419,6 +446,7 @@ static inline uint32_t regtx_code_name_or_null(uint32_t code, uint8_t *name, siz
 }
 
 #define regtx_hive_open regtx_hive_open_or_null
+#define regtx_hive_recover regtx_hive_recover_or_null
 #define regtx_hive_info regtx_hive_info_or_null
 #define regtx_hive_flags regtx_hive_flags_or_null
 #define regtx_hive_class regtx_hive_class_or_null

@@ -50,11 +50,19 @@ pub struct About {
     pub len: usize,
 }
 
+/// The bytes of a log; `regtx_log` of C.
+#[repr(C)]
+struct Log {
+    bytes: *const u8,
+    len: usize,
+}
+
 #[rustfmt::skip]
 #[link(name = "regtx")]
 extern "C" {
     fn regtx_version(is_proved: *mut bool) -> u32;
     fn regtx_hive_open(file: *const u8, len: usize, hive: *mut Handle) -> u32;
+    fn regtx_hive_recover(file: *const u8, len: usize, logs: *const Log, count: usize, hive: *mut Handle) -> u32;
     fn regtx_hive_new(hive: *mut Handle) -> u32;
     fn regtx_hive_close(hive: *mut Handle);
     fn regtx_hive_info(hive: *mut Handle, path: *const u16, path_len: usize, info: *mut Info) -> u32;
@@ -117,6 +125,28 @@ impl OpenHive {
         // SAFETY: as at the head of this module. The library copies the bytes.
         Error::of(unsafe { regtx_hive_open(file.as_ptr(), file.len(), &mut hive.0) })?;
         Ok(hive)
+    }
+
+    pub fn recover(file: &[u8], logs: &[&[u8]]) -> Result<OpenHive, Error> {
+        let mut hive = OpenHive(Handle::none());
+        let logs: Vec<Log> = logs
+            .iter()
+            .map(|log| Log {
+                bytes: log.as_ptr(),
+                len: log.len(),
+            })
+            .collect();
+        // SAFETY: as at the head of this module. The slices outlive the call, and the library copies the bytes.
+        let code = unsafe {
+            regtx_hive_recover(
+                file.as_ptr(),
+                file.len(),
+                logs.as_ptr(),
+                logs.len(),
+                &mut hive.0,
+            )
+        };
+        Error::of(code).map(|()| hive)
     }
 
     pub fn new() -> Result<OpenHive, Error> {

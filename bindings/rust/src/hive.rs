@@ -43,6 +43,14 @@ impl Hive {
         Ok(Hive::of(OpenHive::open(file)?, file.len()))
     }
 
+    /// Opens the hive that the bytes of a file and of its logs make together: what Windows finds at its
+    /// next start. The logs are in any order. A hive that was closed cleanly is opened as it is.
+    ///
+    /// Refused as [`Hive::open`] is, and with the code 1510 if no log fits.
+    pub fn recover(file: &[u8], logs: &[&[u8]]) -> Result<Hive, Error> {
+        Ok(Hive::of(OpenHive::recover(file, logs)?, file.len()))
+    }
+
     /// A new hive: a root with the name ROOT and nothing in it.
     pub fn new() -> Result<Hive, Error> {
         Ok(Hive::of(OpenHive::new()?, 0))

@@ -200,6 +200,24 @@ fn refusals_have_a_number_a_name_and_a_text() {
 }
 
 #[test]
+fn a_hive_is_recovered_by_its_logs() {
+    let mut bytes = vendor().to_bytes().unwrap();
+    // of a hive that was closed no log is asked
+    let opened = Hive::recover(&bytes, &[b"no log", b""]).unwrap();
+    assert_eq!(opened.key("Software\\Vendor").unwrap().values, 2);
+    // another first number, and the sum of it
+    bytes[4] ^= 3;
+    bytes[508] ^= 3;
+    let wanted = (
+        1510,
+        "REGTX_BAD_LOG".into(),
+        "E15 HiveDamaged 0 BadLog".into(),
+    );
+    assert_eq!(refusal(Hive::recover(&bytes, &[])), wanted);
+    assert_eq!(refusal(Hive::recover(&bytes, &[b"", b"no log"])), wanted);
+}
+
+#[test]
 fn what_is_deleted_is_gone() {
     let mut hive = vendor();
     hive.at(Some(9));

@@ -9,3 +9,4 @@ pub mod Deletions
 pub mod Ways
 pub mod Parts
 pub mod CursorAnswers
+mod Recoveries

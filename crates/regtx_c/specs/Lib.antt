@@ -16,3 +16,4 @@ pub mod Parts
 pub mod Places
 pub mod Ways
 pub mod Cursors
+pub mod Recoveries

@@ -24,6 +24,7 @@ mod loose;
 mod names;
 mod opening;
 mod reads;
+mod recovery;
 mod room;
 mod steps;
 mod texts;

@@ -38,14 +38,11 @@ fn copied(alloc: Global, bytes: &[u8]) -> Result<Vec<u8>, AllocError>
     bytes.to_vec(alloc)
 }
 
-// the hive of a file in memory
-fn loaded(alloc: Global, file: &[u8]) -> Result<Box<Block, Global>, Refusal>
-    ensures holds { IfOk result (λ block. FileHoldsShallowTree file.now block.value.tree) }
-    ensures refused { IfErr result (ShallowFileRefusedAs 0 file.now) }
+/// The hive of a file in memory. Refused as [`load_file_any_weight`] is.
+pub(crate) fn loaded(alloc: Global, copy: Vec<u8>) -> Result<Box<Block, Global>, Refusal>
+    ensures holds { IfOk result (λ block. FileHoldsShallowTree copy.items block.value.tree) }
+    ensures refused { IfErr result (ShallowFileRefusedAs 0 copy.items) }
 {
-    let Ok(copy) = copied(alloc, file) else {
-        return Err(Refusal::NoMemory);
-    };
     let held = match load_file_any_weight(alloc, copy, HIVE) {
         Ok(held) => held,
         Err(why) => return Err(why),
@@ -56,6 +53,17 @@ fn loaded(alloc: Global, file: &[u8]) -> Result<Box<Block, Global>, Refusal>
     }
 }
 
+// the hive of a file in memory, of which a copy is taken
+fn loaded_copy(alloc: Global, file: &[u8]) -> Result<Box<Block, Global>, Refusal>
+    ensures holds { IfOk result (λ block. FileHoldsShallowTree file.now block.value.tree) }
+    ensures refused { IfErr result (ShallowFileRefusedAs 0 file.now) }
+{
+    let Ok(copy) = copied(alloc, file) else {
+        return Err(Refusal::NoMemory);
+    };
+    loaded(alloc, copy)
+}
+
 /// Opens the hive that the bytes of a file hold. The bytes are read as a primary file without a log, and not kept. What
 /// was open by the handle before is closed. The hive may have any weight.
 ///
@@ -64,7 +72,7 @@ fn loaded(alloc: Global, file: &[u8]) -> Result<Box<Block, Global>, Refusal>
 pub extern "C" fn regtx_hive_open(alloc: Global, file: &[u8], hive: &mut Handle) -> u32
     ensures { IsOpened file.now (tree_in hive.old) (tree_in hive.new) result }
 {
-    match loaded(alloc, file) {
+    match loaded_copy(alloc, file) {
         Ok(block) => {
             put(alloc, hive, Some(block));
             OK
