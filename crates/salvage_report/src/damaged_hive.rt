@@ -93,9 +93,15 @@ fn judged_block(file: &[u8]) -> Result<BaseBlock, Refusal> {
         return Err(Refusal::from(Cause::BadBase));
     }
     match block.judge_primary() {
-        Err(Refusal::Unsupported) if block.sum_is_right => Err(Refusal::Unsupported),
+        Err(why) if block.sum_is_right && is_decided(why) => Err(why),
         _ => Ok(block),
     }
+}
+
+// whether a refusal of a base block whose sum is right is that of its hive: of a version or a type, or of a size. Else the size is
+// wrong, and all that follows the base block is taken
+fn is_decided(why: Refusal) -> bool {
+    matches!(why, Refusal::Unsupported | Refusal::TooLarge)
 }
 
 // the bins data of a file, as many as its base block says if its sum is right; and what is to be told

@@ -33,6 +33,16 @@ pub enum ReportError {
     Write(io::Error),
 }
 
+impl From<io::Error> for ReportError {
+    ghost use Rattle.salvage_report.specs.declared.forms.ReportError.TheVariants as report_error;
+
+    ghost from_gives = { λ error report. report ≡ report_error.Write error };
+
+    fn from(error: io::Error) -> ReportError {
+        ReportError::Write(error)
+    }
+}
+
 /// Prints the beginning of a registration file, and in it the keys at a path and below it, behind a prefix. Losses are told. A key
 /// with a name that the file can't show is left out, and this is told.
 pub fn print_reg<W: Write, L: Write>(
