@@ -85,6 +85,7 @@ TESTS = [
     Test("file_values", "tests/file_values.py $regtx", 15),
     Test("damaged_parts", "tests/damaged_parts.py $regtx", 40),
     Test("damaged_readers", "tests/damaged_readers.py $regtx", 20),
+    Test("salvaged_hives", "tests/salvaged_hives.py $regtx", 120),
     Test("log_machines", "tests/log_machines.py $recoveries", 20),
     Test("recovered_hives", "tests/recovered_hives.py $regtx", 25),
     Test("retries", "$trials retries && tools/failalloc.py each $trials retries", 5),

@@ -7,6 +7,9 @@ const NOT_KEPT: u8 = 3;
 /// The status that says that a file was made which is no whole hive.
 const NOT_WHOLE: u8 = 3;
 
+/// The status that says that something of a damaged hive was left out.
+const LEFT_OUT: u8 = 3;
+
 /// How the program ends.
 #[derive(Clone, Copy, Debug, PartialEq, Eq)]
 pub enum Ending {
@@ -16,6 +19,8 @@ pub enum Ending {
     NotKept,
     /// `recover-damaged` has made a file that is no whole hive.
     NotWhole,
+    /// `salvage` has printed a hive, and told what isn't printed of it.
+    LeftOut,
 }
 
 impl Ending {
@@ -25,6 +30,7 @@ impl Ending {
             Ending::Replied(status) => status.code(),
             Ending::NotKept => NOT_KEPT,
             Ending::NotWhole => NOT_WHOLE,
+            Ending::LeftOut => LEFT_OUT,
         }
     }
 }

@@ -6,8 +6,8 @@
 //! standard error is a terminal, or `REGTX_HINTS` is `1`, it shows why something can't be done. If standard output is
 //! no terminal, standard error also shows on a terminal how far a long script is read. The status is 0 if no refusal
 //! was printed. It is 1 if one was, a script or a file can't be read, a store can't be made or opened, or a write fails.
-//! It is 2 at a line that is none or at wrong words, and 3 if `kept` finds nothing, or if `recover-damaged` makes a file that is
-//! no whole hive.
+//! It is 2 at a line that is none or at wrong words, and 3 if `kept` finds nothing, if `recover-damaged` makes a file that is
+//! no whole hive, or if `salvage` leaves something out.
 #![tactic(auto)]
 
 mod about;
@@ -27,6 +27,7 @@ mod lock_wait;
 mod made_file;
 mod read_command;
 mod recover_command;
+mod salvage_command;
 mod script_commands;
 mod serve_command;
 mod served_file;
@@ -55,6 +56,7 @@ use crate::kept_command::{parse_kept, tell_kept};
 use crate::lock_wait::{Access, LockWait, take_wait};
 use crate::read_command::read_source;
 use crate::recover_command::recover_hive;
+use crate::salvage_command::salvage_hive;
 use crate::script_commands::{InMemory, play_script, run_script};
 use crate::serve_command::serve_store;
 use crate::store_commands::{import_store, new_store, upgrade_store};
@@ -174,6 +176,9 @@ fn run<
 {
     let replied = match parse_task(rt.alloc(), words)? {
         Task::Recover(asked) => return recover_hive(rt, output, &asked),
+        Task::Salvage { file, form, words } => {
+            return salvage_hive(rt, output, file, form, &words);
+        }
         Task::Play { script } => play_script(rt, output, InMemory::Play, script),
         Task::Lab { script } => play_script(rt, output, InMemory::Lab, script),
         Task::Sweep { script } => play_script(rt, output, InMemory::Sweep, script),

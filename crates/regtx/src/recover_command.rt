@@ -25,7 +25,7 @@ use std::rt::Files;
 pub const MOST_LOGS: usize = 8;
 
 /// The bytes of a hive's file up to the end of the largest bins data. None of what follows is part of a hive.
-const MOST_FILE_BYTES: usize = 4_096 + MOST_BINS_BYTES;
+pub const MOST_FILE_BYTES: usize = 4_096 + MOST_BINS_BYTES;
 
 /// The most bytes of a log: twice those of the largest bins data.
 const MOST_LOG_BYTES: usize = 2 * MOST_BINS_BYTES;
@@ -127,8 +127,8 @@ fn recovery_of<'a, R: Files + Input + AllocGlobal>(
     }
 }
 
-// the first bytes of a file, at most so many
-fn bytes_of<'a, R: Files + Input + AllocGlobal>(
+/// The first bytes of a file, at most so many.
+pub fn bytes_of<'a, R: Files + Input + AllocGlobal>(
     rt: &R,
     path: &'a str,
     most: usize,

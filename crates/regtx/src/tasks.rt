@@ -80,6 +80,15 @@ pub enum Task<'a> {
         /// The words after it.
         words: Vec<&'a str>,
     },
+    /// `salvage FILE [HIVE:PATH]`, or in another form: what is left of a damaged hive is to be printed.
+    Salvage {
+        /// The path of the hive's file.
+        file: &'a str,
+        /// How keys are printed.
+        form: ExportForm,
+        /// The words after it.
+        words: Vec<&'a str>,
+    },
     /// `get`, `get-raw` or `ls`: something is to be read of a store or of a hive's file.
     Read {
         /// The folder of a store, or the path of a hive's file.

@@ -18,7 +18,7 @@ impl fmt::Display for Usage {
 }
 
 /// How each command is used.
-pub const USAGES: [Usage; 33] = [
+pub const USAGES: [Usage; 37] = [
     Usage {
         name: "new",
         call: "new DIR ID COUNT",
@@ -118,6 +118,26 @@ pub const USAGES: [Usage; 33] = [
         name: "export-tsv",
         call: "export-tsv SOURCE [HIVE:PATH]",
         does: "prints it as fields between tabs, a line each",
+    },
+    Usage {
+        name: "salvage",
+        call: "salvage FILE [HIVE:PATH]",
+        does: "prints what is left of a damaged hive as `export` does, and tells what isn't; status 3 if something isn't",
+    },
+    Usage {
+        name: "salvage-utf8",
+        call: "salvage-utf8 FILE [HIVE:PATH]",
+        does: "prints it as `export-utf8` does",
+    },
+    Usage {
+        name: "salvage-json",
+        call: "salvage-json FILE [HIVE:PATH]",
+        does: "prints it as `export-json` does",
+    },
+    Usage {
+        name: "salvage-tsv",
+        call: "salvage-tsv FILE [HIVE:PATH]",
+        does: "prints it as `export-tsv` does",
     },
     Usage {
         name: "dump",

@@ -90,6 +90,10 @@ fn parse_file_task<'a>(
         "export-utf8" => export_task(alloc, ExportForm::RegUtf8, given),
         "export-json" => export_task(alloc, ExportForm::Json, given),
         "export-tsv" => export_task(alloc, ExportForm::Tsv, given),
+        "salvage" => salvage_task(alloc, ExportForm::Reg, given),
+        "salvage-utf8" => salvage_task(alloc, ExportForm::RegUtf8, given),
+        "salvage-json" => salvage_task(alloc, ExportForm::Json, given),
+        "salvage-tsv" => salvage_task(alloc, ExportForm::Tsv, given),
         "check" => Ok(Task::Check {
             source: text(given, "SOURCE")?,
             logs: words_after(alloc, given)?,
@@ -166,6 +170,19 @@ fn export_task<'a>(
     })
 }
 
+// what the words of a salvage ask for
+fn salvage_task<'a>(
+    alloc: Global,
+    form: ExportForm,
+    given: &ArgMatches<'a>,
+) -> Result<Task<'a>, CommandError<'a>> {
+    Ok(Task::Salvage {
+        file: text(given, "SOURCE")?,
+        form,
+        words: words_after(alloc, given)?,
+    })
+}
+
 // the words that may follow
 fn words_after<'a>(
     alloc: Global,
@@ -196,6 +213,10 @@ fn command<'a>(alloc: Global) -> Result<Command<'a>, AllocError> {
     let all = with_export(alloc, all, "export-utf8")?;
     let all = with_export(alloc, all, "export-json")?;
     let all = with_export(alloc, all, "export-tsv")?;
+    let all = with_export(alloc, all, "salvage")?;
+    let all = with_export(alloc, all, "salvage-utf8")?;
+    let all = with_export(alloc, all, "salvage-json")?;
+    let all = with_export(alloc, all, "salvage-tsv")?;
     let all = with_check(alloc, all)?;
     let all = with_follow(alloc, all)?;
     let all = with_recover(alloc, all, "recover")?;
