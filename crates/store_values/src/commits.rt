@@ -35,6 +35,7 @@ pub fn find_commit<D: Disk, W: Write>(
     ensures synced { D.faithful result.0 → OnlySyncs (D.state_at disk) (D.state_at result.0)
         (D.clock disk) (D.clock result.0) }
 {
+    store_hive::laws::as_the_store_recovers();
     let mut disk = disk;
     match outcome_tree(alloc, &mut disk) {
         Ok(tree) => {

@@ -19,7 +19,9 @@ use std::mem::forget;
 use store_hive::named_tree;
 
 /// Prints a value in a form: its type and data in a line, or its data alone. The journal and the hive's own two files are
-/// read and synced, and not written. No file of another hive is touched. The disk is handed back.
+/// read and synced, and not written. No file of another hive is touched. The disk is handed back. The tree that is read is
+/// the one that an opening of the whole store recovers, if it recovers anything
+/// ([`laws::as_the_store_recovers`](store_hive::laws::as_the_store_recovers)).
 ///
 /// The memory of the hive's tree isn't given back. A program that prints one value ends then, and taking the tree apart
 /// would take it a tenth more time.
@@ -40,6 +42,7 @@ pub fn get_value<D: Disk, W: Write>(
     ensures synced { D.faithful result.0 → OnlySyncs (D.state_at disk) (D.state_at result.0)
         (D.clock disk) (D.clock result.0) }
 {
+    store_hive::laws::as_the_store_recovers();
     let mut disk = disk;
     match named_tree(alloc, &mut disk, hive) {
         Ok(tree) => {
@@ -71,6 +74,7 @@ pub fn list_key<D: Disk, W: Write>(
     ensures synced { D.faithful result.0 → OnlySyncs (D.state_at disk) (D.state_at result.0)
         (D.clock disk) (D.clock result.0) }
 {
+    store_hive::laws::as_the_store_recovers();
     let mut disk = disk;
     match named_tree(alloc, &mut disk, hive) {
         Ok(tree) => {
