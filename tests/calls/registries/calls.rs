@@ -356,11 +356,13 @@ impl<'a, E: StoreEngine, O: Start, R: Wait> Calls<'a, E, O, R> {
     ) -> Result<Receipt<O>, Refusal> {
         let unit = Uuid::nil();
         match self.registry.transact(self.rt, session, unit, moment, ops) {
-            Ok(WholeCommit {
-                receipt,
-                told: _,
-                handle: None,
-            }) => Ok(receipt),
+            Ok(
+                WholeCommit {
+                    receipt,
+                    told: _,
+                    handle: None,
+                },
+            ) => Ok(receipt),
             Ok(_) => Err(Refusal::NoSuchHandle),
             Err(why) => Err(why.refusal().unwrap_or(Refusal::NoMemory)),
         }
