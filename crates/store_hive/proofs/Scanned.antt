@@ -25,11 +25,11 @@ use Rattle.recovery.specs.ReplayLaws.{lacked_append}
 use Rattle.recovery.specs.Retained.{above_number}
 use Rattle.recovery.proofs.Replays.{nowhere_on}
 use Rattle.store_hive.specs.RefusedHives.{HiveIsWrong}
-use Rattle.store_hive.specs.Replays.{Replays}
+use Rattle.store_hive.specs.Replays.{ReplaysOnHive}
 use Rattle.store_hive.specs.declared.hive_replay.HiveReplay.{HiveReplay}
 use Rattle.store_hive.proofs.Lacked.{content_with, items_above, items_numbered, items_timed, ops_numbered}
 
-module _ (begin after : HiveReplay) (taken : List NumberedChange) (took : Replays begin after taken) where
+module _ (begin after : HiveReplay) (taken : List NumberedChange) (took : ReplaysOnHive begin after taken) where
   -- all changes of a journal were replayed
   pub led : (base : ℕ) (es : List Element) → taken ≡ numbered base es → replayed_on (content_with base es) begin.hive (begin.tree, begin.number) ≡ Some after.tree
   led base es all =

@@ -22,7 +22,7 @@ use Rattle.recovery.specs.Recovered.{IsFileRefusal, seen_in}
 use Rattle.recovery.specs.Refused.{IsInStore}
 use Rattle.store_hive.specs.LedTrees.{HoldsBeside, IsLed, TellsOfHive}
 use Rattle.store_hive.specs.RefusedHives.{HiveIsWrong, IsAfterNamed, RecoversNoNamedTree, RecoversNoOutcomes, RecoversNoTree}
-use Rattle.store_hive.specs.Replays.{IsIllegal, NotReplayed, Replays}
+use Rattle.store_hive.specs.Replays.{IsIllegalOnHive, NotReplayedOnHive, ReplaysOnHive}
 use Rattle.store_hive.specs.declared.held_tree.HeldTree.{HeldTree}
 use Rattle.store_hive.specs.declared.hive_replay.HiveReplay.{HiveReplay}
 use Rattle.store_hive.proofs.Lacked.{content_with}
@@ -39,7 +39,7 @@ module _ (begin after : HiveReplay) (hive : ℕ) (held : HeldTree) (hive_is : be
       (subst (λ t. Holds store (files (primary_file hive)) (files (log_file hive)) (t, held.number)) (sym tree_is) beside.holds))
 
   -- the whole journal was replayed
-  pub led_to : (faithful : Type 0) (then now : ℕ → FileState) → (then journal_file).seen ≡ bytes → (journal : Journal) → IsScanned faithful store then now journal → Replays begin after (numbered (choice_of journal).now.below (changes_of journal)) → IsStore store → hive < all_hives store
+  pub led_to : (faithful : Type 0) (then now : ℕ → FileState) → (then journal_file).seen ≡ bytes → (journal : Journal) → IsScanned faithful store then now journal → ReplaysOnHive begin after (numbered (choice_of journal).now.below (changes_of journal)) → IsStore store → hive < all_hives store
       → (last : ℕ) → last ≡ top 0 (choice_of journal).now → faithful → IsLed files store hive (record { tree = after.tree; number = after.number; last = last })
   led_to faithful then now seen journal is took store_is there last last_is f =
       let content = content_with (choice_of journal).now.below (changes_of journal) in
@@ -58,7 +58,7 @@ module _ (begin after : HiveReplay) (hive : ℕ) (held : HeldTree) (hive_is : be
       }
 
   -- a change of the journal was not taken
-  pub illegal_next : IsStore store → hive < all_hives store → IsOnlyStore bytes store → (taken : List NumberedChange) → Replays begin after taken → (change : NumberedChange) → JournalBegins bytes (taken ++ change ∷ []) → IsIllegal after change → HiveIsWrong files hive refusal.JournalDamaged
+  pub illegal_next : IsStore store → hive < all_hives store → IsOnlyStore bytes store → (taken : List NumberedChange) → ReplaysOnHive begin after taken → (change : NumberedChange) → JournalBegins bytes (taken ++ change ∷ []) → IsIllegalOnHive after change → HiveIsWrong files hive refusal.JournalDamaged
   illegal_next is there only taken took change begins none =
       subst (λ n. HiveIsWrong files n refusal.JournalDamaged) hive_is
       (scanned.wrong begin after taken took files store is (subst (λ n. n < all_hives store) (sym hive_is) there) (subst (λ (l : List ℕ). IsOnlyStore l store) (sym beside.same) only) own_holds
@@ -66,18 +66,18 @@ module _ (begin after : HiveReplay) (hive : ℕ) (held : HeldTree) (hive_is : be
 
 -- why a scan is refused whose sink replays the changes
 pub scan_refused : (begin after : HiveReplay) (hive : ℕ) (held : HeldTree) → begin.hive ≡ hive → begin.number ≡ held.number → begin.tree ≡ held.tree → (store : Store) → IsStore store → hive < all_hives store → (fault faithful : Type 0) (bytes : List ℕ) → (faithful → IsOnlyStore bytes store) → (why : Refusal)
-    → ScanFails (Replays begin after) (NotReplayed after) (λ changes. faithful → JournalBegins bytes changes) fault (faithful → IsNoJournal bytes) why
+    → ScanFails (ReplaysOnHive begin after) (NotReplayedOnHive after) (λ changes. faithful → JournalBegins bytes changes) fault (faithful → IsNoJournal bytes) why
     → RefusalHasCause fault (λ damage. (damage ≡ refusal.JournalDamaged) × (faithful → (files : ℕ → List ℕ) → HoldsBeside files store hive bytes held → HiveIsWrong files hive refusal.JournalDamaged)) why
 scan_refused begin after hive held hive_is number_is tree_is store is there fault faithful bytes only why fails = by_reason fails.reason
   where
-    by_denial : (d : DeniesNext (NotReplayed after) (λ changes. faithful → JournalBegins bytes changes) fails.taken why) → NotReplayed after d.change why → RefusalHasCause fault (λ damage. (damage ≡ refusal.JournalDamaged) × (faithful → (files : ℕ → List ℕ) → HoldsBeside files store hive bytes held → HiveIsWrong files hive refusal.JournalDamaged)) why
+    by_denial : (d : DeniesNext (NotReplayedOnHive after) (λ changes. faithful → JournalBegins bytes changes) fails.taken why) → NotReplayedOnHive after d.change why → RefusalHasCause fault (λ damage. (damage ≡ refusal.JournalDamaged) × (faithful → (files : ℕ → List ℕ) → HoldsBeside files store hive bytes held → HiveIsWrong files hive refusal.JournalDamaged)) why
     by_denial d (inl hungry) = inl hungry
     by_denial d (inr (damaged, none)) = inr (inr (
       damaged,
       λ f files beside. illegal_next begin after hive held hive_is number_is tree_is store files bytes beside is there (only f) fails.taken fails.took d.change (d.begins f) none,
     ))
 
-    by_reason : journals.FailsBy fault (faithful → IsNoJournal bytes) why ⊎ DeniesNext (NotReplayed after) (λ changes. faithful → JournalBegins bytes changes) fails.taken why → RefusalHasCause fault (λ damage. (damage ≡ refusal.JournalDamaged) × (faithful → (files : ℕ → List ℕ) → HoldsBeside files store hive bytes held → HiveIsWrong files hive refusal.JournalDamaged)) why
+    by_reason : journals.FailsBy fault (faithful → IsNoJournal bytes) why ⊎ DeniesNext (NotReplayedOnHive after) (λ changes. faithful → JournalBegins bytes changes) fails.taken why → RefusalHasCause fault (λ damage. (damage ≡ refusal.JournalDamaged) × (faithful → (files : ℕ → List ℕ) → HoldsBeside files store hive bytes held → HiveIsWrong files hive refusal.JournalDamaged)) why
     by_reason (inl (inl hungry)) = inl hungry
     by_reason (inl (inr (inl failed))) = inr (inl failed)
     by_reason (inl (inr (inr (damaged, none)))) = inr (inr (damaged, λ f files beside. inl (subst IsNoJournal (sym beside.same) (none f))))

@@ -6,13 +6,13 @@ use Rattle.change_codec.specs.ModelChanges.{TimedOp, tree_rules}
 use Rattle.commit_journal.specs.Numbered.{NumberedChange}
 use Rattle.recovery.specs.Replays.{ops_lacked}
 use Rattle.recovery.specs.ReplayLaws.{lacked_append}
-use Rattle.store_hive.specs.Replays.{Replays}
+use Rattle.store_hive.specs.Replays.{ReplaysOnHive}
 use Rattle.store_hive.specs.declared.hive_replay.HiveReplay.{HiveReplay}
 
-pub replays_none : (hive : HiveReplay) → Replays hive hive []
+pub replays_none : (hive : HiveReplay) → ReplaysOnHive hive hive []
 replays_none hive = record { hive = refl; number = refl; tree = refl }
 
-pub replays_more : (before between after : HiveReplay) (front rest : List NumberedChange) → Replays before between front → Replays between after rest → Replays before after (front ++ rest)
+pub replays_more : (before between after : HiveReplay) (front rest : List NumberedChange) → ReplaysOnHive before between front → ReplaysOnHive between after rest → ReplaysOnHive before after (front ++ rest)
 replays_more before between after front rest one two =
     let h = before.hive in
     let k = before.number in

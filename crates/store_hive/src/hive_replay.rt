@@ -38,12 +38,12 @@ impl HiveReplay {
 }
 
 impl ElementSink for HiveReplay {
-    ghost use Rattle.store_hive.specs.Replays.{NotReplayed, Replays};
+    ghost use Rattle.store_hive.specs.Replays.{NotReplayedOnHive, ReplaysOnHive};
     ghost use Rattle.store_hive.specs.ReplayLaws.{replays_more, replays_none};
 
-    ghost Took = { λ before after changes. Replays before after changes };
+    ghost Took = { λ before after changes. ReplaysOnHive before after changes };
 
-    ghost Denies = { λ hive change why. NotReplayed hive change why };
+    ghost Denies = { λ hive change why. NotReplayedOnHive hive change why };
 
     /// Replays a change. `JournalDamaged` if the hive lacks it and it isn't legal on its tree.
     fn take(&mut self, number: u64, change: EncodedChange) -> Result<(), Refusal> {
