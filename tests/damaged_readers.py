@@ -5,7 +5,7 @@
 
 Each program of others is skipped, by name, if it isn't installed. A small hive of runs/hives/maker.py is spoiled in several ways. Each
 key and value that another program reads is asked for by `ls`, `export-json` and `get-raw`. Either it is told as the tree has it, or
-the cause is told that the spoiled bytes have: never that it isn't there, and never anything else. The last line is 'N passed, N
+the cause is told that the spoiled bytes have: never that it isn't there, and never anything else. `salvage` finds each of them. The last line is 'N passed, N
 failed', and the status is 0 if none failed. How much each program reads is printed too.
 """
 import json
@@ -160,18 +160,50 @@ def in_order(key, path=()):
         yield from in_order(subkey, (*path, subkey.name))
 
 
+def salvaged(program, path):
+    """The keys that `salvage` finds, and the data of the values by path and name."""
+    ended = subprocess.run([program.path, "salvage-json", path], cwd=program.home, stdin=subprocess.DEVNULL, capture_output=True, timeout=SECONDS)
+    keys, values = [], {}
+    for line in map(json.loads, ended.stdout.splitlines() if ended.returncode != 1 else []):
+        if "name" in line:
+            values[keys[-1], line["name"]] = bytes.fromhex(line["data"])
+        else:
+            keys.append(tuple(name for name in line["key"].split("\\") if name))
+    return set(keys), values
+
+
+def named(path, data):
+    """The names of the values of a key of the tree that have these data."""
+    return [value.name for value in dict(all_keys(tree()))[path].values if value.data == data] if path in dict(all_keys(tree())) else []
+
+
+def unsalvaged(keys, values, found_keys, found_values):
+    """What is wrong with what `salvage` finds: a key or a value of the tree is missing that somebody else reads as the tree has it."""
+    model = dict(all_keys(tree()))
+    for key in sorted(keys & set(model)):
+        yield None if key in found_keys else f"not salvaged: {key}"
+    for path, its in model.items():
+        for value in its.values:
+            if values.get((path, value.name)) == value.data:
+                yield expect(f"salvaged value {value.name} of {path}", found_values.get((path, value.name)), value.data)
+
+
 def compared(program, title, file, cause):
     """All that others read of one file."""
-    path, keys, values, counts = program.put("spoiled.hive", file), set(), set(), []
+    path, keys, values, counts, right = program.put("spoiled.hive", file), set(), set(), [], {}
     for name, reader in READERS.items():
         if shutil.which(name):
             its_keys, its_values = reader(program.at(path))
             counts.append(f"{name} {len(its_keys)} keys and {len(its_values)} values")
             keys, values = keys | its_keys, values | set(its_values)
+            right.update((place, data) for place, data in its_values.items() if place[1] in named(place[0], data))
+    found_keys, found_values = salvaged(program, path)
+    counts.append(f"salvage {len(found_keys)} keys and {len(found_values)} values")
     reads = Reads(program, path, cause)
     results = [reads.wrong_key(key) for key in sorted(keys)] + [reads.wrong_value(*value) for value in sorted(values)]
     # what nobody reads is told with its cause, or as it is
     results += [reads.wrong_key(key) for key in sorted(set(reads.model) - keys)]
+    results += unsalvaged(keys, right, found_keys, found_values)
     print(f"{title}: {', '.join(counts)}; of these and others here {reads.counts[0]} keys and {reads.counts[1]} values")
     return [result and f"{title}: {result}" for result in results]
 
