@@ -386,7 +386,7 @@ class Hive:
             return self._library.hive_new(self._at)
         if logs is None:
             return self._library.hive_open(content, len(content), self._at)
-        given = (_Log * max(len(logs), 1))(*[(log, len(log)) for log in logs])
+        given = (_Log * max(len(logs), 1))(*[_Log(log, len(log)) for log in logs])
         return self._library.hive_recover(content, len(content), given, len(logs), self._at)
 
     @classmethod
