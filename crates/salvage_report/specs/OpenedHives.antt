@@ -1,5 +1,5 @@
 -- What of a file is taken as a damaged hive.
-use Rattle.std.specs.Prelude.{◌≡◌, ◌≢◌, ◌≤◌, ◌<◌, ◌-◌, ◌==◌, ◌⊎◌, ℕ, List, take, drop, length, true, Ok, Err}
+use Rattle.std.specs.Prelude.{◌≡◌, ◌≢◌, ◌≤◌, ◌<◌, ◌-◌, ◌==◌, ◌&&◌, ◌⊎◌, ℕ, Bool, List, take, drop, length, true, Ok, Err}
 use Rattle.refusals.specs.declared.refusal.Cause.TheVariants as cause
 use Rattle.refusals.specs.declared.refusal.Refusal.{Refusal}
 use Rattle.refusals.specs.declared.refusal.Refusal.TheVariants as refusals
@@ -39,6 +39,10 @@ pub record IsStateOf (file : List ℕ) (size : ℕ) (state : HiveState) : Type 0
   pub clean : state.is_clean ≡ ((head_of file).primary.0 == (head_of file).secondary.0)
   pub there : state.bins_bytes ≡ length (whole_pages (bins_in file size))
   pub missing : state.missing_bytes ≡ size - length (whole_pages (bins_in file size))
+
+-- nothing is to be told of the file
+abbrev pub state_is_whole : HiveState → Bool
+state_is_whole state = state.sum_is_right && (state.is_clean && (state.missing_bytes == 0))
 
 -- A hive is opened on a file: the file begins with `regf`, the bins data that it has are mended, and the root and the
 -- version are those of the base block. The root's node is read.

@@ -1,10 +1,10 @@
 //! A hive's file that may be damaged.
-ghost use Rattle.std.specs.Prelude.{◌≡◌, ◌≤◌, ◌⊎◌, ℕ, List, length, true, Ok, Err, IfOk, IfErr, IfSome, MatchResult};
+ghost use Rattle.std.specs.Prelude.{◌≡◌, ◌≢◌, ◌≤◌, ◌⊎◌, ℕ, List, [], length, true, false, Ok, Err, IfOk, IfErr, IfSome, MatchResult};
 ghost use Rattle.refusals.specs.declared.refusal.Refusal.TheVariants.{TooLarge, Unsupported};
 ghost use Rattle.hive_cells.specs.Bins.{Cells, Shows};
 ghost use Rattle.hive_lookup.specs.Records.{record_at};
 ghost use Rattle.hive_lookup.specs.declared.list_kind.ListKind.TheVariants.{Subkeys};
-ghost use Rattle.salvage_report.specs.OpenedHives.{IsDecided, IsOpenedOn, IsStateOf, IsUnusable, IsWanted, OpenRefused, bins_in, head_of};
+ghost use Rattle.salvage_report.specs.OpenedHives.{IsDecided, IsOpenedOn, IsStateOf, IsUnusable, IsWanted, OpenRefused, bins_in, head_of, state_is_whole};
 
 use base_block::{BaseBlock, Signature};
 use hive_cells::Image;
@@ -38,8 +38,10 @@ pub struct HiveState {
 
 impl HiveState {
     /// Whether there is nothing to be told.
-    pub fn is_whole(&self) -> bool {
-        self.sum_is_right && self.is_clean && self.missing_bytes == 0
+    pub fn is_whole(&self) -> bool
+        ensures { result ≡ state_is_whole self.now }
+    {
+        self.sum_is_right && (self.is_clean && self.missing_bytes == 0)
     }
 }
 
@@ -94,7 +96,11 @@ impl DamagedHive {
     }
 
     /// Whether neither the file nor a gap is to be told.
-    pub fn is_whole(&self) -> bool {
+    pub fn is_whole(&self) -> bool
+        ensures state { result ≡ true → state_is_whole self.now.state ≡ true }
+        ensures gaps { result ≡ true → self.now.gaps.items ≡ [] }
+        ensures damaged { result ≡ false → (state_is_whole self.now.state ≡ false) ⊎ (self.now.gaps.items ≢ []) }
+    {
         self.state.is_whole() && self.gaps.is_empty()
     }
 
